@@ -1,0 +1,56 @@
+//! The limits within which every text, network and certificate lies, each in one place.
+#![tactic(auto)]
+
+/// The most bytes of a network text: 64 MiB.
+pub const MAX_NET_BYTES: usize = 64 << 20;
+
+/// The most bytes of a certificate or routing text: 1 GiB.
+pub const MAX_CERT_BYTES: usize = 1 << 30;
+
+/// The most bytes of a script: 1 MiB.
+pub const MAX_SCRIPT_BYTES: usize = 1 << 20;
+
+/// The most bytes of a word.
+pub const MAX_WORD_BYTES: usize = 255;
+
+/// The most nodes of a network.
+pub const MAX_NODES: u16 = 512;
+
+/// The most links of a network.
+pub const MAX_LINKS: u16 = 4096;
+
+/// The most cells of a network.
+pub const MAX_CELLS: u16 = 4096;
+
+/// The most demands of a network, and so the most commodities.
+pub const MAX_DEMANDS: u32 = 32_768;
+
+/// The greatest number that is read, and the greatest capacity and amount in units: 2^44.
+pub const MAX_UNITS: u64 = 1 << 44;
+
+/// The greatest sum of all amounts in units: 2^46.
+pub const MAX_TOTAL: u64 = 1 << 46;
+
+/// The most decimals of a network's unit.
+pub const MAX_DECIMALS: u8 = 6;
+
+/// The most phases of a run.
+pub const MAX_PHASES: u32 = 65_536;
+
+/// The most commodities times phases of a run.
+pub const MAX_WORK: u64 = 2_097_152;
+
+/// The most workers of a run.
+pub const MAX_WORKERS: u16 = 16;
+
+/// The greatest gap, in millionths.
+pub const MAX_GAP: u64 = 1_000_000_000;
+
+/// The greatest step.
+pub const MAX_STEP: u32 = 1 << 20;
+
+/// The greatest length, potential, path weight and load: 2^62. As a length or potential it stands for infinity.
+pub const MAX_LENGTH: u64 = 1 << 62;
+
+/// The most cells of a path.
+pub const MAX_PATH_CELLS: usize = 511;
