@@ -1,5 +1,5 @@
 -- What a search leaves for the paths.
-use Rattle.std.proofs.Common.{◌≡◌, ◌≢◌, ◌⊎◌, inl, inr, ℕ, zero, suc, ◌+◌, ◌^◌, ◌<◌, ◌≤◌, List, [], ◌∷◌, ◌++◌, Option, Some, None, length, map, get_or, cond, refl, sym, ap, subst, ◌∙◌, arith, ltb, length-append}
+use Rattle.std.proofs.Common.{◌≡◌, inl, inr, ℕ, zero, suc, ◌+◌, ◌<◌, ◌≤◌, List, [], ◌∷◌, ◌++◌, Some, None, length, map, get_or, refl, sym, ap, subst, ◌∙◌, arith, length-append}
 use Rattle.std.proofs.lemmas.Bool.{cases_eq, cases_lt, lt-ltb, le-ltb}
 use Rattle.std.proofs.lemmas.List.Elements.{Contains-get_or}
 use Rattle.std.proofs.Math.ListN.{get_or-append}
@@ -13,7 +13,7 @@ use Rattle.flow_model.specs.Least.{AreDifferent}
 use Rattle.dijkstra_paths.proofs.Least.{IsFound, rank, rank-few, rank-step, step-exact}
 use Rattle.dijkstra_paths.proofs.Trail.{trail-first, trail-next, trail-walk, trail-fresh}
 use Rattle.dijkstra_paths.proofs.Traced.{paths-at}
-use Rattle.dijkstra_paths.proofs.Seen.{known-near, known-far, known-at}
+use Rattle.dijkstra_paths.proofs.Seen.{known-at}
 use Rattle.mcf_limits.specs.declared.TheConstants.{MAX_LENGTH}
 
 -- the steps lead back to the first node

@@ -1,12 +1,9 @@
 -- What the view of a scratch says after a search.
-use Rattle.std.proofs.Common.{◌≡◌, ◌⊎◌, inl, inr, ℕ, zero, suc, [], ◌∷◌, ◌+◌, ◌^◌, ◌<◌, ◌≤◌, List, Option, Some, None, length, map, get_or, refl, sym, ap, subst, ◌∙◌, arith}
-use Rattle.std.specs.Prelude.{MatchOption, IfSome, IsSomeAnd}
+use Rattle.std.proofs.Common.{◌≡◌, inl, inr, ℕ, zero, suc, [], ◌∷◌, ◌<◌, ◌≤◌, List, Option, Some, None, length, map, get_or, refl, arith}
 use Rattle.std.proofs.lemmas.Bool.{cases_lt, lt-ltb, le-ltb}
 use Rattle.flow_model.specs.Network.{Network}
-use Rattle.flow_model.specs.Walk.{PassesOver, PositiveWalk}
-use Rattle.flow_model.specs.Bound.{walk_length}
 use Rattle.dijkstra_paths.specs.declared.search.Step.{Step}
-use Rattle.dijkstra_paths.specs.Searched.{Searched, known, dist_at, IsNear}
+use Rattle.dijkstra_paths.specs.Searched.{known, IsNear}
 use Rattle.flow_model.specs.Least.{IsLeast}
 use Rattle.dijkstra_paths.proofs.Least.{IsFound, walk-bound, walk-by, walk-reaches, way-reaches}
 use Rattle.dijkstra_paths.proofs.Relaxed.{pass-inside}

@@ -1,5 +1,5 @@
 -- A scratch as contracts see it.
-use Rattle.std.specs.Prelude.{◌≡◌, ◌≢◌, ◌⊎◌, ℕ, zero, suc, [], ◌∷◌, ◌++◌, ◌==◌, ◌^◌, ◌<◌, ◌≤◌, List, Option, Some, None, length, map, nat_lt, if◌then◌else◌, slice_index, slice_index_or, ◌+◌, MatchOption, IfSome, IsSomeAnd}
+use Rattle.std.specs.Prelude.{◌≡◌, ◌≢◌, ◌⊎◌, ℕ, zero, suc, [], ◌∷◌, ◌++◌, ◌==◌, ◌<◌, ◌≤◌, List, Option, Some, None, length, nat_lt, if◌then◌else◌, slice_index, slice_index_or, ◌+◌, MatchOption, IfSome, IsSomeAnd}
 use Rattle.flow_model.specs.declared.net.Cell.{Cell}
 use Rattle.flow_model.specs.Walk.{PassesOver, PositiveWalk}
 use Rattle.flow_model.specs.Bound.{walk_length}

@@ -1,14 +1,13 @@
 -- The two passes over the cells, step by step.
-use Rattle.std.proofs.Common.{◌≡◌, ◌⊎◌, inl, inr, ℕ, zero, suc, ◌+◌, ◌-◌, ◌*◌, ◌/◌, ◌^◌, ◌<◌, ◌≤◌, List, [], ◌∷◌, Bool, true, false, cond, length, get_or, drop, min, max, refl, arith, ap, sym, subst, add-one, eqb, drop-cons, set, ◌≢◌, ◌∙◌, below_more, get_or-set_other, get_or-set_same}
+use Rattle.std.proofs.Common.{◌≡◌, inl, inr, ℕ, zero, suc, ◌+◌, ◌-◌, ◌*◌, ◌/◌, ◌^◌, ◌<◌, ◌≤◌, List, [], ◌∷◌, length, get_or, drop, min, max, refl, arith, ap, sym, subst, add-one, drop-cons, set, ◌≢◌, ◌∙◌, below_more, get_or-set_other, get_or-set_same}
 use Rattle.std.proofs.Math.ListN.{drop_of_length-le}
 use Rattle.std.proofs.Math.Nat.{le-max_left, le-max_right, le_trans, mul_comm, mul-le-mul_left, div-le_of_le-mul}
-use Rattle.std.specs.Prelude.{All, ◌==◌, slice_get, Some}
+use Rattle.std.specs.Prelude.{slice_get, Some}
 use Rattle.std.proofs.lemmas.List.{ext_get_or}
 use Rattle.std.proofs.lemmas.Bool.{eq-eqb, ne_eqb, cases_eq}
-use Rattle.std.proofs.lemmas.Bool.Decides.{nat_tests}
 use Rattle.std.proofs.lemmas.Option.{slice_get_within, get_or_from_slice_get}
 use Rattle.flow_model.specs.Powers.{weight_of}
-use Rattle.fixed_exp.proofs.Table.{weight_small}
+use Rattle.fixed_exp.proofs.PowerTable.{weight_small}
 use Rattle.flow_model.specs.declared.net.Cell.{Cell}
 use Rattle.flow_model.specs.declared.setting.Setting.{Setting}
 use Rattle.flow_model.specs.Lengths.{AreLengths, exponent, greatest_exponent, least_capacity, length_at, lengths_at}

@@ -1,4 +1,4 @@
-use Rattle.std.proofs.Common.{◌≡◌, ◌<◌, ◌^◌, ℕ, get_or}
+use Rattle.std.proofs.Common.{◌≡◌, ◌<◌, ℕ, get_or}
 use Rattle.dijkstra_paths.proofs.search.clear.Given as goal
 use Rattle.mcf_limits.specs.declared.TheConstants.{MAX_LENGTH}
 

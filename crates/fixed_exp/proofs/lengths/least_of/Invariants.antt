@@ -1,4 +1,4 @@
-use Rattle.std.proofs.Common.{◌≡◌, ◌≤◌, ◌^◌, drop, min}
+use Rattle.std.proofs.Common.{◌≡◌, ◌≤◌, drop, min}
 use Rattle.flow_model.specs.Lengths.{least_capacity}
 use Rattle.fixed_exp.proofs.lengths.least_of.Given as goal
 use Rattle.mcf_limits.specs.declared.TheConstants.{MAX_UNITS}
