@@ -3,20 +3,26 @@
 ghost use Rattle.std.specs.Prelude.{◌≡◌, ℕ, ◌≤◌, length, slice_index, All, IfOk};
 ghost use Rattle.flow_model.specs.Lengths.{AreLengths, IsSetting, lengths_of};
 
+use crate::follow::follow_exponents;
+use crate::lengths::{exponents_of, least_of};
 use crate::powers::Powers;
+use crate::scale::Scale;
 use flow_model::{Net, Setting};
 use mcf_limits::MAX_LENGTH;
 use std::alloc::{AllocError, Global};
 use std::marker::Model;
 use std::snapshot::Snapshot;
 
-/// The length of each cell of one network, kept from one vector of loads to the next. It is seen as the network,
-/// the setting and the loads.
+/// The length of each cell of one network, kept from one vector of loads to the next: what did not change is not
+/// computed again. It is seen as the network, the setting and the loads.
 #[derive(Drop)]
 pub struct LengthTable {
     net: Snapshot<Net>,
-    setting: Setting,
+    scale: Scale,
+    least: u64,
+    top: u128,
     loads: Vec<u64>,
+    exponents: Vec<u64>,
     lengths: Vec<u64>,
 }
 
@@ -25,9 +31,9 @@ impl Model for LengthTable {
 
     ghost Value = { LoadedNetwork };
 
-    ghost view = { λ t. record { net = t.net.value; setting = t.setting; loads = t.loads.items } };
+    ghost view = { λ t. record { net = t.net.value; setting = t.scale.setting; loads = t.loads.items } };
 
-    ghost invariant = { λ t. IsLengthTable t.net.value t.setting t.loads.items t.lengths.items };
+    ghost invariant = { λ t. IsLengthTable t.net.value t.scale.setting t.loads.items t.exponents.items t.lengths.items t.top t.least };
 }
 
 impl LengthTable {
@@ -43,14 +49,20 @@ impl LengthTable {
         requires { IsSetting setting.now }
         ensures { IfOk result (λ t. t ≡ record { net = net.now; setting = setting.now; loads = replicate (length net.now.cells) 0 }) }
     {
-        let count = net.cells().len();
-        let loads = vec![in alloc; 0; count]?;
-        let mut lengths = vec![in alloc; 0; count]?;
+        let cells = net.cells();
+        let loads = vec![in alloc; 0; cells.len()]?;
+        let mut exponents = vec![in alloc; 0; cells.len()]?;
+        let mut lengths = vec![in alloc; 0; cells.len()]?;
+        let scale = Scale::new(setting);
+        let top = exponents_of(&scale, cells, &loads, &mut exponents);
         powers.lengths(net, setting, &loads, &mut lengths);
         Ok(LengthTable {
             net: Snapshot::of(net),
-            setting: *setting,
+            scale,
+            least: least_of(cells),
+            top,
             loads,
+            exponents,
             lengths,
         })
     }
@@ -63,11 +75,13 @@ impl LengthTable {
         ensures setting { self.new.setting ≡ setting.now }
         ensures loads { self.new.loads ≡ self.old.loads }
     {
-        self.setting = *setting;
+        self.scale = Scale::new(setting);
+        self.top = exponents_of(&self.scale, net.cells(), &self.loads, &mut self.exponents);
         powers.lengths(net, setting, &self.loads, &mut self.lengths);
     }
 
-    /// Takes other loads, one for each cell. It takes no memory.
+    /// Takes other loads, one for each cell. It takes no memory, and its time goes by the number of loads that changed,
+    /// where the greatest exponent stays.
     pub fn update(&mut self, powers: &Powers, net: &Net, loads: &[u64])
         requires net { net.now ≡ self.old.net }
         requires loads { length loads.now ≡ length net.now.cells }
@@ -76,8 +90,21 @@ impl LengthTable {
         ensures setting { self.new.setting ≡ self.old.setting }
         ensures loads { self.new.loads ≡ loads.now }
     {
+        let cells = net.cells();
+        let top = follow_exponents(&self.scale, cells, &self.loads, loads, &mut self.exponents);
+        powers.follow_lengths(
+            &self.scale,
+            top,
+            top == self.top,
+            self.least,
+            cells,
+            &self.loads,
+            loads,
+            &self.exponents,
+            &mut self.lengths,
+        );
+        self.top = top;
         self.loads.as_mut_slice().copy_from_slice(loads);
-        powers.lengths(net, &self.setting, loads, &mut self.lengths);
     }
 
     /// The length of each cell under the loads: at least 1 and at most 2^52, and 2^62 for a cell without capacity.

@@ -11,7 +11,7 @@ use flow_model::{Cell, Net, Setting};
 use mcf_limits::{MAX_LENGTH, MAX_UNITS};
 
 /// The least positive capacity, or 2^44 where there is none.
-fn least_of(cells: &[Cell]) -> u64
+pub fn least_of(cells: &[Cell]) -> u64
     ensures value { result ≡ least_capacity cells.now }
 {
     let mut least = MAX_UNITS;
@@ -24,7 +24,7 @@ fn least_of(cells: &[Cell]) -> u64
 }
 
 /// Puts each cell's exponent in its place, as far as it fits, and gives the greatest.
-fn exponents(scale: &Scale, cells: &[Cell], loads: &[u64], into: &mut [u64]) -> u128
+pub fn exponents_of(scale: &Scale, cells: &[Cell], loads: &[u64], into: &mut [u64]) -> u128
     requires caps { All (λ cell. cell.cap ≤ MAX_UNITS) cells.now }
     requires loads { length loads.now ≡ length cells.now }
     requires small { All (λ x. x ≤ MAX_LENGTH) loads.now }
@@ -61,7 +61,7 @@ impl Powers {
 
     /// The length of a cell whose exponent was kept as far as it fits.
     #[inline(always)]
-    fn cell_length(
+    pub fn cell_length(
         &self,
         scale: &Scale,
         top: u128,
@@ -115,7 +115,7 @@ impl Powers {
     {
         let cells = net.cells();
         let scale = Scale::new(setting);
-        let top = exponents(&scale, cells, loads, into);
+        let top = exponents_of(&scale, cells, loads, into);
         self.put_lengths(&scale, top, cells, loads, into);
     }
 }
