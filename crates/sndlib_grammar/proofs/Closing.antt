@@ -1,12 +1,12 @@
 -- Each state of reading has a way to the end.
-use Rattle.std.proofs.Common.{◌≡◌, ℕ, zero, suc, List, [], ◌∷◌, ◌++◌, refl, Option, Some, None}
+use Rattle.std.proofs.Common.{◌≡◌, ℕ, zero, suc, List, [], ◌∷◌, refl, Some}
 use Rattle.std.specs.Prelude.{codes}
 use Rattle.sndlib_grammar.specs.declared.mode.Part.{Part}
 use Rattle.sndlib_grammar.specs.declared.mode.Part.TheVariants as parts
 use Rattle.sndlib_grammar.specs.declared.mode.Mode.{Mode}
 use Rattle.sndlib_grammar.specs.declared.mode.Mode.TheVariants.{Between, OpeningNodes, OpeningLinks, OpeningDemands, Naming, Skipping, Nodes, Node, Place, Links, LinkEnds, LinkSource, LinkTarget, LinkEndsClose, Installed, InstalledCost, RoutingCost, SetupCost, Modules, Capacity, CapacityCost, Demands, DemandEnds, DemandSource, DemandTarget, DemandEndsClose, Unit as Units, Value, Longest}
-use Rattle.sndlib_grammar.specs.Grammar.{Symbol, Left, Right, Name, Word, Entries}
-use Rattle.sndlib_grammar.specs.Reading.{Sofar, walk, read, no_word, kept, mode_after}
+use Rattle.sndlib_grammar.specs.Grammar.{Symbol, Left, Right, Name, Entries}
+use Rattle.sndlib_grammar.specs.Reading.{Sofar, read, no_word, kept}
 
 abbrev word : List ℕ → Symbol
 word text = Name (record { text = text; line = 0 })

@@ -1,12 +1,12 @@
 -- What symbols that lead from a state to the end of a text are.
-use Rattle.std.proofs.Common.{◌≡◌, ℕ, zero, suc, ◌+◌, List, [], ◌∷◌, ◌++◌, length, Option, Some, None}
+use Rattle.std.proofs.Common.{◌≡◌, ℕ, zero, suc, ◌+◌, List, [], ◌∷◌, ◌++◌, length, Option, Some}
 use Rattle.std.specs.Prelude.{codes}
 use Rattle.std.specs.List.{flat_map, AllByRecursion}
 use Rattle.sndlib_grammar.specs.declared.mode.Part.{Part}
 use Rattle.sndlib_grammar.specs.declared.mode.Part.TheVariants as parts
 use Rattle.sndlib_grammar.specs.declared.mode.Mode.{Mode}
-use Rattle.sndlib_grammar.specs.declared.mode.Mode.TheVariants.{Between, OpeningNodes, OpeningLinks, OpeningDemands, Naming, Skipping, Nodes, Node, Place, Links, LinkEnds, LinkSource, LinkTarget, LinkEndsClose, Installed, InstalledCost, RoutingCost, SetupCost, Modules, Capacity, CapacityCost, Demands, DemandEnds, DemandSource, DemandTarget, DemandEndsClose, Unit as Units, Value, Longest}
-use Rattle.sndlib_grammar.specs.Grammar.{Symbol, Left, Right, Name, Word, NodeEntry, LinkEntry, DemandEntry, Entries, names, place, node, link, demand, Items, items, Skip, skip, IsSkip, ArePairs, IsLink}
+use Rattle.sndlib_grammar.specs.declared.mode.Mode.TheVariants.{Between, OpeningNodes, OpeningLinks, OpeningDemands, Naming, Skipping, Nodes, Node, Place, Links, Capacity, Demands}
+use Rattle.sndlib_grammar.specs.Grammar.{Symbol, Left, Right, Name, Word, NodeEntry, LinkEntry, DemandEntry, Entries, names, place, node, link, demand, Items, items, Skip, skip, IsSkip, Module, pair}
 use Rattle.sndlib_grammar.specs.Reading.{Sofar, Draft, with_node, with_link, with_skip, link_of}
 
 abbrev pub with_skips : Entries → ℕ → Entries
@@ -56,7 +56,6 @@ FromDemands found r ts = AfterSkips r ts (λ r ts. Opens (codes "DEMANDS") r ts 
 pub record InLinks (found r : Entries) (ts : List Symbol) : Type 0 where
   pub links : List LinkEntry
   pub rest : List Symbol
-  pub fit : AllByRecursion IsLink links
   pub text : ts ≡ flat_map link links ++ Right ∷ rest
   pub then : FromDemands found (with_links r links) rest
 
@@ -108,13 +107,12 @@ pub record InPlace (found r : Entries) (id : Word) (before : List Word) (ts : Li
   pub text : ts ≡ names words ++ Right ∷ rest
   pub then : InNodes found (with_node r (record { id = id; place = Some (before ++ words) })) rest
 
--- words up to the end of the modules
-pub record InModules (found r : Entries) (draft : Draft) (before : List Word) (ts : List Symbol) : Type 0 where
-  pub words : List Word
+-- capacities and costs up to the end of the modules
+pub record InModules (found r : Entries) (draft : Draft) (before : List Module) (ts : List Symbol) : Type 0 where
+  pub modules : List Module
   pub rest : List Symbol
-  pub pairs : ArePairs words
-  pub text : ts ≡ names words ++ Right ∷ rest
-  pub then : InLinks found (with_link r (link_of draft (before ++ words))) rest
+  pub text : ts ≡ flat_map pair modules ++ Right ∷ rest
+  pub then : InLinks found (with_link r (link_of draft (before ++ modules))) rest
 
 -- for the states where entries and sections begin and end
 abbrev pub Meaning : Mode → Sofar → Entries → List Symbol → Type 0
@@ -128,6 +126,6 @@ Meaning Nodes s found ts = InNodes found s.entries ts
 Meaning Node s found ts = InNode found s.entries s.draft.id ts
 Meaning Place s found ts = InPlace found s.entries s.draft.id s.words ts
 Meaning Links s found ts = InLinks found s.entries ts
-Meaning Capacity s found ts = InModules found s.entries s.draft s.words ts
+Meaning Capacity s found ts = InModules found s.entries s.draft s.modules ts
 Meaning Demands s found ts = InDemands found s.entries ts
 Meaning _ s found ts = Unit {0}

@@ -1,16 +1,16 @@
 -- Symbols that lead from a state to the end are what the grammar says.
-use Rattle.std.proofs.Common.{◌≡◌, ℕ, zero, suc, ◌+◌, List, [], ◌∷◌, ◌++◌, length, refl, ap, sym, subst, ◌∙◌, arith, append_assoc, append-nil, Option, Some, None}
+use Rattle.std.proofs.Common.{◌≡◌, ℕ, zero, suc, ◌+◌, List, [], ◌∷◌, ◌++◌, length, refl, ap, sym, subst, ◌∙◌, arith, append_assoc, append-nil, Some, None}
 use Rattle.std.specs.Prelude.{codes, option_and_then}
 use Rattle.std.specs.List.{flat_map}
 use Rattle.sndlib_grammar.specs.declared.mode.Part.{Part}
 use Rattle.sndlib_grammar.specs.declared.mode.Part.TheVariants as parts
 use Rattle.sndlib_grammar.specs.declared.mode.Mode.{Mode}
-use Rattle.sndlib_grammar.specs.declared.mode.Mode.TheVariants.{Between, OpeningNodes, OpeningLinks, OpeningDemands, Naming, Skipping, Nodes, Node, Place, Links, LinkEnds, LinkSource, LinkTarget, LinkEndsClose, Installed, InstalledCost, RoutingCost, SetupCost, Modules, Capacity, CapacityCost, Demands, DemandEnds, DemandSource, DemandTarget, DemandEndsClose, Unit as Units, Value, Longest}
-use Rattle.sndlib_grammar.specs.Grammar.{Symbol, Left, Right, Name, Word, NodeEntry, LinkEntry, DemandEntry, Entries, names, place, node, link, demand, Items, Nothing, AWord, AGroup, items, Skip, skip, IsSkip, IsLink}
+use Rattle.sndlib_grammar.specs.declared.mode.Mode.TheVariants.{Between, OpeningNodes, OpeningLinks, OpeningDemands, Naming, Skipping, Nodes, Node, Place, Links, Capacity, Demands}
+use Rattle.sndlib_grammar.specs.Grammar.{Symbol, Left, Right, Name, Word, NodeEntry, LinkEntry, DemandEntry, Entries, names, node, link, demand, Nothing, AWord, AGroup, items, Skip, skip, Module, pair}
 use Rattle.sndlib_grammar.specs.Modes.{keyword_of, between}
 use Rattle.sndlib_grammar.specs.Reading.{Sofar, Draft, read, with_node, with_link, with_demand, with_skip, link_of, demand_of, kept}
 use Rattle.sndlib_grammar.proofs.Keywords.{IsKeyword, keyword_is}
-use Rattle.sndlib_grammar.proofs.Meaning.{with_skips, with_nodes, AfterSkips, Opens, Ends, From, InDemands, InLinks, InNodes, Closes, InGroups, OpensGroup, InNode, InPlace, InModules, Meaning}
+use Rattle.sndlib_grammar.proofs.Meaning.{AfterSkips, Opens, Ends, From, InDemands, InLinks, InNodes, Closes, InGroups, OpensGroup, InNode, Meaning}
 
 no_skips : (P : Entries → List Symbol → Type 0) (r : Entries) (ts : List Symbol) → P r ts → AfterSkips r ts P
 no_skips P r ts p =
@@ -74,13 +74,12 @@ one_node found r n ts rest e m =
       then = subst (λ ns. From parts.Links found (record r { nodes = ns }) m.rest) more m.then;
     }
 
-one_link : (found r : Entries) (n : LinkEntry) (ts rest : List Symbol) → ts ≡ link n ++ rest → IsLink n → InLinks found (with_link r n) rest → InLinks found r ts
-one_link found r n ts rest e is m =
+one_link : (found r : Entries) (n : LinkEntry) (ts rest : List Symbol) → ts ≡ link n ++ rest → InLinks found (with_link r n) rest → InLinks found r ts
+one_link found r n ts rest e m =
     let more : (r.links ++ n ∷ []) ++ m.links ≡ r.links ++ (n ∷ m.links) = append_assoc r.links (n ∷ []) m.links in
     record {
       links = n ∷ m.links;
       rest = m.rest;
-      fit = (is, m.fit);
       text = e ∙ ap (λ (l : List Symbol). link n ++ l) m.text ∙ sym (append_assoc (link n) (flat_map link m.links) (Right ∷ m.rest));
       then = subst (λ ns. From parts.Demands found (record r { links = ns }) m.rest) more m.then;
     }
@@ -103,7 +102,7 @@ no_node found r ts f =
 no_link : (found r : Entries) (ts : List Symbol) → From parts.Demands found r ts → InLinks found r (Right ∷ ts)
 no_link found r ts f =
     let none : r.links ≡ r.links ++ [] = sym (append-nil r.links) in
-    record { links = []; rest = ts; fit = tt; text = refl; then = subst (λ ns. From parts.Demands found (record r { links = ns }) ts) none f }
+    record { links = []; rest = ts; text = refl; then = subst (λ ns. From parts.Demands found (record r { links = ns }) ts) none f }
 
 no_demand : (found r : Entries) (ts : List Symbol) → From parts.Rest found r ts → InDemands found r (Right ∷ ts)
 no_demand found r ts f =
@@ -165,23 +164,23 @@ sound (Right ∷ ts) Place s found h =
 sound ts Place s found h = absurd cc
 sound (Name id ∷ Left ∷ Name source ∷ Name target ∷ Right ∷ Name a ∷ Name b ∷ Name c ∷ Name d ∷ Left ∷ ts) Links s found h =
     let draft : Draft = record s.draft { id = id; source = source; target = target; first = a; second = b; third = c; fourth = d } in
-    let m = sound ts Capacity (record { draft = draft; words = []; entries = s.entries }) found h in
-    one_link found s.entries (link_of draft m.words) (Name id ∷ Left ∷ Name source ∷ Name target ∷ Right ∷ Name a ∷ Name b ∷ Name c ∷ Name d ∷ Left ∷ ts) m.rest
-    (ap (λ (l : List Symbol). Name id ∷ Left ∷ Name source ∷ Name target ∷ Right ∷ Name a ∷ Name b ∷ Name c ∷ Name d ∷ Left ∷ l) (m.text ∙ sym (append_assoc (names m.words) (Right ∷ []) m.rest)))
-    m.pairs m.then
+    let m = sound ts Capacity (record { draft = draft; words = s.words; modules = []; entries = s.entries }) found h in
+    one_link found s.entries (link_of draft m.modules) (Name id ∷ Left ∷ Name source ∷ Name target ∷ Right ∷ Name a ∷ Name b ∷ Name c ∷ Name d ∷ Left ∷ ts) m.rest
+    (ap (λ (l : List Symbol). Name id ∷ Left ∷ Name source ∷ Name target ∷ Right ∷ Name a ∷ Name b ∷ Name c ∷ Name d ∷ Left ∷ l) (m.text ∙ sym (append_assoc (flat_map pair m.modules) (Right ∷ []) m.rest)))
+    m.then
 sound (Right ∷ ts) Links s found h = no_link found s.entries ts (sound ts (Between parts.Demands) s found h)
 sound ts Links s found h = absurd cc
 sound (Name a ∷ Name b ∷ ts) Capacity s found h =
-    let m = sound ts Capacity (record s { words = (s.words ++ a ∷ []) ++ b ∷ [] }) found h in
-    let regroup : ((s.words ++ a ∷ []) ++ b ∷ []) ++ m.words ≡ s.words ++ (a ∷ b ∷ m.words) = simp append_assoc in
-    record { words = a ∷ b ∷ m.words; rest = m.rest; pairs = m.pairs; text = ap (λ (l : List Symbol). Name a ∷ Name b ∷ l) m.text; then = subst (λ ws. InLinks found (with_link s.entries (link_of s.draft ws)) m.rest) regroup m.then }
+    let one : Module = record { capacity = a; cost = b } in
+    let m = sound ts Capacity (record s { draft = record s.draft { capacity = a }; modules = s.modules ++ one ∷ [] }) found h in
+    record { modules = one ∷ m.modules; rest = m.rest; text = ap (λ (l : List Symbol). Name a ∷ Name b ∷ l) m.text; then = subst (λ ms. InLinks found (with_link s.entries (link_of s.draft ms)) m.rest) (append_assoc s.modules (one ∷ []) m.modules) m.then }
 sound (Right ∷ ts) Capacity s found h =
-    record { words = []; rest = ts; pairs = tt; text = refl; then = subst (λ ws. InLinks found (with_link s.entries (link_of s.draft ws)) ts) (sym (append-nil s.words)) (sound ts Links (kept Capacity Right s) found h) }
+    record { modules = []; rest = ts; text = refl; then = subst (λ ms. InLinks found (with_link s.entries (link_of s.draft ms)) ts) (sym (append-nil s.modules)) (sound ts Links (kept Capacity Right s) found h) }
 sound ts Capacity s found h = absurd cc
 sound (Name id ∷ Left ∷ Name source ∷ Name target ∷ Right ∷ Name a ∷ Name b ∷ Name c ∷ ts) Demands s found h =
     let draft : Draft = record s.draft { id = id; source = source; target = target; first = a; second = b } in
     one_demand found s.entries (demand_of draft c) (Name id ∷ Left ∷ Name source ∷ Name target ∷ Right ∷ Name a ∷ Name b ∷ Name c ∷ ts) ts refl
-    (sound ts Demands (record { draft = draft; words = s.words; entries = with_demand s.entries (demand_of draft c) }) found h)
+    (sound ts Demands (record { draft = draft; words = s.words; modules = s.modules; entries = with_demand s.entries (demand_of draft c) }) found h)
 sound (Right ∷ ts) Demands s found h = no_demand found s.entries ts (sound ts (Between parts.Rest) s found h)
 sound ts Demands s found h = absurd cc
 sound ts m s found h = tt

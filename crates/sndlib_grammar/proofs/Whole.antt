@@ -1,14 +1,14 @@
 -- A whole text: read to its end exactly where it is of the grammar, with the entries of the grammar.
-use Rattle.std.proofs.Common.{◌≡◌, ℕ, zero, suc, ◌+◌, List, [], ◌∷◌, ◌++◌, length, refl, ap, sym, subst, ◌∙◌, arith, append_assoc, append-nil, Option, Some, None}
-use Rattle.std.specs.Prelude.{codes, option_and_then, map}
+use Rattle.std.proofs.Common.{◌≡◌, ℕ, suc, ◌+◌, List, [], ◌∷◌, ◌++◌, length, refl, ap, sym, ◌∙◌, arith, append_assoc, append-nil, Option, Some, None}
+use Rattle.std.specs.Prelude.{option_and_then}
 use Rattle.std.specs.List.{flat_map, AllByRecursion}
 use Rattle.sndlib_grammar.specs.declared.mode.Part.{Part}
 use Rattle.sndlib_grammar.specs.declared.mode.Part.TheVariants as parts
 use Rattle.sndlib_grammar.specs.declared.mode.Mode.{Mode}
-use Rattle.sndlib_grammar.specs.declared.mode.Mode.TheVariants.{Between, OpeningNodes, OpeningLinks, OpeningDemands, Naming, Skipping, Nodes, Node, Place, Links, LinkEnds, Capacity, Demands}
-use Rattle.sndlib_grammar.specs.Grammar.{Symbol, Left, Right, Name, Word, NodeEntry, LinkEntry, DemandEntry, Entries, names, place, node, link, demand, Items, Nothing, AWord, AGroup, items, Skip, skip, section, IsSkip, IsLink, ArePairs, File, spelled, entries, IsFile, IsNetwork, IsBegun}
+use Rattle.sndlib_grammar.specs.declared.mode.Mode.TheVariants.{Between, Skipping, Nodes, Node, Place, Links, Capacity, Demands}
+use Rattle.sndlib_grammar.specs.Grammar.{Symbol, Left, Right, Name, Word, NodeEntry, LinkEntry, DemandEntry, Entries, names, place, node, link, demand, Items, Nothing, AWord, AGroup, items, Skip, skip, section, IsSkip, Module, pair, File, spelled, entries, IsFile, IsNetwork, IsBegun}
 use Rattle.sndlib_grammar.specs.Modes.{keyword_of, between}
-use Rattle.sndlib_grammar.specs.Reading.{Sofar, Draft, read, walk, at_start, with_node, with_link, with_demand, with_skip, link_of, demand_of, kept}
+use Rattle.sndlib_grammar.specs.Reading.{Sofar, Draft, read, walk, at_start, with_node, with_link, with_demand, with_skip}
 use Rattle.sndlib_grammar.proofs.Keywords.{IsKeyword, is_keyword}
 use Rattle.sndlib_grammar.proofs.Meaning.{with_skips, with_nodes, with_links, with_demands, FromNodes}
 use Rattle.sndlib_grammar.proofs.Closing.{closing, closes}
@@ -43,18 +43,18 @@ whole found ts a =
     let t4 : e.rest ≡ [] = e.then.none in
     let t3 : ds.rest ≡ flat_map skip e.skips = e.text ∙ ap (λ (x : List Symbol). flat_map skip e.skips ++ x) t4 ∙ append-nil (flat_map skip e.skips) in
     let t2 : c.rest ≡ section d.word (flat_map demand ds.demands) ++ flat_map skip e.skips =
-        d.text ∙ ap (λ (x : List Symbol). Name d.word ∷ Left ∷ x) (ds.text ∙ ap (λ (x : List Symbol). flat_map demand ds.demands ++ Right ∷ x) t3 ∙ sym (append_assoc (flat_map demand ds.demands) (Right ∷ []) (flat_map skip e.skips))) in
+    d.text ∙ ap (λ (x : List Symbol). Name d.word ∷ Left ∷ x) (ds.text ∙ ap (λ (x : List Symbol). flat_map demand ds.demands ++ Right ∷ x) t3 ∙ sym (append_assoc (flat_map demand ds.demands) (Right ∷ []) (flat_map skip e.skips))) in
     let r2 = section d.word (flat_map demand ds.demands) ++ flat_map skip e.skips in
     let u2 = flat_map skip c.skips ++ r2 in
     let t1 : b.rest ≡ section l.word (flat_map link ls.links) ++ u2 =
-        l.text ∙ ap (λ (x : List Symbol). Name l.word ∷ Left ∷ x) (ls.text ∙ ap (λ (x : List Symbol). flat_map link ls.links ++ Right ∷ x) (c.text ∙ ap (λ (x : List Symbol). flat_map skip c.skips ++ x) t2) ∙ sym (append_assoc (flat_map link ls.links) (Right ∷ []) u2)) in
+    l.text ∙ ap (λ (x : List Symbol). Name l.word ∷ Left ∷ x) (ls.text ∙ ap (λ (x : List Symbol). flat_map link ls.links ++ Right ∷ x) (c.text ∙ ap (λ (x : List Symbol). flat_map skip c.skips ++ x) t2) ∙ sym (append_assoc (flat_map link ls.links) (Right ∷ []) u2)) in
     let u1 = flat_map skip b.skips ++ (section l.word (flat_map link ls.links) ++ u2) in
     let t0 : a.rest ≡ section n.word (flat_map node ns.nodes) ++ u1 =
-        n.text ∙ ap (λ (x : List Symbol). Name n.word ∷ Left ∷ x) (ns.text ∙ ap (λ (x : List Symbol). flat_map node ns.nodes ++ Right ∷ x) (b.text ∙ ap (λ (x : List Symbol). flat_map skip b.skips ++ x) t1) ∙ sym (append_assoc (flat_map node ns.nodes) (Right ∷ []) u1)) in
+    n.text ∙ ap (λ (x : List Symbol). Name n.word ∷ Left ∷ x) (ns.text ∙ ap (λ (x : List Symbol). flat_map node ns.nodes ++ Right ∷ x) (b.text ∙ ap (λ (x : List Symbol). flat_map skip b.skips ++ x) t1) ∙ sym (append_assoc (flat_map node ns.nodes) (Right ∷ []) u1)) in
     let count : 0 + length a.skips + length b.skips + length c.skips + length e.skips ≡ length a.skips + length b.skips + length c.skips + length e.skips = omega arith in
     record {
       file = f;
-      fits = record { before_nodes = a.fit; nodes_name = n.is; before_links = b.fit; links_name = l.is; links = ls.fit; before_demands = c.fit; demands_name = d.is; behind = e.fit };
+      fits = record { before_nodes = a.fit; nodes_name = n.is; before_links = b.fit; links_name = l.is; before_demands = c.fit; demands_name = d.is; behind = e.fit };
       text = a.text ∙ ap (λ (x : List Symbol). flat_map skip a.skips ++ x) t0;
       entries_are = e.then.entries ∙ ap (λ (k : ℕ). record { nodes = ns.nodes; links = ls.links; demands = ds.demands; skipped = k }) count;
     }
@@ -75,7 +75,7 @@ skip_read : (x : Skip) (p : Part) (s : Sofar) (ts : List Symbol) → IsSkip x �
 skip_read x p s ts is =
     let other : keyword_of x.name.text ≡ parts.Rest = is_keyword parts.Rest x.name.text (is.not_nodes, is.not_links, is.not_demands) in
     let named : read (Between p) s (skip x ++ ts) ≡ read (Skipping p 0) s ((items x.inside ++ Right ∷ []) ++ ts) =
-        ap (λ (k : Part). option_and_then (λ m. read m s (Left ∷ (items x.inside ++ Right ∷ []) ++ ts)) (between p k)) other in
+    ap (λ (k : Part). option_and_then (λ m. read m s (Left ∷ (items x.inside ++ Right ∷ []) ++ ts)) (between p k)) other in
     named ∙ ap (λ (y : List Symbol). read (Skipping p 0) s y) (append_assoc (items x.inside) (Right ∷ []) ts) ∙ items_read x.inside p 0 s (Right ∷ ts)
 
 skips_read : (xs : List Skip) (p : Part) (s : Sofar) (ts : List Symbol) → AllByRecursion IsSkip xs → read (Between p) s (flat_map skip xs ++ ts) ≡ read (Between p) (record s { entries = with_skips s.entries (length xs) }) ts
@@ -89,18 +89,18 @@ skips_read (x ∷ xs) p s ts is =
 
 -- from this state, whatever was read of a next entry, the symbols lead to these entries
 abbrev Leads : Mode → Entries → List Symbol → Entries → Type 0
-Leads m r ts found = (draft : Draft) (words : List Word) → read m (record { draft = draft; words = words; entries = r }) ts ≡ Some found
+Leads m r ts found = (draft : Draft) (words : List Word) (ms : List Module) → read m (record { draft = draft; words = words; modules = ms; entries = r }) ts ≡ Some found
 
 place_read : (ws : List Word) (s : Sofar) (ts : List Symbol) → read Place s (names ws ++ ts) ≡ read Place (record s { words = s.words ++ ws }) ts
 place_read [] s ts = ap (λ (ws : List Word). read Place (record s { words = ws }) ts) (sym (append-nil s.words))
 place_read (w ∷ ws) s ts = place_read ws (record s { words = s.words ++ w ∷ [] }) ts ∙ ap (λ (ws : List Word). read Place (record s { words = ws }) ts) (append_assoc s.words (w ∷ []) ws)
 
-modules_read : (ws : List Word) (s : Sofar) (ts : List Symbol) → ArePairs ws → read Capacity s (names ws ++ ts) ≡ read Capacity (record s { words = s.words ++ ws }) ts
-modules_read [] s ts is = ap (λ (ws : List Word). read Capacity (record s { words = ws }) ts) (sym (append-nil s.words))
-modules_read (a ∷ []) s ts is = absurd is
-modules_read (a ∷ b ∷ ws) s ts is =
-    let regroup : ((s.words ++ a ∷ []) ++ b ∷ []) ++ ws ≡ s.words ++ (a ∷ b ∷ ws) = simp append_assoc in
-    modules_read ws (record s { words = (s.words ++ a ∷ []) ++ b ∷ [] }) ts is ∙ ap (λ (ws : List Word). read Capacity (record s { words = ws }) ts) regroup
+modules_read : (ms : List Module) (s : Sofar) (ts : List Symbol) (found : Entries) → ((w : Word) → read Capacity (record s { draft = record s.draft { capacity = w }; modules = s.modules ++ ms }) ts ≡ Some found)
+    → read Capacity s (flat_map pair ms ++ ts) ≡ Some found
+modules_read [] s ts found h = ap (λ (ms : List Module). read Capacity (record s { modules = ms }) ts) (sym (append-nil s.modules)) ∙ h s.draft.capacity
+modules_read (m ∷ ms) s ts found h =
+    modules_read ms (record s { draft = record s.draft { capacity = m.capacity }; modules = s.modules ++ m ∷ [] }) ts found
+    (λ w. ap (λ (all : List Module). read Capacity (record s { draft = record s.draft { capacity = w }; modules = all }) ts) (append_assoc s.modules (m ∷ []) ms) ∙ h w)
 
 -- behind the id of a node without a place
 bare_read : (ns : List NodeEntry) (s : Sofar) (ts : List Symbol) → read Node s (flat_map node ns ++ Right ∷ ts) ≡ read Nodes (record s { entries = with_node s.entries (record { id = s.draft.id; place = None }) }) (flat_map node ns ++ Right ∷ ts)
@@ -108,33 +108,33 @@ bare_read [] s ts = refl
 bare_read (n ∷ ns) s ts = refl
 
 node_read : (id : Word) (at : Option (List Word)) (ns : List NodeEntry) (r found : Entries) (ts : List Symbol) → Leads Nodes (with_node r (record { id = id; place = at })) (flat_map node ns ++ Right ∷ ts) found
-    → (draft : Draft) (words : List Word) → read Node (record { draft = record draft { id = id }; words = words; entries = r }) ((place at ++ flat_map node ns) ++ Right ∷ ts) ≡ Some found
-node_read id None ns r found ts next draft words = bare_read ns (record { draft = record draft { id = id }; words = words; entries = r }) ts ∙ next (record draft { id = id }) words
-node_read id (Some ws) ns r found ts next draft words =
-    let s : Sofar = record { draft = record draft { id = id }; words = []; entries = r } in
+    → (draft : Draft) (words : List Word) (ms : List Module) → read Node (record { draft = record draft { id = id }; words = words; modules = ms; entries = r }) ((place at ++ flat_map node ns) ++ Right ∷ ts) ≡ Some found
+node_read id None ns r found ts next draft words ms = bare_read ns (record { draft = record draft { id = id }; words = words; modules = ms; entries = r }) ts ∙ next (record draft { id = id }) words ms
+node_read id (Some ws) ns r found ts next draft words ms =
+    let s : Sofar = record { draft = record draft { id = id }; words = []; modules = ms; entries = r } in
     let regroup : ((names ws ++ Right ∷ []) ++ flat_map node ns) ++ Right ∷ ts ≡ names ws ++ (Right ∷ (flat_map node ns ++ Right ∷ ts)) = simp append_assoc in
-    ap (λ (y : List Symbol). read Place s y) regroup ∙ place_read ws s (Right ∷ (flat_map node ns ++ Right ∷ ts)) ∙ next (record draft { id = id }) []
+    ap (λ (y : List Symbol). read Place s y) regroup ∙ place_read ws s (Right ∷ (flat_map node ns ++ Right ∷ ts)) ∙ next (record draft { id = id }) [] ms
 
 nodes_read : (ns : List NodeEntry) (r found : Entries) (ts : List Symbol) → Leads (Between parts.Links) (with_nodes r ns) ts found → Leads Nodes r (flat_map node ns ++ Right ∷ ts) found
-nodes_read [] r found ts h draft words = ap (λ (ns : List NodeEntry). read (Between parts.Links) (record { draft = draft; words = words; entries = record r { nodes = ns } }) ts) (sym (append-nil r.nodes)) ∙ h draft words
-nodes_read (n ∷ ns) r found ts h draft words =
-    let next = nodes_read ns (with_node r n) found ts (λ (d : Draft) (ws : List Word). ap (λ (all : List NodeEntry). read (Between parts.Links) (record { draft = d; words = ws; entries = record r { nodes = all } }) ts) (append_assoc r.nodes (n ∷ []) ns) ∙ h d ws) in
-    node_read n.id n.place ns r found ts next draft words
+nodes_read [] r found ts h draft words ms = ap (λ (ns : List NodeEntry). read (Between parts.Links) (record { draft = draft; words = words; modules = ms; entries = record r { nodes = ns } }) ts) (sym (append-nil r.nodes)) ∙ h draft words ms
+nodes_read (n ∷ ns) r found ts h draft words ms =
+    let next = nodes_read ns (with_node r n) found ts (λ (d : Draft) (ws : List Word) (os : List Module). ap (λ (all : List NodeEntry). read (Between parts.Links) (record { draft = d; words = ws; modules = os; entries = record r { nodes = all } }) ts) (append_assoc r.nodes (n ∷ []) ns) ∙ h d ws os) in
+    node_read n.id n.place ns r found ts next draft words ms
 
-links_read : (ls : List LinkEntry) (r found : Entries) (ts : List Symbol) → AllByRecursion IsLink ls → Leads (Between parts.Demands) (with_links r ls) ts found → Leads Links r (flat_map link ls ++ Right ∷ ts) found
-links_read [] r found ts is h draft words = ap (λ (ls : List LinkEntry). read (Between parts.Demands) (record { draft = draft; words = words; entries = record r { links = ls } }) ts) (sym (append-nil r.links)) ∙ h draft words
-links_read (l ∷ ls) r found ts is h draft words =
-    let next = links_read ls (with_link r l) found ts is.1 (λ (d : Draft) (ws : List Word). ap (λ (all : List LinkEntry). read (Between parts.Demands) (record { draft = d; words = ws; entries = record r { links = all } }) ts) (append_assoc r.links (l ∷ []) ls) ∙ h d ws) in
-    let d : Draft = record { id = l.id; source = l.source; target = l.target; first = l.installed; second = l.installed_cost; third = l.routing_cost; fourth = l.setup_cost } in
-    let s : Sofar = record { draft = d; words = []; entries = r } in
-    let regroup : ((names l.modules ++ Right ∷ []) ++ flat_map link ls) ++ Right ∷ ts ≡ names l.modules ++ (Right ∷ (flat_map link ls ++ Right ∷ ts)) = simp append_assoc in
-    ap (λ (y : List Symbol). read Capacity s y) regroup ∙ modules_read l.modules s (Right ∷ (flat_map link ls ++ Right ∷ ts)) is.0 ∙ next d []
+links_read : (ls : List LinkEntry) (r found : Entries) (ts : List Symbol) → Leads (Between parts.Demands) (with_links r ls) ts found → Leads Links r (flat_map link ls ++ Right ∷ ts) found
+links_read [] r found ts h draft words ms = ap (λ (ls : List LinkEntry). read (Between parts.Demands) (record { draft = draft; words = words; modules = ms; entries = record r { links = ls } }) ts) (sym (append-nil r.links)) ∙ h draft words ms
+links_read (l ∷ ls) r found ts h draft words ms =
+    let next = links_read ls (with_link r l) found ts (λ (d : Draft) (ws : List Word) (os : List Module). ap (λ (all : List LinkEntry). read (Between parts.Demands) (record { draft = d; words = ws; modules = os; entries = record r { links = all } }) ts) (append_assoc r.links (l ∷ []) ls) ∙ h d ws os) in
+    let d : Draft = record { id = l.id; source = l.source; target = l.target; first = l.installed; second = l.installed_cost; third = l.routing_cost; fourth = l.setup_cost; capacity = draft.capacity } in
+    let s : Sofar = record { draft = d; words = words; modules = []; entries = r } in
+    let regroup : ((flat_map pair l.modules ++ Right ∷ []) ++ flat_map link ls) ++ Right ∷ ts ≡ flat_map pair l.modules ++ (Right ∷ (flat_map link ls ++ Right ∷ ts)) = simp append_assoc in
+    ap (λ (y : List Symbol). read Capacity s y) regroup ∙ modules_read l.modules s (Right ∷ (flat_map link ls ++ Right ∷ ts)) found (λ w. next (record d { capacity = w }) words [])
 
 demands_read : (ds : List DemandEntry) (r found : Entries) (ts : List Symbol) → Leads (Between parts.Rest) (with_demands r ds) ts found → Leads Demands r (flat_map demand ds ++ Right ∷ ts) found
-demands_read [] r found ts h draft words = ap (λ (ds : List DemandEntry). read (Between parts.Rest) (record { draft = draft; words = words; entries = record r { demands = ds } }) ts) (sym (append-nil r.demands)) ∙ h draft words
-demands_read (d ∷ ds) r found ts h draft words =
-    let next = demands_read ds (with_demand r d) found ts (λ (e : Draft) (ws : List Word). ap (λ (all : List DemandEntry). read (Between parts.Rest) (record { draft = e; words = ws; entries = record r { demands = all } }) ts) (append_assoc r.demands (d ∷ []) ds) ∙ h e ws) in
-    next (record draft { id = d.id; source = d.source; target = d.target; first = d.unit; second = d.value }) words
+demands_read [] r found ts h draft words ms = ap (λ (ds : List DemandEntry). read (Between parts.Rest) (record { draft = draft; words = words; modules = ms; entries = record r { demands = ds } }) ts) (sym (append-nil r.demands)) ∙ h draft words ms
+demands_read (d ∷ ds) r found ts h draft words ms =
+    let next = demands_read ds (with_demand r d) found ts (λ (e : Draft) (ws : List Word) (os : List Module). ap (λ (all : List DemandEntry). read (Between parts.Rest) (record { draft = e; words = ws; modules = os; entries = record r { demands = all } }) ts) (append_assoc r.demands (d ∷ []) ds) ∙ h e ws os) in
+    next (record draft { id = d.id; source = d.source; target = d.target; first = d.unit; second = d.value }) words ms
 
 -- a section of entries, where the name is the one that comes next
 opened : (p : Part) (m : Mode) (name : Word) (inside rest : List Symbol) (s : Sofar) (found : Entries) → ((x : List Symbol) → option_and_then (λ k. read k s (Left ∷ x)) (between p p) ≡ read m s x)
@@ -157,18 +157,18 @@ read_whole f is =
     let r0 : Entries = record { nodes = []; links = []; demands = []; skipped = 0 + n0 } in
     let r1 : Entries = record { nodes = f.nodes; links = []; demands = []; skipped = 0 + n0 + n1 } in
     let r2 : Entries = record { nodes = f.nodes; links = f.links; demands = []; skipped = 0 + n0 + n1 + n2 } in
-    let last : Leads (Between parts.Rest) (with_demands r2 f.demands) t3 (entries f) = λ (d : Draft) (ws : List Word).
-        let s : Sofar = record { draft = d; words = ws; entries = with_demands r2 f.demands } in
-        ap (λ (y : List Symbol). read (Between parts.Rest) s y) (sym (append-nil t3)) ∙ skips_read f.behind parts.Rest s [] is.behind
-        ∙ ap (λ (k : ℕ). Some (record { nodes = f.nodes; links = f.links; demands = f.demands; skipped = k })) count in
-    let third : Leads (Between parts.Demands) (record { nodes = f.nodes; links = f.links; demands = []; skipped = 0 + n0 + n1 }) t2 (entries f) = λ (d : Draft) (ws : List Word).
-        skips_read f.before_demands parts.Demands (record { draft = d; words = ws; entries = record { nodes = f.nodes; links = f.links; demands = []; skipped = 0 + n0 + n1 } }) (section f.demands_name (flat_map demand f.demands) ++ t3) is.before_demands
-        ∙ opened parts.Demands Demands f.demands_name (flat_map demand f.demands) t3 (record { draft = d; words = ws; entries = r2 }) (entries f) (λ x. refl) is.demands_name (demands_read f.demands r2 (entries f) t3 last d ws) in
-    let second : Leads (Between parts.Links) (record { nodes = f.nodes; links = []; demands = []; skipped = 0 + n0 }) t1 (entries f) = λ (d : Draft) (ws : List Word).
-        skips_read f.before_links parts.Links (record { draft = d; words = ws; entries = record { nodes = f.nodes; links = []; demands = []; skipped = 0 + n0 } }) (section f.links_name (flat_map link f.links) ++ t2) is.before_links
-        ∙ opened parts.Links Links f.links_name (flat_map link f.links) t2 (record { draft = d; words = ws; entries = r1 }) (entries f) (λ x. refl) is.links_name (links_read f.links r1 (entries f) t2 is.links third d ws) in
+    let last : Leads (Between parts.Rest) (with_demands r2 f.demands) t3 (entries f) = λ (d : Draft) (ws : List Word) (ms : List Module).
+    let s : Sofar = record { draft = d; words = ws; modules = ms; entries = with_demands r2 f.demands } in
+    ap (λ (y : List Symbol). read (Between parts.Rest) s y) (sym (append-nil t3)) ∙ skips_read f.behind parts.Rest s [] is.behind
+    ∙ ap (λ (k : ℕ). Some (record { nodes = f.nodes; links = f.links; demands = f.demands; skipped = k })) count in
+    let third : Leads (Between parts.Demands) (record { nodes = f.nodes; links = f.links; demands = []; skipped = 0 + n0 + n1 }) t2 (entries f) = λ (d : Draft) (ws : List Word) (ms : List Module).
+    skips_read f.before_demands parts.Demands (record { draft = d; words = ws; modules = ms; entries = record { nodes = f.nodes; links = f.links; demands = []; skipped = 0 + n0 + n1 } }) (section f.demands_name (flat_map demand f.demands) ++ t3) is.before_demands
+    ∙ opened parts.Demands Demands f.demands_name (flat_map demand f.demands) t3 (record { draft = d; words = ws; modules = ms; entries = r2 }) (entries f) (λ x. refl) is.demands_name (demands_read f.demands r2 (entries f) t3 last d ws ms) in
+    let second : Leads (Between parts.Links) (record { nodes = f.nodes; links = []; demands = []; skipped = 0 + n0 }) t1 (entries f) = λ (d : Draft) (ws : List Word) (ms : List Module).
+    skips_read f.before_links parts.Links (record { draft = d; words = ws; modules = ms; entries = record { nodes = f.nodes; links = []; demands = []; skipped = 0 + n0 } }) (section f.links_name (flat_map link f.links) ++ t2) is.before_links
+    ∙ opened parts.Links Links f.links_name (flat_map link f.links) t2 (record { draft = d; words = ws; modules = ms; entries = r1 }) (entries f) (λ x. refl) is.links_name (links_read f.links r1 (entries f) t2 third d ws ms) in
     skips_read f.before_nodes parts.Nodes at_start (section f.nodes_name (flat_map node f.nodes) ++ t1) is.before_nodes
-    ∙ opened parts.Nodes Nodes f.nodes_name (flat_map node f.nodes) t1 (record at_start { entries = r0 }) (entries f) (λ x. refl) is.nodes_name (nodes_read f.nodes r0 (entries f) t1 second at_start.draft at_start.words)
+    ∙ opened parts.Nodes Nodes f.nodes_name (flat_map node f.nodes) t1 (record at_start { entries = r0 }) (entries f) (λ x. refl) is.nodes_name (nodes_read f.nodes r0 (entries f) t1 second at_start.draft at_start.words at_start.modules)
 
 pub completed : (ts : List Symbol) (found : Entries) → IsNetwork ts found → read (Between parts.Nodes) at_start ts ≡ Some found
 completed ts found net = ap (λ (y : List Symbol). read (Between parts.Nodes) at_start y) net.text ∙ read_whole net.file net.fits ∙ ap (λ (r : Entries). Some r) (sym net.entries_are)

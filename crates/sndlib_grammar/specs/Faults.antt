@@ -1,5 +1,5 @@
 -- What is wrong with entries: the refusals behind those of the grammar.
-use Rattle.std.specs.Prelude.{◌≡◌, ℕ, Bool, true, false, not, ◌||◌, List, [], ◌∷◌, ◌++◌, map, Option, Some, None, Result, Ok, Err, if◌then◌else◌, codes, slice_get, find}
+use Rattle.std.specs.Prelude.{ℕ, Bool, not, ◌||◌, List, [], ◌∷◌, ◌++◌, map, Option, Some, None, if◌then◌else◌, codes, slice_get, find}
 use Rattle.std.specs.List.{list_any}
 use Rattle.std.specs.Option.{option_map}
 use Rattle.std.specs.Str.{bytes_eq}
@@ -7,7 +7,7 @@ use Rattle.sndlib_grammar.specs.declared.refusal.NetKind.{NetKind}
 use Rattle.sndlib_grammar.specs.declared.refusal.NetKind.TheVariants as netkinds
 use Rattle.sndlib_grammar.specs.declared.refusal.NetRefusal.{NetRefusal}
 use Rattle.mcf_limits.specs.declared.TheConstants.{MAX_DEMANDS, MAX_LINKS, MAX_NODES}
-use Rattle.sndlib_grammar.specs.Grammar.{Word, NodeEntry, Module, LinkEntry, DemandEntry, Entries}
+use Rattle.sndlib_grammar.specs.Grammar.{Word, Module, LinkEntry, DemandEntry, Entries}
 use Rattle.sndlib_number.specs.Number.{is_number}
 
 abbrev pub node_ids : Entries → List Word

@@ -1,12 +1,11 @@
 -- The entries of tokens, read one by one.
-use Rattle.std.specs.Prelude.{◌≡◌, ℕ, zero, suc, ◌+◌, List, [], ◌∷◌, ◌++◌, length, Option, Some, None, Result, Ok, Err, nat_lt, if◌then◌else◌, option_and_then}
+use Rattle.std.specs.Prelude.{ℕ, zero, ◌+◌, List, [], ◌∷◌, ◌++◌, length, Option, Some, None, Result, Ok, Err, nat_lt, if◌then◌else◌, option_and_then}
 use Rattle.std.specs.Option.{option_map_or}
 use Rattle.mcf_limits.specs.declared.TheConstants.{MAX_WORD_BYTES}
 use Rattle.sndlib_lex.specs.Tokens.{Lexeme}
-use Rattle.sndlib_grammar.specs.declared.mode.Part.{Part}
 use Rattle.sndlib_grammar.specs.declared.mode.Part.TheVariants as parts
 use Rattle.sndlib_grammar.specs.declared.mode.Mode.{Mode}
-use Rattle.sndlib_grammar.specs.declared.mode.Mode.TheVariants.{Between, OpeningNodes, OpeningLinks, OpeningDemands, Naming, Skipping, Nodes, Node, Place, Links, LinkEnds, LinkSource, LinkTarget, LinkEndsClose, Installed, InstalledCost, RoutingCost, SetupCost, Modules, Capacity, CapacityCost, Demands, DemandEnds, DemandSource, DemandTarget, DemandEndsClose, Unit as Units, Value, Longest}
+use Rattle.sndlib_grammar.specs.declared.mode.Mode.TheVariants.{Between, Skipping, Nodes, Node, Place, Links, LinkSource, LinkTarget, Installed, InstalledCost, RoutingCost, SetupCost, Modules, Capacity, CapacityCost, Demands, DemandSource, DemandTarget, Unit as Units, Value, Longest}
 use Rattle.sndlib_grammar.specs.declared.refusal.NetKind.{NetKind}
 use Rattle.sndlib_grammar.specs.declared.refusal.NetKind.TheVariants as netkinds
 use Rattle.sndlib_grammar.specs.declared.refusal.NetRefusal.{NetRefusal}

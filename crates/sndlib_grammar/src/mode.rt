@@ -54,7 +54,9 @@ pub enum Mode {
 }
 
 const NODES: &[u8] = b"NODES";
+
 const LINKS: &[u8] = b"LINKS";
+
 const DEMANDS: &[u8] = b"DEMANDS";
 
 /// The section of that name, or `Rest` where it is another name.
