@@ -1,0 +1,10 @@
+pub mod Keywords
+pub mod Closing
+pub mod Walking
+pub mod Meaning
+pub mod Sound
+pub mod Whole
+pub mod Scanned
+pub mod Judged
+pub mod WordLaws
+pub mod RowFacts

@@ -1,0 +1,9 @@
+pub mod Modes
+pub mod Grammar
+pub mod Reading
+pub mod Refusals
+pub mod Text
+pub mod Faults
+pub mod Rows
+pub mod Words
+pub mod Net
