@@ -13,6 +13,7 @@ use Rattle.flow_core.specs.declared.state.Worker.{Worker}
 use Rattle.flow_core.specs.Core as core
 use Rattle.flow_core.specs.Core.{Terms, Event, claim, read, add, IsLegal, AreLegal, start, after_event, after_schedule, worker, worker_at, idle, IsStart, total, cell_count, ticket_count, commodity_count, amounts, amount_of, LastIsComplete, LastIsReading, LastMayAdd, claimed, has_read, has_added, next_cell}
 use Rattle.flow_core.specs.Laws.{one_if, IsFalling, added}
+use Rattle.mcf_limits.specs.declared.TheConstants.{MAX_LENGTH}
 use Rattle.flow_core.proofs.Members.{few-groups}
 use Rattle.flow_core.proofs.Sums.{total-set, once-more, get_or-replicate, length-replicate}
 use Rattle.flow_core.proofs.Steps.{laws, falls-more, counts_of, loads_of}
@@ -505,3 +506,12 @@ order_of t hands ticket h was_there = all hands was_there.works
         let i = laws t was_there.events h was_there.legal in
         let is = was_there.found_there in
         (falls-more (min s.claims (ticket_count t)) ticket x.work.log (omega arith) (subst (λ (u : Worker). IsFalling (min s.claims (ticket_count t)) u.log) f.0.1 (i.falling x.number f.0.0)), all xs f.1)
+
+-- a load that was read is within its limit
+pub word_within : (t : Terms) (hands : List Hand) (c x : ℕ) → IsStart t → c < cell_count t → WasWord t hands (c + 1) x → x ≤ MAX_LENGTH
+word_within t hands c x h few was_there =
+    let s : core.State = after_schedule t (start t) was_there.events in
+    let law = loads_of t s h (laws t was_there.events h was_there.legal) in
+    let is : get_or s.loads c 0 ≡ x = subst (λ (n : ℕ). get_or (s.claims ∷ s.loads) n 0 ≡ x) (add-one c) was_there.found_there in
+    let within = law.within c few in
+    omega arith

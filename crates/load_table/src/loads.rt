@@ -11,6 +11,7 @@ use crate::rule::{Adds, Claims, Cuts, LoadRule, Named, Reads};
 use crate::view::{Origin, View};
 use atomic_table::{Seat, Table};
 use flow_model::{Commodity, Groups, Net, Setting};
+use mcf_limits::MAX_LENGTH;
 use std::alloc::{AllocError, Global};
 use std::marker::{Brand, Model};
 use std::snapshot::Snapshot;
@@ -144,6 +145,7 @@ impl Loads {
         ensures of { IsPassOf self.now pass.new }
         ensures view { pass.new.view ≡ with_work (has_read result) pass.old.view }
         ensures word { WasWord self.now.terms pass.old.view.hands (cell + 1) result }
+        ensures within { result ≤ MAX_LENGTH }
     {
         let word = cell as usize + 1;
         self.table.shared.load::<Reads>(&mut pass.seat, word)
