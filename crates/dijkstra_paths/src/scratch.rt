@@ -48,7 +48,7 @@ fn numbers(alloc: Global, n: u16) -> Result<Vec<u16>, AllocError>
 }
 
 impl Scratch {
-    ghost use Rattle.std.specs.Prelude.{◌≡◌, ℕ, ◌<◌, ◌≤◌, length, IfOk};
+    ghost use Rattle.std.specs.Prelude.{◌≡◌, ℕ, ◌<◌, ◌≤◌, length, IfOk, IfSome};
     ghost use Rattle.std.specs.Option.{option_map};
     ghost use Rattle.std.specs.Borrow.{sem};
     ghost use Rattle.dijkstra_paths.specs.Lending.{Keeps};
@@ -103,7 +103,8 @@ impl Scratch {
     /// The least distance of the node, if it was reached.
     pub fn dist(&self, node: u16) -> Option<u64>
         requires { node < self.now.nodes }
-        ensures { result ≡ dist_at self.now node }
+        ensures value { result ≡ dist_at self.now node }
+        ensures limit { IfSome result (λ d. d < MAX_LENGTH) }
     {
         let dist = self.dist.as_slice()[node as usize];
         if dist < MAX_LENGTH { Some(dist) } else { None }

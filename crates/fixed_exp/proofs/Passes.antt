@@ -11,6 +11,7 @@ use Rattle.fixed_exp.proofs.PowerTable.{weight_small}
 use Rattle.flow_model.specs.declared.net.Cell.{Cell}
 use Rattle.flow_model.specs.declared.setting.Setting.{Setting}
 use Rattle.flow_model.specs.Lengths.{AreLengths, exponent, greatest_exponent, least_capacity, length_at, lengths_at}
+use Rattle.fixed_exp.specs.Far.{EmptyAreFar}
 use Rattle.fixed_exp.specs.Kept.{no_cell, cell_at, KeepsExponent}
 use Rattle.mcf_limits.specs.declared.TheConstants.{MAX_UNITS}
 
@@ -128,3 +129,14 @@ lengths-fit s top cells loads e =
           rw (of c cell at cap) (max-small (weight_of (top - exponent s cell (get_or loads c 0)) * 4096 * least / cell.cap)
           (length_fits (weight_of (top - exponent s cell (get_or loads c 0))) least cell.cap (weight_small (top - exponent s cell (get_or loads c 0))) small));
     }
+
+-- a cell without capacity is as long as no walk
+pub empty-far : (s : Setting) (top least : ℕ) (cells : List Cell) (loads : List ℕ) → length loads ≡ length cells → EmptyAreFar cells (lengths_at s top least cells loads)
+empty-far s top least cells loads e = record {
+  each = λ c cell at none.
+      let within = slice_get_within cells c cell at in
+      let is : cell_at cells c ≡ cell = get_or_from_slice_get cells c cell no_cell at in
+      let read : get_or (lengths_at s top least cells loads) c 0 ≡ length_at s top least cell (get_or loads c 0)
+      = subst (λ (k : Cell). get_or (lengths_at s top least cells loads) c 0 ≡ length_at s top least k (get_or loads c 0)) is (get_or-lengths_at s top least cells loads c e within) in
+      read ∙ rw (eq-eqb cell.cap 0 none) refl;
+}

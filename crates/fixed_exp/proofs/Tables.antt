@@ -6,9 +6,10 @@ use Rattle.flow_model.specs.declared.setting.Setting.{Setting}
 use Rattle.flow_model.specs.Network.{Network, IsNetwork}
 use Rattle.flow_model.specs.Lengths.{AreLengths, IsSetting, exponent, greatest_exponent, least_capacity, length_at, lengths_at, lengths_of}
 use Rattle.mcf_limits.specs.declared.TheConstants.{MAX_LENGTH}
+use Rattle.fixed_exp.specs.Far.{EmptyAreFar}
 use Rattle.fixed_exp.specs.Kept.{cell_at, KeepsExponent}
 use Rattle.fixed_exp.specs.LoadedNetwork.{IsLengthTable}
-use Rattle.fixed_exp.proofs.Passes.{get_or-lengths_at, lengths-fit, least_bounds, greatest_bounds}
+use Rattle.fixed_exp.proofs.Passes.{get_or-lengths_at, lengths-fit, empty-far, least_bounds, greatest_bounds}
 
 -- the length of each cell
 pub ready-at : (net : Network) (s : Setting) (loads kept ready : List ℕ) (top least : ℕ) → IsLengthTable net s loads kept ready top least
@@ -35,6 +36,7 @@ table-of net s loads kept ready top least fits setting count small p q size each
       each = each;
       lengths = is;
       long = subst (λ (xs : List ℕ). AreLengths net.cells xs) (sym is) (lengths-fit s (greatest_exponent s net.cells loads) net.cells loads count);
+      empty = subst (λ (xs : List ℕ). EmptyAreFar net.cells xs) (sym is) (empty-far s (greatest_exponent s net.cells loads) (least_capacity net.cells) net.cells loads count);
     }
 
 -- the least capacity is at most each positive one

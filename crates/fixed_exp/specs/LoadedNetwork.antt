@@ -4,6 +4,7 @@ use Rattle.flow_model.specs.declared.setting.Setting.{Setting}
 use Rattle.flow_model.specs.Network.{Network, IsNetwork}
 use Rattle.flow_model.specs.Lengths.{AreLengths, IsSetting, greatest_exponent, least_capacity, lengths_of}
 use Rattle.mcf_limits.specs.declared.TheConstants.{MAX_LENGTH}
+use Rattle.fixed_exp.specs.Far.{EmptyAreFar}
 use Rattle.fixed_exp.specs.Kept.{KeepsExponent}
 
 -- a network with a load for each cell, and the setting under which their lengths are taken
@@ -24,3 +25,4 @@ pub record IsLengthTable (net : Network) (s : Setting) (loads kept ready : List 
   pub each : (k : ℕ) → k < length net.cells → KeepsExponent s net.cells loads kept k
   pub lengths : ready ≡ lengths_of net s loads
   pub long : AreLengths net.cells ready
+  pub empty : EmptyAreFar net.cells ready

@@ -2,6 +2,7 @@
 
 ghost use Rattle.std.specs.Prelude.{◌≡◌, ℕ, ◌≤◌, length, slice_index, All, IfOk};
 ghost use Rattle.flow_model.specs.Lengths.{AreLengths, IsSetting, lengths_of};
+ghost use Rattle.fixed_exp.specs.Far.{EmptyAreFar};
 
 use crate::follow::follow_exponents;
 use crate::lengths::{exponents_of, least_of};
@@ -111,6 +112,7 @@ impl LengthTable {
     pub fn lengths(&self) -> &[u64]
         ensures value { result.now ≡ lengths_of self.now.net self.now.setting self.now.loads }
         ensures fits { AreLengths self.now.net.cells result.now }
+        ensures empty { EmptyAreFar self.now.net.cells result.now }
     {
         &self.lengths
     }

@@ -3,6 +3,7 @@
 ghost use Rattle.std.specs.Prelude.{◌≡◌, ℕ, ◌+◌, ◌-◌, ◌*◌, ◌/◌, ◌^◌, ◌<◌, ◌≤◌, max, min, length, All};
 ghost use Rattle.flow_model.specs.Lengths.{AreLengths, IsSetting, exponent, length_at, greatest_exponent, least_capacity, lengths_at, lengths_of};
 ghost use Rattle.flow_model.specs.Powers.{weight_of};
+ghost use Rattle.fixed_exp.specs.Far.{EmptyAreFar};
 ghost use Rattle.fixed_exp.specs.Kept.{KeepsExponent};
 
 use crate::powers::Powers;
@@ -112,6 +113,7 @@ impl Powers {
         requires into { length into.old ≡ length net.now.cells }
         ensures value { into.new ≡ lengths_of net.now setting.now loads.now }
         ensures fits { AreLengths net.now.cells into.new }
+        ensures empty { EmptyAreFar net.now.cells into.new }
     {
         let cells = net.cells();
         let scale = Scale::new(setting);
