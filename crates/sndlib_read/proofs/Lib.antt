@@ -1,0 +1,8 @@
+pub mod Naming
+pub mod RowLines
+pub mod StoredLaws
+pub mod Scanning
+pub mod Bounds
+pub mod RowAt
+pub mod Whole
+pub mod Answering

@@ -1,0 +1,5 @@
+use Rattle.sndlib_read.proofs.Answering.{answers}
+use Rattle.sndlib_read.proofs.judge.read_net.Goals as goal
+
+pub returns-clause-answer : goal.returns-clause-answer
+returns-clause-answer c = answers c.args.text.now c.rows_of_text.result c.rows_of_text.ensures

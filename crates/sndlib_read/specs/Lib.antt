@@ -1,0 +1,9 @@
+pub mod Stored
+pub mod Views
+pub mod Steps
+pub mod Numbering
+pub mod Names
+pub mod OfText
+pub mod Net
+pub mod RowViews
+pub mod Answer

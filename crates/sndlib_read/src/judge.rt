@@ -1,0 +1,82 @@
+//! From what is kept of a text to its network: the refusals behind those of the grammar, in their order.
+
+ghost use Rattle.std.specs.Prelude.{◌≡◌, ◌≤◌, length, OnOk, Result};
+ghost use Rattle.sndlib_grammar.specs.declared.refusal.NetRefusal.{NetRefusal};
+ghost use Rattle.sndlib_grammar.specs.Net.{rows_of};
+ghost use Rattle.sndlib_grammar.specs.Text.{end_of};
+ghost use Rattle.sndlib_read.specs.Answer.{Answers};
+ghost use Rattle.sndlib_read.specs.Steps.{Gives};
+ghost use Rattle.sndlib_read.specs.Numbering.{stored_fault, stored_judged};
+ghost use Rattle.sndlib_read.specs.OfText.{IsOfText};
+ghost use Rattle.sndlib_read.specs.Views.{kept_view};
+
+use crate::ends::{demand_ends, link_ends};
+use crate::faults::{bad_number, too_many};
+use crate::kept::Kept;
+use crate::names::names_of_rows;
+use crate::net::RawNet;
+use crate::refusal::ReadNetEnd;
+use crate::text::read_words;
+use mcf_limits::MAX_NET_BYTES;
+use sndlib_grammar::{NetKind, NetRefusal};
+use sndlib_lex::end_line;
+use std::alloc::Global;
+
+fn refusal(kind: NetKind, line: u32) -> ReadNetEnd
+    ensures { result ≡ ReadNetEnd.Refused (record { line = line; kind = kind }) }
+{
+    ReadNetEnd::Refused(NetRefusal { line, kind })
+}
+
+// The network of the rows, or what is wrong with them.
+fn judge<'a>(alloc: Global, rows: Kept<'a>, end: u32) -> Result<RawNet<'a>, ReadNetEnd>
+    requires { IsOfText (kept_view rows) }
+    ensures { Gives (λ n. n) result (stored_judged end (kept_view rows.entry) (stored_fault (kept_view rows.entry))) }
+{
+    if let Some(line) = too_many(&rows) {
+        return Err(refusal(NetKind::TooMany, line));
+    }
+    let names = match names_of_rows(alloc, &rows) {
+        Ok(names) => names,
+        Err(e) => return Err(e),
+    };
+    let link_ends = match link_ends(alloc, &names.nodes, &rows.links) {
+        Ok(ends) => ends,
+        Err(e) => return Err(e),
+    };
+    let demand_ends = match demand_ends(alloc, &names.nodes, &rows.demands) {
+        Ok(ends) => ends,
+        Err(e) => return Err(e),
+    };
+    if let Some(line) = bad_number(&rows) {
+        return Err(refusal(NetKind::BadNumber, line));
+    }
+    Ok(RawNet {
+        rows,
+        names,
+        link_ends,
+        demand_ends,
+        end_line: end,
+    })
+}
+
+// The rows of a text, or its first refusal.
+fn rows_of_text(alloc: Global, text: &[u8]) -> Result<RawNet<'_>, ReadNetEnd>
+    requires { length text.now ≤ MAX_NET_BYTES }
+    ensures { Gives (λ n. n) result (rows_of text.now) }
+{
+    let end = end_line(text);
+    match read_words(alloc, text, end) {
+        Ok(rows) => judge(alloc, rows, end),
+        Err(e) => Err(e),
+    }
+}
+
+/// The rows of a network text, or its first refusal: no header (N1); a long word or a token that no text of the grammar has there, whichever comes first (N2, N3); too many rows (N4); an id twice in a section (N5); an end that is no node (N6); a word that is no number (N7). After `Memory` nothing is known of the text.
+pub fn read_net(alloc: Global, text: &[u8]) -> Result<RawNet<'_>, ReadNetEnd>
+    requires { length text.now ≤ MAX_NET_BYTES }
+    ensures rows { Gives (λ n. n) result (rows_of text.now) }
+    ensures answer { Answers text.now result }
+{
+    rows_of_text(alloc, text)
+}

@@ -1,0 +1,10 @@
+//! Why no rows are answered.
+
+use sndlib_grammar::NetRefusal;
+
+/// Why a text gives no rows: it is refused, or memory ran out.
+#[derive(Clone, Copy, Debug, PartialEq, Eq)]
+pub enum ReadNetEnd {
+    Refused(NetRefusal),
+    Memory,
+}
