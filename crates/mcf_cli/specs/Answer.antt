@@ -1,0 +1,60 @@
+-- What a run answers: a status, and a text on standard output.
+use Rattle.std.specs.Prelude.{◌≡◌, ◌⊎◌, ℕ, List, [], ◌∷◌, Option, codes}
+use Rattle.std.specs.Fmt.{decimal}
+use Rattle.std.specs.Io.KnownBytes.{Appends}
+use Rattle.text_lines.specs.Lines.{Line, spelled}
+use Rattle.mcf_base.specs.Faults.{Rose}
+use Rattle.mcf_base.specs.Sink.{AppendsFront}
+use Rattle.sndlib_grammar.specs.declared.refusal.NetKind.{NetKind}
+use Rattle.sndlib_grammar.specs.declared.refusal.NetKind.TheVariants as kinds
+use Rattle.mcf_cli.specs.declared.outcome.Paper.{Paper}
+use Rattle.mcf_cli.specs.declared.outcome.Paper.TheVariants as papers
+use Rattle.mcf_cli.specs.declared.outcome.Outcome.{Outcome}
+use Rattle.mcf_cli.specs.declared.outcome.Outcome.TheVariants as outcomes
+
+pub record Answer : Type 0 where
+  pub status : ℕ
+  pub text : List ℕ
+
+-- the short name of each refusal of a network text
+abbrev pub kind_word : NetKind → List ℕ
+kind_word kinds.NoHeader = codes "N1"
+kind_word kinds.LongWord = codes "N2"
+kind_word kinds.Syntax = codes "N3"
+kind_word kinds.TooMany = codes "N4"
+kind_word kinds.Duplicate = codes "N5"
+kind_word kinds.UnknownNode = codes "N6"
+kind_word kinds.BadNumber = codes "N7"
+kind_word kinds.TooFine = codes "N8"
+kind_word kinds.TooLarge = codes "N9"
+kind_word kinds.NoDemand = codes "N10"
+
+-- how a kind of file is named in a line
+abbrev pub paper_word : Paper → List ℕ
+paper_word papers.Network = codes "net"
+paper_word papers.Certificate = codes "cert"
+
+-- the words of the line that tells the outcome
+abbrev pub words_of : Outcome → Line
+words_of outcomes.Usage = codes "usage" ∷ []
+words_of outcomes.ReadFault = codes "read" ∷ codes "fault" ∷ []
+words_of outcomes.Memory = codes "memory" ∷ []
+words_of (outcomes.TooLong paper) = codes "refused" ∷ paper_word paper ∷ codes "TooLong" ∷ []
+words_of (outcomes.NetRefused r) = codes "refused" ∷ codes "net" ∷ kind_word r.kind ∷ codes "line" ∷ decimal r.line ∷ []
+
+abbrev pub status_of : Outcome → ℕ
+status_of outcomes.Usage = 2
+status_of outcomes.ReadFault = 4
+status_of outcomes.Memory = 6
+status_of (outcomes.TooLong paper) = 3
+status_of (outcomes.NetRefused r) = 3
+
+-- the outcome's line, with its status
+abbrev pub answer_of : Outcome → Answer
+answer_of outcome = record { status = status_of outcome; text = spelled (words_of outcome) }
+
+-- the answer was written and its status given, or the output failed and a front of the text was written
+abbrev pub Writes : Option (List ℕ) → Option (List ℕ) → ℕ → ℕ → ℕ → Answer → Type 0
+Writes old new before after status answer =
+    ((status ≡ answer.status) × Appends old new answer.text)
+    ⊎ ((status ≡ 5) × Rose before after × AppendsFront old new answer.text)

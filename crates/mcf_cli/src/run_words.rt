@@ -1,0 +1,52 @@
+//! The top call.
+
+ghost use Rattle.std.specs.Prelude.{◌≡◌, length, map, string_bytes};
+ghost use Rattle.mcf_words.specs.Request.{file_count, IsBuilt};
+ghost use Rattle.mcf_cli.specs.Run.{CommandEnds, RunEnds};
+
+use crate::outcome::Outcome;
+use crate::print::print;
+use crate::tell::tell;
+use mcf_base::{Gate, Shelf, Sink};
+use mcf_words::{Command, Request, WordsEnd, read_words};
+use std::alloc::Global;
+
+/// How a run ended.
+#[derive(Clone, Copy, Debug, PartialEq, Eq)]
+pub struct Ended {
+    pub status: u8,
+}
+
+// The answer of the command.
+fn run_command<F: Shelf, K: Sink>(
+    alloc: Global,
+    request: &Request,
+    shelf: &mut F,
+    out: &mut K,
+) -> Ended
+    requires files { length request.now.names ≡ file_count request.now.command }
+    requires built { IsBuilt request.now.command }
+    ensures { CommandEnds (F.holds shelf.old) (F.faults shelf.old) (F.faults shelf.new) request.now (K.written out.old) (K.written out.new) (K.faults out.old) (K.faults out.new) result.status }
+{
+    match request.command {
+        Command::Print => print(alloc, shelf, out, request.names.name(0)),
+        _ => unreachable!(),
+    }
+}
+
+/// Does what the words ask for. The text goes to `out`: one line where the run is refused or found nothing.
+pub fn run<F: Shelf, K: Sink, G: Gate>(
+    alloc: Global,
+    words: &[String],
+    shelf: &mut F,
+    out: &mut K,
+    _gate: &G,
+) -> Ended
+    ensures { RunEnds (F.holds shelf.old) (F.faults shelf.old) (F.faults shelf.new) (map string_bytes words.now) (K.written out.old) (K.written out.new) (K.faults out.old) (K.faults out.new) result.status }
+{
+    match read_words(alloc, words) {
+        Ok(request) => run_command(alloc, &request, shelf, out),
+        Err(WordsEnd::Usage) => tell(out, Outcome::Usage),
+        Err(WordsEnd::Memory) => tell(out, Outcome::Memory),
+    }
+}

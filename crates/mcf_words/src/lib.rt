@@ -1,0 +1,10 @@
+//! The words of the command line, and what they ask for.
+#![tactic(auto)]
+
+mod items;
+mod read;
+mod request;
+mod values;
+
+pub use read::read_words;
+pub use request::{Command, Names, Request, WordsEnd};

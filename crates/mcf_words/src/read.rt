@@ -1,0 +1,315 @@
+//! What the words ask for, read.
+
+ghost use Rattle.std.specs.Prelude.{◌≡◌, ◌∷◌, [], ℕ, List, Some, None, Option, map, string_bytes, slice_index_or, length, IfOk, IfSome, ◌≤◌};
+ghost use Rattle.std.specs.List.{list_all, list_any};
+ghost use Rattle.std.specs.Option.{option_map};
+ghost use Rattle.std.specs.Str.{bytes_eq};
+ghost use Rattle.mcf_words.specs.Answers.{Answers};
+ghost use Rattle.mcf_words.specs.Request.{are_known as are_known_lem, choices_of as choices_of_lem, command_of as command_of_lem, file_count as file_count_lem, IsBuilt, four_numbers as four_numbers_lem, numbers_of as numbers_of_lem, files_of as files_of_lem, options_of as options_of_lem, request_from as request_from_lem, request_of};
+ghost use Rattle.mcf_words.specs.Values.{gap_of as gap_of_lem, number_in as number_in_lem, values_of, choice};
+ghost use Rattle.net_options.specs.Modes.{link_mode_of as link_mode_of_lem, module_mode_of as module_mode_of_lem};
+ghost use Rattle.mcf_words.specs.Views.{items_view, setting_view, choices_view};
+ghost use Rattle.net_options.specs.declared.modes.LinkMode.TheVariants.{Undirected};
+ghost use Rattle.net_options.specs.declared.modes.ModuleMode.TheVariants.{Largest};
+
+use crate::items::{Items, Setting, items_of};
+use crate::request::{Command, Names, Request, WordsEnd};
+use crate::values::{gap_of, number_in, value_of};
+use mcf_limits::{MAX_DEMANDS, MAX_LINKS, MAX_NODES, MAX_PHASES, MAX_STEP, MAX_WORKERS};
+use std::alloc::{AllocError, Global};
+use net_options::{LinkMode, ModuleMode, NetOptions, link_mode_of, module_mode_of};
+
+const PRINT: &[u8] = b"print";
+
+const LINKS: &[u8] = b"--links";
+
+const MODULES: &[u8] = b"--modules";
+
+const GAP: &[u8] = b"--gap";
+
+const PHASES: &[u8] = b"--phases";
+
+const WORKERS: &[u8] = b"--workers";
+
+const STEP: &[u8] = b"--step";
+
+/// The gap where none is asked: 0.05.
+const DEFAULT_GAP: u64 = 50_000;
+
+const DEFAULT_WORKERS: u16 = 4;
+
+const DEFAULT_STEP: u32 = 8192;
+
+/// What the options say, and the defaults of those that do not stand.
+#[derive(Clone, Copy, Debug)]
+pub struct Choices {
+    pub net: NetOptions,
+    pub gap: u64,
+    pub phases: Option<u32>,
+    pub workers: u16,
+    pub step: u32,
+}
+
+fn command_of(word: &[u8]) -> Option<Command>
+    ensures value { result ≡ command_of_lem word.now }
+    ensures built { IfSome result IsBuilt }
+{
+    if word == PRINT {
+        return Some(Command::Print);
+    }
+    None
+}
+
+fn file_count(command: Command) -> usize
+    ensures { result ≡ file_count_lem command }
+{
+    match command {
+        Command::Solve | Command::Print => 1,
+        Command::Check => 2,
+        Command::WhatIf => 3,
+        Command::Gen | Command::Trial => 0,
+    }
+}
+
+// Whether the command has the option.
+fn has_option(command: Command, name: &[u8]) -> bool
+    ensures { result ≡ list_any (bytes_eq name.now) (options_of_lem command) }
+{
+    match command {
+        Command::Solve | Command::Trial => {
+            name == LINKS
+                || name == MODULES
+                || name == GAP
+                || name == PHASES
+                || name == WORKERS
+                || name == STEP
+        }
+        _ => false,
+    }
+}
+
+// Whether every option is one of the command's.
+fn are_known(command: Command, settings: &[Setting<'_>]) -> bool
+    ensures { result ≡ are_known_lem command (map setting_view settings.now) }
+{
+    for setting in settings {
+        if !has_option(command, setting.name) {
+            return false;
+        }
+    }
+    true
+}
+
+fn links_choice(settings: &[Setting<'_>]) -> Option<LinkMode>
+    ensures { result ≡ choice link_mode_of_lem Undirected (values_of LINKS.now (map setting_view settings.now)) }
+{
+    match value_of(settings, LINKS) {
+        Some(Some(value)) => link_mode_of(value),
+        Some(None) => Some(LinkMode::Undirected),
+        None => None,
+    }
+}
+
+fn modules_choice(settings: &[Setting<'_>]) -> Option<ModuleMode>
+    ensures { result ≡ choice module_mode_of_lem Largest (values_of MODULES.now (map setting_view settings.now)) }
+{
+    match value_of(settings, MODULES) {
+        Some(Some(value)) => module_mode_of(value),
+        Some(None) => Some(ModuleMode::Largest),
+        None => None,
+    }
+}
+
+fn gap_choice(settings: &[Setting<'_>]) -> Option<u64>
+    ensures { result ≡ choice gap_of_lem DEFAULT_GAP (values_of GAP.now (map setting_view settings.now)) }
+{
+    match value_of(settings, GAP) {
+        Some(Some(value)) => gap_of(value),
+        Some(None) => Some(DEFAULT_GAP),
+        None => None,
+    }
+}
+
+// The value of an option that is a number from 1 on.
+fn number_choice(settings: &[Setting<'_>], name: &[u8], most: u64, default: u64) -> Option<u64>
+    requires { default ≤ most }
+    ensures value { result ≡ choice (number_in_lem 1 most) default (values_of name.now (map setting_view settings.now)) }
+    ensures limit { IfSome result (λ n. n ≤ most) }
+{
+    match value_of(settings, name) {
+        Some(Some(value)) => number_in(1, most, value),
+        Some(None) => Some(default),
+        None => None,
+    }
+}
+
+// The phase budget, if one is asked.
+fn phases_choice(settings: &[Setting<'_>]) -> Option<Option<u32>>
+    ensures { result ≡ choice (λ w. option_map Some (number_in_lem 1 MAX_PHASES w)) None (values_of PHASES.now (map setting_view settings.now)) }
+{
+    match value_of(settings, PHASES) {
+        Some(Some(value)) => match number_in(1, MAX_PHASES as u64, value) {
+            Some(phases) => Some(Some(phases as u32)),
+            None => None,
+        },
+        Some(None) => Some(None),
+        None => None,
+    }
+}
+
+fn workers_choice(settings: &[Setting<'_>]) -> Option<u16>
+    ensures { result ≡ choice (number_in_lem 1 MAX_WORKERS) DEFAULT_WORKERS (values_of WORKERS.now (map setting_view settings.now)) }
+{
+    match number_choice(
+        settings,
+        WORKERS,
+        MAX_WORKERS as u64,
+        DEFAULT_WORKERS as u64,
+    ) {
+        Some(workers) => Some(workers as u16),
+        None => None,
+    }
+}
+
+fn step_choice(settings: &[Setting<'_>]) -> Option<u32>
+    ensures { result ≡ choice (number_in_lem 1 MAX_STEP) DEFAULT_STEP (values_of STEP.now (map setting_view settings.now)) }
+{
+    match number_choice(settings, STEP, MAX_STEP as u64, DEFAULT_STEP as u64) {
+        Some(step) => Some(step as u32),
+        None => None,
+    }
+}
+
+// What the options say, or nothing where one of them is out of form.
+#[tactic(auto, unfolding(crate::specs::Request::choices_of))]
+fn choices_of(settings: &[Setting<'_>]) -> Option<Choices>
+    ensures { option_map choices_view result ≡ choices_of_lem (map setting_view settings.now) }
+{
+    let Some(links) = links_choice(settings) else {
+        return None;
+    };
+    let Some(modules) = modules_choice(settings) else {
+        return None;
+    };
+    let Some(gap) = gap_choice(settings) else {
+        return None;
+    };
+    let Some(phases) = phases_choice(settings) else {
+        return None;
+    };
+    let Some(workers) = workers_choice(settings) else {
+        return None;
+    };
+    let Some(step) = step_choice(settings) else {
+        return None;
+    };
+    Some(Choices {
+        net: NetOptions { links, modules },
+        gap,
+        phases,
+        workers,
+        step,
+    })
+}
+
+// Seed, nodes, links and demands.
+fn four_numbers(positional: &[&str]) -> Option<[u64; 4]>
+    ensures { result ≡ four_numbers_lem (map (λ w. w.now) positional.now) }
+{
+    let [seed, nodes, links, demands] = positional else {
+        return None;
+    };
+    let Some(seed) = number_in(0, u64::MAX, seed.as_bytes()) else {
+        return None;
+    };
+    let Some(nodes) = number_in(2, MAX_NODES as u64, nodes.as_bytes()) else {
+        return None;
+    };
+    let Some(links) = number_in(nodes, MAX_LINKS as u64, links.as_bytes()) else {
+        return None;
+    };
+    let Some(demands) = number_in(1, MAX_DEMANDS as u64, demands.as_bytes()) else {
+        return None;
+    };
+    Some([seed, nodes, links, demands])
+}
+
+// The numbers of a command that takes them, and else four zeros.
+fn numbers_of(command: Command, positional: &[&str]) -> Option<[u64; 4]>
+    ensures { result ≡ numbers_of_lem command (map (λ w. w.now) positional.now) }
+{
+    if file_count(command) == 0 {
+        return four_numbers(positional);
+    }
+    Some([0; 4])
+}
+
+// Copies of the words.
+fn names_of(alloc: Global, words: &[&str]) -> Result<Names, AllocError>
+    ensures { IfOk result (λ names. names ≡ map (λ w. w.now) words.now) }
+{
+    let mut names = Names::new(alloc);
+    for word in words {
+        names.push(alloc, word)?;
+    }
+    Ok(names)
+}
+
+// The files of a command that reads some.
+fn files_of(alloc: Global, command: Command, positional: &[&str]) -> Result<Names, WordsEnd>
+    ensures count { IfOk result (λ names. length names ≡ file_count_lem command) }
+    ensures value { Answers (λ n. n) result (files_of_lem command (map (λ w. w.now) positional.now)) }
+{
+    if file_count(command) == 0 {
+        return Ok(Names::new(alloc));
+    }
+    if positional.len() != file_count(command) {
+        return Err(WordsEnd::Usage);
+    }
+    Ok(names_of(alloc, positional)?)
+}
+
+// The request of a command with these items.
+#[tactic(auto, unfolding(crate::specs::Request::request_from))]
+fn request_from(alloc: Global, command: Command, items: &Items<'_>) -> Result<Request, WordsEnd>
+    ensures count { IfOk result (λ r. length r.names ≡ file_count_lem r.command) }
+    ensures command { IfOk result (λ r. r.command ≡ command) }
+    ensures value { Answers (λ r. r) result (request_from_lem command (items_view items.now)) }
+{
+    if !are_known(command, &items.settings) {
+        return Err(WordsEnd::Usage);
+    }
+    let Some(choices) = choices_of(&items.settings) else {
+        return Err(WordsEnd::Usage);
+    };
+    let Some(numbers) = numbers_of(command, &items.positional) else {
+        return Err(WordsEnd::Usage);
+    };
+    let names = files_of(alloc, command, &items.positional)?;
+    Ok(Request {
+        command,
+        names,
+        numbers,
+        net: choices.net,
+        gap: choices.gap,
+        phases: choices.phases,
+        workers: choices.workers,
+        step: choices.step,
+    })
+}
+
+/// What the words ask for. `Usage` exactly where they are not in the grammar of the command line.
+pub fn read_words(alloc: Global, words: &[String]) -> Result<Request, WordsEnd>
+    ensures files { IfOk result (λ r. length r.names ≡ file_count_lem r.command) }
+    ensures built { IfOk result (λ r. IsBuilt r.command) }
+    ensures value { Answers (λ r. r) result (request_of (map string_bytes words.now)) }
+{
+    let Some((first, others)) = words.split_first() else {
+        return Err(WordsEnd::Usage);
+    };
+    let Some(command) = command_of(first.as_bytes()) else {
+        return Err(WordsEnd::Usage);
+    };
+    let items = items_of(alloc, others)?;
+    request_from(alloc, command, &items)
+}
