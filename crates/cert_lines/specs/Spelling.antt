@@ -84,5 +84,5 @@ pub record IsClear (sheet : Sheet) : Type 0 where
   pub clean_nodes : AreClean sheet.nodes
   pub clean_cells : AreClean sheet.cells
   pub clean_commodities : AreClean sheet.commodities
-  pub link_mode : AllByRecursion IsInside sheet.link_mode
-  pub module_mode : AllByRecursion IsInside sheet.module_mode
+  pub full_modes : (0 < length sheet.link_mode) × (0 < length sheet.module_mode)
+  pub clean_modes : AllByRecursion IsInside sheet.link_mode × AllByRecursion IsInside sheet.module_mode

@@ -16,7 +16,7 @@ pub fn begins(key: &[u8], line: &[u8]) -> bool
     word == key
 }
 
-// The word behind the keyword, where the line has that form.
+/// The word behind the keyword, where the line is the keyword and one word that is not empty.
 pub fn one_behind<'a>(key: &[u8], line: &'a [u8]) -> Option<&'a [u8]>
     ensures { option_map (λ w. w.now) result ≡ one_behind key.now (words_of line.now) }
 {

@@ -10,7 +10,7 @@ mod potentials;
 mod refusal;
 mod rows;
 
-pub use forms::begins;
+pub use forms::{begins, one_behind};
 pub use head_lines::{gap_line, is_fixed, phases_line, scale_line, value_line, verdict_line};
 pub use net_line::counts_line;
 pub use paths::path_row;
