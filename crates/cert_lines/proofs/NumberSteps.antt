@@ -1,5 +1,5 @@
 -- One more digit of a number.
-use Rattle.std.proofs.Common.{◌≡◌, ℕ, zero, suc, ◌+◌, ◌-◌, ◌*◌, ◌<◌, ◌≤◌, Bool, true, false, cond, ltb, List, [], ◌∷◌, length, get_or, take, drop, Result, Ok, Err, refl, sym, ap, ◌∙◌, arith}
+use Rattle.std.proofs.Common.{◌≡◌, ℕ, zero, suc, ◌+◌, ◌-◌, ◌*◌, ◌<◌, Bool, true, false, List, [], ◌∷◌, length, get_or, take, drop, Err, refl, arith}
 use Rattle.std.specs.Prelude.{nat_lt, nat_le, nat_eq, slice_index, ◌&&◌, ◌||◌}
 use Rattle.std.specs.List.{list_all}
 use Rattle.std.specs.Char.{is_ascii_digit}
@@ -9,7 +9,7 @@ use Rattle.std.proofs.lemmas.Str.{digit_value_digit}
 use Rattle.std.proofs.lemmas.Str.Parse.{digits_value-take-le}
 use Rattle.std.proofs.lemmas.Int.Digits.{digits_value_more}
 use Rattle.std.proofs.lemmas.Bool.Decides.{nat_tests}
-use Rattle.cert_lines.specs.declared.refusal.CertKind.TheVariants.{BadNumber, TooLarge}
+use Rattle.cert_lines.specs.declared.refusal.CertKind.TheVariants.{TooLarge}
 use Rattle.cert_lines.specs.declared.numbers.TheConstants.{MAX_DIGITS}
 use Rattle.cert_lines.specs.Numbers.{is_number, number_within, is_micro, micro_value}
 

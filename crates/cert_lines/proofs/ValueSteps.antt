@@ -1,5 +1,5 @@
 -- Potentials, read one after the other.
-use Rattle.std.proofs.Common.{◌≡◌, ℕ, suc, ◌+◌, ◌<◌, ◌≤◌, List, [], ◌∷◌, ◌++◌, length, take, Result, Ok, Err, refl, sym, ap, subst, ◌∙◌, append_assoc, arith}
+use Rattle.std.proofs.Common.{◌≡◌, ℕ, ◌+◌, ◌<◌, ◌≤◌, List, [], ◌∷◌, ◌++◌, length, take, Result, Ok, Err, refl, sym, ap, ◌∙◌, append_assoc}
 use Rattle.std.specs.Prelude.{slice_set, All}
 use Rattle.std.proofs.lemmas.List.{append-nil, take_more_set, take_all}
 use Rattle.std.proofs.lemmas.List.Elements.{All-push}

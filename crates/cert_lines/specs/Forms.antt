@@ -1,11 +1,10 @@
 -- Forms of lines: a keyword, and words behind it.
-use Rattle.std.specs.Prelude.{ℕ, ◌+◌, Bool, false, List, [], ◌∷◌, length, take, drop, Option, Some, None, Result, Ok, Err, position, nat_lt, nat_eq, ◌==◌, ◌&&◌, if◌then◌else◌}
+use Rattle.std.specs.Prelude.{ℕ, ◌+◌, Bool, false, List, [], ◌∷◌, length, take, drop, Option, Some, None, Result, Ok, Err, position, nat_lt, ◌==◌, ◌&&◌, if◌then◌else◌}
 use Rattle.std.specs.Option.{option_map}
 use Rattle.std.specs.Str.{bytes_eq}
 use Rattle.std.specs.List.{join_with_byte, list_all}
 use Rattle.text_lines.specs.Lines.{Line, words_of}
 use Rattle.cert_lines.specs.declared.refusal.CertKind.{CertKind}
-use Rattle.cert_lines.specs.declared.refusal.CertKind.TheVariants.{Syntax}
 
 infixl 10 ◌>>=◌
 -- one step after another, up to the first that fails

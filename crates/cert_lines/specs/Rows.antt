@@ -1,5 +1,5 @@
 -- Rows of paths, lengths and potentials, each read from left to right with the first fault that is met.
-use Rattle.std.specs.Prelude.{ℕ, ◌+◌, Bool, List, [], ◌∷◌, length, Option, Some, None, Result, Ok, Err, nat_lt, nat_eq, codes, if◌then◌else◌}
+use Rattle.std.specs.Prelude.{ℕ, ◌+◌, List, [], ◌∷◌, length, Option, Some, None, Result, Ok, Err, nat_lt, nat_eq, codes, if◌then◌else◌}
 use Rattle.text_lines.specs.Lines.{Line}
 use Rattle.flow_model.specs.Routing.{Row}
 use Rattle.flow_paths.specs.DualRows.{Length, Potential}

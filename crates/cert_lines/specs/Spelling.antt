@@ -1,5 +1,5 @@
 -- The lines of a certificate, spelled.
-use Rattle.std.specs.Prelude.{◌≡◌, ℕ, ◌/◌, ◌%◌, ◌<◌, ◌≤◌, Bool, true, false, List, [], ◌∷◌, ◌++◌, length, map, codes, All, if◌then◌else◌, slice_index}
+use Rattle.std.specs.Prelude.{◌≡◌, ℕ, ◌/◌, ◌%◌, ◌<◌, ◌≤◌, Bool, List, [], ◌∷◌, length, map, codes, if◌then◌else◌, slice_index}
 use Rattle.std.specs.List.{AllByRecursion}
 use Rattle.std.specs.Fmt.{decimal}
 use Rattle.text_lines.specs.Lines.{Line, IsInside}
@@ -9,7 +9,7 @@ use Rattle.flow_paths.specs.declared.certificate.Printed.{Printed}
 use Rattle.cert_names.specs.Sheet.{Sheet, node_word, cell_word, commodity_word, AreNames}
 use Rattle.line_writer.specs.Spelling.{fraction_word, decimal_word}
 use Rattle.gap_fraction.specs.declared.fraction.TheConstants.{MAX_PART}
-use Rattle.mcf_limits.specs.declared.TheConstants.{MAX_GAP, MAX_LENGTH, MAX_PATH_CELLS, MAX_PHASES, MAX_UNITS}
+use Rattle.mcf_limits.specs.declared.TheConstants.{MAX_LENGTH, MAX_PATH_CELLS}
 
 abbrev pub verdict_words : Bool → Line
 verdict_words closed = codes "verdict" ∷ (if closed then codes "closed" else codes "open") ∷ []

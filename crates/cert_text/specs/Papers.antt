@@ -1,7 +1,6 @@
 -- The whole certificate and the whole routing, read.
 use Rattle.std.specs.Prelude.{ℕ, Bool, true, false, List, [], ◌∷◌, Option, Some, None, Result, Ok, Err, codes, if◌then◌else◌}
 use Rattle.text_lines.specs.Lines.{Line}
-use Rattle.flow_model.specs.Routing.{Row}
 use Rattle.flow_paths.specs.DualRows.{DualRows}
 use Rattle.flow_paths.specs.declared.certificate.Routing.{Routing}
 use Rattle.flow_paths.specs.declared.certificate.Printed.{Printed}

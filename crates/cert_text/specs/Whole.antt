@@ -1,5 +1,5 @@
 -- A text as a certificate or a routing, and what its head says.
-use Rattle.std.specs.Prelude.{ℕ, Bool, true, false, List, Result, Ok, Err, codes, if◌then◌else◌}
+use Rattle.std.specs.Prelude.{Bool, true, false, List, Result, Ok, codes}
 use Rattle.text_lines.specs.Lines.{Line}
 use Rattle.cert_names.specs.Sheet.{Sheet}
 use Rattle.cert_names.specs.Modes.{link_mode_of, module_mode_of}

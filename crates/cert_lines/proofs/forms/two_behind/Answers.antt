@@ -1,4 +1,4 @@
-use Rattle.std.proofs.Common.{◌∷◌, List, ℕ, sym, ap, ◌∙◌}
+use Rattle.std.proofs.Common.{◌∷◌, sym, ap, ◌∙◌}
 use Rattle.text_lines.specs.Lines.{Line}
 use Rattle.cert_lines.proofs.LineForms.{two_too_many}
 use Rattle.cert_lines.proofs.forms.two_behind.Goals as goal

@@ -1,4 +1,4 @@
-use Rattle.std.proofs.Common.{◌≡◌, true, sym, arith, ◌∙◌}
+use Rattle.std.proofs.Common.{◌≡◌, true, sym}
 use Rattle.cert_lines.specs.Numbers.{is_number}
 use Rattle.cert_lines.proofs.NumberSteps.{one_more, over}
 use Rattle.cert_lines.proofs.numbers.number_within.Goals as goal

@@ -1,6 +1,5 @@
-use Rattle.std.proofs.Common.{◌≡◌, ◌+◌, ◌<◌, ◌≤◌, ◌++◌, ◌∷◌, [], List, true, false, sym, ap, subst, ◌∙◌, arith, length, take}
+use Rattle.std.proofs.Common.{◌≡◌, true, false, sym, ap, ◌∙◌}
 use Rattle.std.specs.Prelude.{codes}
-use Rattle.std.proofs.lemmas.List.{length_push}
 use Rattle.text_lines.specs.Lines.{words_of, lines_of}
 use Rattle.cert_lines.specs.Rows.{length_row}
 use Rattle.cert_lines.specs.Forms.{begins}

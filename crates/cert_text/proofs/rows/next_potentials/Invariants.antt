@@ -1,7 +1,6 @@
-use Rattle.std.proofs.Common.{◌≡◌, ◌+◌, ◌≤◌, length}
+use Rattle.std.proofs.Common.{◌≡◌, length}
 use Rattle.std.specs.Prelude.{codes}
 use Rattle.text_lines.specs.Lines.{lines_of}
-use Rattle.mcf_limits.specs.declared.TheConstants.{MAX_PATH_CELLS}
 use Rattle.cert_lines.specs.Rows.{potential_row}
 use Rattle.cert_text.specs.Reading.{rows_from}
 use Rattle.cert_text.specs.Views.{HasRoom}
