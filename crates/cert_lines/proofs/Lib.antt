@@ -1,0 +1,5 @@
+pub mod CellSteps
+pub mod LineForms
+pub mod NumberLaws
+pub mod NumberSteps
+pub mod ValueSteps

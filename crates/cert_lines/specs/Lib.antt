@@ -1,0 +1,6 @@
+pub mod Counts
+pub mod Forms
+pub mod HeadLines
+pub mod Numbers
+pub mod Rows
+pub mod Spelling

@@ -1,0 +1,19 @@
+//! The lines of a certificate and of a routing, each read and spelled exactly.
+#![tactic(auto)]
+
+mod forms;
+mod head_lines;
+mod net_line;
+mod numbers;
+mod paths;
+mod potentials;
+mod refusal;
+mod rows;
+
+pub use forms::{begins, one_behind};
+pub use head_lines::{gap_line, is_fixed, phases_line, scale_line, value_line, verdict_line};
+pub use net_line::counts_line;
+pub use paths::path_row;
+pub use potentials::potential_row;
+pub use refusal::{CertEnd, CertKind, CertRefusal};
+pub use rows::length_row;

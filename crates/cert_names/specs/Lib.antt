@@ -1,0 +1,3 @@
+pub mod Sheet
+pub mod Modes
+pub mod NameSets

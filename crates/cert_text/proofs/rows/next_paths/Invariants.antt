@@ -1,0 +1,20 @@
+use Rattle.std.proofs.Common.{◌≡◌, ◌+◌, ◌≤◌, length}
+use Rattle.std.specs.Prelude.{codes}
+use Rattle.text_lines.specs.Lines.{lines_of}
+use Rattle.mcf_limits.specs.declared.TheConstants.{MAX_PATH_CELLS}
+use Rattle.cert_lines.specs.Rows.{path_row}
+use Rattle.cert_text.specs.Reading.{rows_from}
+use Rattle.cert_text.specs.Views.{HasRoom}
+use Rattle.cert_text.proofs.RowSteps.{with_front}
+use Rattle.cert_text.proofs.rows.next_paths.Given as goal
+
+abbrev pub invariant-rows : goal.invariant-rows
+invariant-rows l = record {
+  so_far : with_front l.paths (rows_from (codes "path") (path_row l.names) l.at.at (lines_of l.at.rest.now)) ≡ rows_from (codes "path") (path_row l.names) l.fn.place.at (lines_of l.fn.place.rest.now);
+  room : HasRoom l.at;
+  buffer : length l.cells ≡ MAX_PATH_CELLS;
+  count : length l.paths + l.fn.place.at ≤ l.at.at;
+}
+
+abbrev pub decreases-rows : goal.decreases-rows
+decreases-rows l = length l.at.rest.now

@@ -1,0 +1,4 @@
+pub mod Papers
+pub mod Reading
+pub mod Views
+pub mod Whole

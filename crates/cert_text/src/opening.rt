@@ -1,0 +1,208 @@
+//! The form of a text and its modes, from its first lines.
+
+ghost use Rattle.std.specs.Prelude.{◌≡◌, ◌≤◌, ◌+◌, ◌^◌, ◌<◌, IfOk, length};
+ghost use Rattle.text_lines.specs.Lines.{words_of, lines_of};
+ghost use Rattle.cert_lines.specs.Forms.{seen};
+ghost use Rattle.cert_text.specs.Views.{place_view, HasRoom};
+ghost use Rattle.cert_text.specs.Reading.{next_line};
+ghost use Rattle.cert_text.specs.Papers.{header};
+ghost use Rattle.cert_text.specs.Whole.{link_mode_line, module_mode_line, behind_verdict, head_in};
+
+use crate::place::{Place, split};
+use cert_lines::{CertKind, CertRefusal, is_fixed, one_behind, verdict_line};
+use cert_names::{LinkMode, ModuleMode, link_mode_of, module_mode_of};
+use mcf_limits::MAX_CERT_BYTES;
+
+/// The form of a text, and how links and modules are read.
+#[derive(Clone, Copy, Debug, PartialEq, Eq)]
+pub struct CertHead {
+    /// A certificate, and not a routing alone.
+    pub full: bool,
+    pub links: LinkMode,
+    pub modules: ModuleMode,
+}
+
+const CERTIFICATE: &[u8] = b"mcf-certificate 1";
+
+const ROUTING: &[u8] = b"mcf-routing 1";
+
+const LINKS: &[u8] = b"links";
+
+const MODULES: &[u8] = b"modules";
+
+// Whether the line is that of a certificate, or that of a routing.
+fn form_of(line: &[u8]) -> Option<bool>
+    ensures { result ≡ form_of (words_of line.now) }
+{
+    if is_fixed(CERTIFICATE, line) {
+        return Some(true);
+    }
+    if is_fixed(ROUTING, line) {
+        return Some(false);
+    }
+    None
+}
+
+ghost use Rattle.cert_text.specs.Papers.{form_of};
+
+/// Whether the text is one of a certificate, and not of a routing, and the place behind its first line.
+#[tactic(auto, using(crate::proofs::LineSteps::has_line), unfolding(crate::specs::Papers::header))]
+pub fn header(text: &[u8]) -> Result<(bool, Place<'_>), CertRefusal>
+    requires { length text.now ≤ MAX_CERT_BYTES }
+    ensures exact { seen (λ x. (x.0, place_view x.1)) result ≡ header (lines_of text.now) }
+    ensures room { IfOk result (λ x. HasRoom x.1) }
+{
+    match split(Place { at: 1, rest: text }) {
+        Some((line, after)) => match form_of(line) {
+            Some(full) => Ok((full, after)),
+            None => Err(CertRefusal {
+                line: 1,
+                kind: CertKind::NoHeader,
+            }),
+        },
+        None => match form_of(text) {
+            Some(_) => Err(CertRefusal {
+                line: 1,
+                kind: CertKind::Syntax,
+            }),
+            None => Err(CertRefusal {
+                line: 1,
+                kind: CertKind::NoHeader,
+            }),
+        },
+    }
+}
+
+#[tactic(auto, unfolding(crate::specs::Whole::link_mode_line))]
+fn link_mode_line(line: &[u8]) -> Result<LinkMode, CertKind>
+    ensures { result ≡ link_mode_line (words_of line.now) }
+{
+    let word = match one_behind(LINKS, line) {
+        Some(word) => word,
+        None => return Err(CertKind::Syntax),
+    };
+    match link_mode_of(word) {
+        Some(mode) => Ok(mode),
+        None => Err(CertKind::Syntax),
+    }
+}
+
+#[tactic(auto, unfolding(crate::specs::Whole::module_mode_line))]
+fn module_mode_line(line: &[u8]) -> Result<ModuleMode, CertKind>
+    ensures { result ≡ module_mode_line (words_of line.now) }
+{
+    let word = match one_behind(MODULES, line) {
+        Some(word) => word,
+        None => return Err(CertKind::Syntax),
+    };
+    match module_mode_of(word) {
+        Some(mode) => Ok(mode),
+        None => Err(CertKind::Syntax),
+    }
+}
+
+// How links are read, and the place behind that line.
+#[tactic(auto, using(crate::proofs::LineSteps::has_line), unfolding(crate::specs::Reading::next_line))]
+fn next_links(place: Place<'_>) -> Result<(LinkMode, Place<'_>), CertRefusal>
+    requires { HasRoom place }
+    ensures exact { seen (λ x. (x.0, place_view x.1)) result ≡ next_line link_mode_line (place_view place.entry) }
+    ensures room { IfOk result (λ x. HasRoom x.1) }
+{
+    let (line, after) = match split(place) {
+        Some(parts) => parts,
+        None => {
+            return Err(CertRefusal {
+                line: place.at,
+                kind: CertKind::Syntax,
+            });
+        }
+    };
+    match link_mode_line(line) {
+        Ok(mode) => Ok((mode, after)),
+        Err(kind) => Err(CertRefusal {
+            line: place.at,
+            kind,
+        }),
+    }
+}
+
+// How modules are read, and the place behind that line.
+#[tactic(auto, using(crate::proofs::LineSteps::has_line), unfolding(crate::specs::Reading::next_line))]
+fn next_modules(place: Place<'_>) -> Result<(ModuleMode, Place<'_>), CertRefusal>
+    requires { HasRoom place }
+    ensures { seen (λ x. (x.0, place_view x.1)) result ≡ next_line module_mode_line (place_view place.entry) }
+{
+    let (line, after) = match split(place) {
+        Some(parts) => parts,
+        None => {
+            return Err(CertRefusal {
+                line: place.at,
+                kind: CertKind::Syntax,
+            });
+        }
+    };
+    match module_mode_line(line) {
+        Ok(mode) => Ok((mode, after)),
+        Err(kind) => Err(CertRefusal {
+            line: place.at,
+            kind,
+        }),
+    }
+}
+
+// The place behind the verdict, where there is one.
+#[tactic(auto, using(crate::proofs::LineSteps::has_line), unfolding(crate::specs::Reading::next_line, crate::specs::Whole::behind_verdict))]
+fn behind_verdict(full: bool, place: Place<'_>) -> Result<Place<'_>, CertRefusal>
+    requires { HasRoom place }
+    ensures exact { seen place_view result ≡ behind_verdict full (place_view place.entry) }
+    ensures room { IfOk result HasRoom }
+{
+    if !full {
+        return Ok(place);
+    }
+    let (line, after) = match split(place) {
+        Some(parts) => parts,
+        None => {
+            return Err(CertRefusal {
+                line: place.at,
+                kind: CertKind::Syntax,
+            });
+        }
+    };
+    match verdict_line(line) {
+        Ok(_) => Ok(after),
+        Err(kind) => Err(CertRefusal {
+            line: place.at,
+            kind,
+        }),
+    }
+}
+
+/// The form of a text and its modes, from lines 1 to 4 of a certificate or 1 to 3 of a routing: else the first of these
+/// lines that has a fault.
+#[tactic(auto, unfolding(crate::specs::Whole::head_in))]
+pub fn cert_head(text: &[u8]) -> Result<CertHead, CertRefusal>
+    requires { length text.now ≤ MAX_CERT_BYTES }
+    ensures { result ≡ head_in (lines_of text.now) }
+{
+    let (full, place) = match header(text) {
+        Ok(first) => first,
+        Err(refusal) => return Err(refusal),
+    };
+    let place = match behind_verdict(full, place) {
+        Ok(place) => place,
+        Err(refusal) => return Err(refusal),
+    };
+    let (links, place) = match next_links(place) {
+        Ok(read) => read,
+        Err(refusal) => return Err(refusal),
+    };
+    match next_modules(place) {
+        Ok((modules, _)) => Ok(CertHead {
+            full,
+            links,
+            modules,
+        }),
+        Err(refusal) => Err(refusal),
+    }
+}
