@@ -1,1 +1,9 @@
 pub mod Units
+pub mod Short
+pub mod Sizes
+pub mod Scaling
+pub mod ScaleEnd
+pub mod Seen
+pub mod Ascending
+pub mod Largest
+pub mod Stages

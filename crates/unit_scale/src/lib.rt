@@ -1,6 +1,23 @@
-//! Stand-in.
+//! Decimals of words, and the network in whole units that the rows of a text stand for.
 #![tactic(auto)]
-mod options;
+
+mod cells;
+mod commodities;
+mod compare;
 mod decimal;
+mod demands;
+mod largest;
+mod laws;
+mod links;
+mod number;
+mod options;
+mod refusal;
+mod scaled;
+mod short;
+mod sizes;
+
+pub use decimal::{Decimal, UnitFault, read_decimal, units};
+pub use laws::{decimals_are_least, decimals_are_unique};
 pub use options::{LinkMode, ModuleMode, NetOptions};
-pub use decimal::{Decimal, read_decimal};
+pub use refusal::ScaleEnd;
+pub use scaled::{Scaled, scale};

@@ -1,0 +1,139 @@
+//! The network of a text, in whole units.
+
+ghost use Rattle.std.specs.Prelude.{◌≡◌};
+ghost use Rattle.unit_scale.specs.ScaleEnd.{Scales, ScalesByParts};
+
+use crate::cells::cells_of;
+use crate::commodities::{hop_count, kept_demands};
+use crate::demands::demand_sizes;
+use crate::links::link_sizes;
+use crate::options::NetOptions;
+use crate::refusal::{ScaleEnd, refused};
+use crate::sizes::least_decimals;
+use flow_model::Net;
+use sndlib_read::{NetKind, RawNet};
+use std::alloc::Global;
+use std::marker::Model;
+
+/// A network in units of 10^-decimals, and what was left out of its rows. It is seen as its options, its network, the decimals, the demand of each commodity and two counts.
+#[derive(Drop)]
+pub struct Scaled {
+    options: NetOptions,
+    net: Net,
+    decimals: u8,
+    rows: Vec<u32>,
+    left: u32,
+    hops: u32,
+}
+
+impl Model for Scaled {
+    ghost use Rattle.unit_scale.specs.Scaling.{ScaledNet};
+
+    ghost Value = { ScaledNet };
+
+    ghost use Rattle.unit_scale.specs.Ascending.{AreKeptRows};
+
+    ghost view = { λ s. record { options = s.options; net = s.net; decimals = s.decimals; kept = s.rows.items; left = s.left; hops = s.hops } };
+
+    ghost invariant = { λ s. AreKeptRows s.rows.items };
+}
+
+// The network of the rows, stage by stage.
+fn scale_by_parts(alloc: Global, raw: &RawNet<'_>, options: NetOptions) -> Result<Scaled, ScaleEnd>
+    ensures { ScalesByParts raw.now options result }
+{
+    let links = match link_sizes(alloc, raw, options.modules) {
+        Ok(links) => links,
+        Err(end) => return Err(end),
+    };
+    let demands = match demand_sizes(alloc, raw) {
+        Ok(demands) => demands,
+        Err(end) => return Err(end),
+    };
+    let decimals = least_decimals(&links, &demands);
+    let cells = match cells_of(alloc, raw, options, &links, decimals) {
+        Ok(cells) => cells,
+        Err(end) => return Err(end),
+    };
+    let kept = match kept_demands(alloc, raw, &demands, decimals) {
+        Ok(kept) => kept,
+        Err(end) => return Err(end),
+    };
+    if kept.commodities.as_slice().is_empty() {
+        return Err(refused(NetKind::NoDemand, raw.end_line()));
+    }
+    Ok(Scaled {
+        options,
+        net: Net::new(raw.nodes(), cells, kept.commodities),
+        decimals,
+        rows: kept.rows,
+        left: kept.left,
+        hops: hop_count(raw),
+    })
+}
+
+/// The network that the rows stand for under the options, with the least number of decimals; or the first refusal: a number, capacity or amount that is no whole number of millionths (N8), one that is over its limit (N9), no commodity (N10).
+pub fn scale(alloc: Global, raw: &RawNet<'_>, options: NetOptions) -> Result<Scaled, ScaleEnd>
+    ensures { Scales raw.now options result }
+{
+    scale_by_parts(alloc, raw, options)
+}
+
+impl Scaled {
+    ghost use Rattle.std.specs.Prelude.{◌≡◌, ◌<◌, ◌≤◌, ◌==◌, length, position, slice_index};
+    ghost use Rattle.unit_scale.specs.Ascending.{AreKeptRows};
+
+    /// How the rows were read.
+    pub fn options(&self) -> NetOptions
+        ensures { result ≡ self.now.options }
+    {
+        self.options
+    }
+
+    /// The network, in units.
+    pub fn net(&self) -> &Net
+        ensures { result.now ≡ self.now.net }
+    {
+        &self.net
+    }
+
+    /// How many decimals a unit has: it is 10^-decimals.
+    pub fn decimals(&self) -> u8
+        ensures { result ≡ self.now.decimals }
+    {
+        self.decimals
+    }
+
+    /// The demand of the commodity of that number.
+    pub fn demand_of(&self, k: u32) -> u32
+        requires { k < length self.now.kept }
+        ensures value { result ≡ slice_index self.now.kept k }
+        ensures rows { AreKeptRows self.now.kept }
+    {
+        self.rows[k as usize]
+    }
+
+    /// The commodity of the demand of that number, and `None` exactly where it was left out.
+    pub fn commodity_of(&self, demand: u32) -> Option<u32>
+        ensures { result ≡ position (λ row. row == demand) self.now.kept }
+    {
+        match self.rows.as_slice().binary_search(&demand) {
+            Ok(k) => Some(k as u32),
+            Err(_) => None,
+        }
+    }
+
+    /// How many demands were left out: of amount zero, or from a node to itself.
+    pub fn left(&self) -> u32
+        ensures { result ≡ self.now.left }
+    {
+        self.left
+    }
+
+    /// How many demands have a number as their longest path.
+    pub fn hops(&self) -> u32
+        ensures { result ≡ self.now.hops }
+    {
+        self.hops
+    }
+}
