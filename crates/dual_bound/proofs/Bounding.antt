@@ -13,6 +13,7 @@ use Rattle.flow_model.specs.Groups.{is_source, group_sources}
 use Rattle.flow_model.specs.Lengths.{AreLengths}
 use Rattle.flow_model.specs.Least.{HasCut, IsCutOff}
 use Rattle.flow_model.specs.Bound.{IsPotential, volume, weighted_distance}
+use Rattle.net_graph.specs.Reach.{IsFirstCut}
 use Rattle.fixed_exp.specs.Far.{EmptyAreFar}
 use Rattle.fixed_exp.specs.Kept.{no_cell}
 use Rattle.flow_paths.specs.DualRows.{Length, Potential, DualRows}
@@ -202,3 +203,13 @@ if-both X E (Err e) P Q p q = tt
 pub cut-zero : (net : Network) (lengths : List ℕ) (dual : DualRows) (value : Fraction) → lengths ≡ cut_lengths net.cells → ShowsBound net lengths dual → value ≡ upper_of net dual → value.num ≡ 0
 cut-zero net lengths dual value e s v =
     ap (λ (f : Fraction). f.num) v ∙ (ap (volume net.cells) (s.lengths_are ∙ e) ∙ cut-volume net.cells)
+
+-- a first commodity that is cut off is one
+pub has-cut : (net : Network) (k : ℕ) → IsFirstCut net k → HasCut net
+has-cut net k f = go net.commodities refl
+  where
+    go : (ks : List Commodity) → ks ≡ net.commodities → HasCut net
+    go [] e = absurd (omega (arith, f.inside, ap (λ (xs : List Commodity). length xs) e))
+    go (d ∷ ks) e =
+        let x = get_or net.commodities k d in
+        (k, x, f.inside, get_or_default net.commodities k x d f.inside, f.cut x (slice_get-get_or net.commodities k d f.inside))

@@ -1,9 +1,9 @@
 //! The bound of lengths, and the bound of a cut.
 
-ghost use Rattle.std.specs.Prelude.{◌≡◌, ◌≤◌, IfOk, All, length};
-ghost use Rattle.flow_model.specs.Least.{HasCut};
+ghost use Rattle.std.specs.Prelude.{◌≡◌, ℕ, ◌≤◌, IfOk, All, length};
 ghost use Rattle.flow_model.specs.Lengths.{AreLengths};
 ghost use Rattle.fixed_exp.specs.Far.{EmptyAreFar};
+ghost use Rattle.net_graph.specs.Reach.{IsFirstCut};
 ghost use Rattle.flow_paths.specs.Certificate.{upper_of};
 ghost use Rattle.dual_bound.specs.Bounds.{CanDivide, IsBoundOf, IsCutDual, IsCutPotential, IsDistance, ShowsBound, cut_lengths};
 ghost use Rattle.dual_bound.specs.Rows.{IsFilledWith, dual_of, sources_of};
@@ -94,11 +94,11 @@ pub fn bound<R: Threads + Sync>(
     finished(alloc, net, lengths, &rows)
 }
 
-/// The bound of a network with a cut, 0: a cell without capacity has length 1 and every other 0; a node that a source
+/// The bound of a network with a first cut, 0: a cell without capacity has length 1 and every other 0; a node that a source
 /// reaches over positive cells has potential 0 in the source's row, and every other 1.
 pub fn cut_bound(alloc: Global, net: &Net, graph: &Graph) -> Result<Bounded, AllocError>
     requires graph { graph.now ≡ net.now }
-    requires cut { HasCut net.now }
+    requires cut { (k : ℕ) × IsFirstCut net.now k }
     ensures dual { IfOk result (λ b. IsCutDual net.now b.dual) }
     ensures shows { IfOk result (λ b. ShowsBound net.now (cut_lengths net.now.cells) b.dual) }
     ensures value { IfOk result (λ b. b.value ≡ upper_of net.now b.dual) }
