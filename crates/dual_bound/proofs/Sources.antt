@@ -1,0 +1,56 @@
+-- The sources of commodities, in the order of nodes.
+use Rattle.std.proofs.Common.{◌≡◌, inl, inr, ℕ, zero, suc, ◌+◌, ◌<◌, List, [], ◌∷◌, ◌++◌, Bool, true, false, cond, eqb, length, get_or, set, take, refl, sym, ap, ◌∙◌, arith, add-one, get_or-set_other, get_or-set_same}
+use Rattle.std.specs.Prelude.{◌||◌}
+use Rattle.std.specs.List.{filter, list_any, range_with_len}
+use Rattle.std.proofs.lemmas.List.{take_more}
+use Rattle.std.proofs.lemmas.List.Elements.{filter-append}
+use Rattle.std.proofs.lemmas.Bool.{cases_eq, eq-eqb, ne_eqb}
+use Rattle.flow_model.specs.declared.net.Commodity.{Commodity}
+use Rattle.flow_model.specs.Groups.{is_source}
+use Rattle.dual_bound.specs.Rows.{mark_at}
+
+any-append : (p : Commodity → Bool) (xs ys : List Commodity) → list_any p (xs ++ ys) ≡ (list_any p xs || list_any p ys)
+any-append p [] ys = refl
+any-append p (x ∷ xs) ys = step (p x) (list_any p xs) (list_any p (xs ++ ys)) (list_any p ys) (any-append p xs ys)
+  where
+    step : (a b c d : Bool) → c ≡ (b || d) → (a || c) ≡ ((a || b) || d)
+    step true b c d e = refl
+    step false b c d e = e
+
+or-true : (a : Bool) → (a || (true || false)) ≡ true
+or-true true = refl
+or-true false = refl
+
+or-false : (a : Bool) → (a || (false || false)) ≡ a
+or-false true = refl
+or-false false = refl
+
+source-more : (xs : List Commodity) (i v : ℕ) (d : Commodity) → i < length xs → is_source (take (i + 1) xs) v ≡ (is_source (take i xs) v || (eqb (get_or xs i d).from v || false))
+source-more xs i v d l = ap (λ (ys : List Commodity). is_source ys v) (take_more xs i d l) ∙ any-append (λ k. eqb k.from v) (take i xs) (get_or xs i d ∷ [])
+
+-- the source of one more commodity is marked
+pub marks-more : (xs : List Commodity) (marks : List Bool) (i from : ℕ) (d : Commodity) → i < length xs → (get_or xs i d).from ≡ from → from < length marks
+    → ((v : ℕ) → v < length marks → mark_at marks v ≡ is_source (take i xs) v) → (v : ℕ) → v < length marks → mark_at (set marks from true) v ≡ is_source (take (i + 1) xs) v
+marks-more xs marks i from d l is inside h v w = elim (cases_eq v from) [
+  | inl e ↦
+      let here : mark_at (set marks from true) v ≡ true = ap (mark_at (set marks from true)) e ∙ get_or-set_same marks from true false inside in
+      let test : eqb (get_or xs i d).from v ≡ true = eq-eqb (get_or xs i d).from v (is ∙ sym e) in
+      here ∙ sym (source-more xs i v d l ∙ rw test (or-true (is_source (take i xs) v)))
+  | inr n ↦
+      let there : mark_at (set marks from true) v ≡ mark_at marks v = get_or-set_other marks from v true false n in
+      let test : eqb (get_or xs i d).from v ≡ false = ne_eqb (get_or xs i d).from v (λ e. n (sym e ∙ is)) in
+      there ∙ (h v w ∙ sym (source-more xs i v d l ∙ rw test (or-false (is_source (take i xs) v))))
+]
+
+range-more : (a n : ℕ) → range_with_len a (suc n) ≡ range_with_len a n ++ (a + n) ∷ []
+range-more a zero = let e : a + 0 ≡ a = omega arith in rw e refl
+range-more a (suc n) =
+    let e : a + 1 + n ≡ a + suc n = omega arith in
+    ap (λ (xs : List ℕ). a ∷ xs) (range-more (a + 1) n ∙ ap (λ (x : ℕ). range_with_len (a + 1) n ++ x ∷ []) e)
+
+-- the sources below one more node
+pub sources-more : (p : ℕ → Bool) (v : ℕ) (sources : List ℕ) (b : Bool) → b ≡ p v → sources ≡ filter p (range_with_len 0 v) → sources ++ cond b (v ∷ []) [] ≡ filter p (range_with_len 0 (v + 1))
+sources-more p v sources b e h =
+    let zeroth : 0 + v ≡ v = omega arith in
+    let more : range_with_len 0 (suc v) ≡ range_with_len 0 v ++ v ∷ [] = range-more 0 v ∙ ap (λ (x : ℕ). range_with_len 0 v ++ x ∷ []) zeroth in
+    rw (add-one, h, e) (sym (ap (filter p) more ∙ filter-append p (range_with_len 0 v) (v ∷ [])))

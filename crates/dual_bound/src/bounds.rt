@@ -1,0 +1,121 @@
+//! The bound of lengths, and the bound of a cut.
+
+ghost use Rattle.std.specs.Prelude.{◌≡◌, ℕ, ◌≤◌, IfOk, All, length};
+ghost use Rattle.flow_model.specs.Lengths.{AreLengths};
+ghost use Rattle.fixed_exp.specs.Far.{EmptyAreFar};
+ghost use Rattle.net_graph.specs.Reach.{IsFirstCut};
+ghost use Rattle.flow_paths.specs.Certificate.{upper_of};
+ghost use Rattle.dual_bound.specs.Bounds.{CanDivide, IsBoundOf, IsCutDual, IsCutPotential, IsDistance, ShowsBound, cut_lengths};
+ghost use Rattle.dual_bound.specs.Rows.{IsFilledWith, dual_of, sources_of};
+ghost use Rattle.flow_model.specs.Groups.{group_sources};
+
+use crate::dual::{are_filled, assembled};
+use crate::rows::{Row, fill_all, mark_all, source_rows};
+use crate::value::upper;
+use flow_model::{Cell, Net};
+use flow_paths::Dual;
+use gap_fraction::Frac;
+use mcf_limits::MAX_LENGTH;
+use net_graph::Graph;
+use std::alloc::{AllocError, Global};
+use std::thread::Threads;
+
+/// A dual, and the bound that it gives: volume over weighted distance.
+#[derive(Drop)]
+pub struct Bounded {
+    pub dual: Dual,
+    pub value: Frac,
+}
+
+/// The dual of the rows with its value.
+fn finished(alloc: Global, net: &Net, lengths: &[u64], rows: &[Row]) -> Result<Bounded, AllocError>
+    requires rows { All (λ row. All (λ n. n ≤ MAX_LENGTH) row.values.items) rows.now }
+    requires divides { CanDivide net.now lengths.now (dual_of lengths.now rows.now) }
+    ensures dual { IfOk result (λ b. b.dual ≡ dual_of lengths.now rows.now) }
+    ensures value { IfOk result (λ b. b.value ≡ upper_of net.now b.dual) }
+{
+    let _cells = net.cells();
+    let dual = assembled(alloc, lengths, rows)?;
+    let value = upper(alloc, net, lengths, &dual)?;
+    Ok(Bounded { dual, value })
+}
+
+/// A row of distances for each source.
+fn distance_rows<R: Threads + Sync>(
+    rt: &R,
+    alloc: Global,
+    net: &Net,
+    graph: &Graph,
+    lengths: &[u64],
+) -> Result<Vec<Row>, AllocError>
+    requires graph { graph.now ≡ net.now }
+    requires lengths { AreLengths net.now.cells lengths.now }
+    ensures sources { IfOk result (λ rows. sources_of rows.items ≡ group_sources net.now) }
+    ensures filled { IfOk result (λ rows. All (IsFilledWith net.now.nodes (IsDistance net.now.cells lengths.now)) rows.items) }
+{
+    let mut rows = source_rows(alloc, net)?;
+    fill_all(rt, alloc, graph, lengths, &mut rows);
+    if are_filled(&rows) {
+        Ok(rows)
+    } else {
+        Err(AllocError)
+    }
+}
+
+/// A row of marks for each source: 0 for what it reaches, 1 for what it does not.
+fn cut_rows(alloc: Global, net: &Net, graph: &Graph) -> Result<Vec<Row>, AllocError>
+    requires graph { graph.now ≡ net.now }
+    ensures sources { IfOk result (λ rows. sources_of rows.items ≡ group_sources net.now) }
+    ensures filled { IfOk result (λ rows. All (IsFilledWith net.now.nodes (IsCutPotential net.now.cells)) rows.items) }
+{
+    let mut rows = source_rows(alloc, net)?;
+    mark_all(alloc, graph, &mut rows)?;
+    Ok(rows)
+}
+
+/// The bound of these lengths: the dual has every cell's length in order, and for each source, in order of nodes, the
+/// distance of each node or 2^62 where there is none. It may wait for its own threads.
+pub fn bound<R: Threads + Sync>(
+    rt: &R,
+    alloc: Global,
+    net: &Net,
+    graph: &Graph,
+    lengths: &[u64],
+) -> Result<Bounded, AllocError>
+    requires graph { graph.now ≡ net.now }
+    requires lengths { AreLengths net.now.cells lengths.now }
+    requires empty { EmptyAreFar net.now.cells lengths.now }
+    ensures dual { IfOk result (λ b. IsBoundOf net.now lengths.now b.dual) }
+    ensures shows { IfOk result (λ b. ShowsBound net.now lengths.now b.dual) }
+    ensures value { IfOk result (λ b. b.value ≡ upper_of net.now b.dual) }
+{
+    let _cells = net.cells();
+    let rows = distance_rows(rt, alloc, net, graph, lengths)?;
+    finished(alloc, net, lengths, &rows)
+}
+
+/// The bound of a network with a first cut, 0: a cell without capacity has length 1 and every other 0; a node that a source
+/// reaches over positive cells has potential 0 in the source's row, and every other 1.
+pub fn cut_bound(alloc: Global, net: &Net, graph: &Graph) -> Result<Bounded, AllocError>
+    requires graph { graph.now ≡ net.now }
+    requires cut { (k : ℕ) × IsFirstCut net.now k }
+    ensures dual { IfOk result (λ b. IsCutDual net.now b.dual) }
+    ensures shows { IfOk result (λ b. ShowsBound net.now (cut_lengths net.now.cells) b.dual) }
+    ensures value { IfOk result (λ b. b.value ≡ upper_of net.now b.dual) }
+    ensures zero { IfOk result (λ b. b.value.num ≡ 0) }
+{
+    let lengths = lengths_of_cut(alloc, net.cells())?;
+    let rows = cut_rows(alloc, net, graph)?;
+    finished(alloc, net, &lengths, &rows)
+}
+
+/// 1 for a cell without capacity, 0 for every other.
+fn lengths_of_cut(alloc: Global, cells: &[Cell]) -> Result<Vec<u64>, AllocError>
+    ensures { IfOk result (λ lengths. lengths.items ≡ cut_lengths cells.now) }
+{
+    let mut lengths = Vec::with_capacity(alloc, cells.len())?;
+    for cell in cells {
+        lengths.push(u64::from(cell.cap == 0))?;
+    }
+    Ok(lengths)
+}

@@ -1,0 +1,50 @@
+//! The dual that lengths and rows make.
+
+ghost use Rattle.std.specs.Prelude.{◌≡◌, ℕ, ◌≤◌, All, IsTrue, IfOk, length, slice_index_or, []};
+ghost use Rattle.flow_paths.specs.DualRows.{DualRows};
+ghost use Rattle.dual_bound.specs.Bounds.{length_rows};
+ghost use Rattle.dual_bound.specs.Rows.{dual_of, potentials_of};
+
+use crate::rows::Row;
+use flow_paths::Dual;
+use mcf_limits::{MAX_CELLS, MAX_LENGTH};
+use std::alloc::{AllocError, Global};
+
+/// A row for each length, in order of cells.
+fn with_lengths(alloc: Global, lengths: &[u64]) -> Result<Dual, AllocError>
+    requires few { length lengths.now ≤ MAX_CELLS }
+    requires small { All (λ n. n ≤ MAX_LENGTH) lengths.now }
+    ensures { IfOk result (λ dual. dual ≡ dual_of lengths.now []) }
+{
+    let mut dual = Dual::new(alloc);
+    for (cell, length) in lengths.iter().enumerate() {
+        dual.push_length(cell as u16, *length)?;
+    }
+    Ok(dual)
+}
+
+/// The dual of these lengths and rows.
+pub fn assembled(alloc: Global, lengths: &[u64], rows: &[Row]) -> Result<Dual, AllocError>
+    requires few { length lengths.now ≤ MAX_CELLS }
+    requires small { All (λ n. n ≤ MAX_LENGTH) lengths.now }
+    requires rows { All (λ row. All (λ n. n ≤ MAX_LENGTH) row.values.items) rows.now }
+    ensures { IfOk result (λ dual. dual ≡ dual_of lengths.now rows.now) }
+{
+    let mut dual = with_lengths(alloc, lengths)?;
+    for row in rows {
+        dual.push_row(alloc, row.source, &row.values)?;
+    }
+    Ok(dual)
+}
+
+/// Whether every row was filled.
+pub fn are_filled(rows: &[Row]) -> bool
+    ensures { IsTrue result → All (λ row. IsTrue row.is_filled) rows.now }
+{
+    for row in rows {
+        if !row.is_filled {
+            return false;
+        }
+    }
+    true
+}
