@@ -1,1 +1,2 @@
 pub mod LeastPaths
+pub mod Rows

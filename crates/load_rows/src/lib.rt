@@ -3,7 +3,7 @@
 
 mod search;
 
-pub use search::least_path;
+pub use search::{is_least_path, least_path};
 
 #[cfg(test)]
 mod tests;

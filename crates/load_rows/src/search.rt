@@ -1,6 +1,6 @@
 //! A least path under the lengths of loads, by the search.
 
-ghost use Rattle.std.specs.Prelude.{◌≡◌, ◌<◌, ◌≤◌, All, IfOk, IfSome, length};
+ghost use Rattle.std.specs.Prelude.{◌≡◌, ◌<◌, ◌≤◌, All, IfOk, IfSome, IsTrue, length};
 ghost use Rattle.flow_model.specs.Lengths.{IsSetting};
 ghost use Rattle.load_rows.specs.Routed.{IsLeastPath};
 
@@ -43,5 +43,26 @@ pub fn least_path(
     match scratch.path_to(commodity.to) {
         None => Ok(None),
         Some(path) => Ok(Some(copy_of(alloc, path)?)),
+    }
+}
+
+/// Whether the search gives this path.
+pub fn is_least_path(
+    alloc: Global,
+    net: &Net,
+    setting: &Setting,
+    loads: &[u64],
+    k: u32,
+    path: &[u16],
+) -> Result<bool, AllocError>
+    requires setting { IsSetting setting.now }
+    requires loads { length loads.now ≡ length net.now.cells }
+    requires small { All (λ x. x ≤ MAX_LENGTH) loads.now }
+    requires k { k < length net.now.commodities }
+    ensures { IfOk result (λ b. IsTrue b → IsLeastPath net.now setting.now loads.now k path.now) }
+{
+    match least_path(alloc, net, setting, loads, k)? {
+        None => Ok(false),
+        Some(found) => Ok(found.as_slice() == path),
     }
 }

@@ -1,12 +1,16 @@
 //! Each row is a list of calls with their answers.
 
-ghost use Rattle.std.specs.Prelude.{◌≡◌, [], ◌∷◌, IfOk};
+ghost use Rattle.std.specs.Prelude.{◌≡◌, ℕ, [], ◌∷◌, IfOk, length};
+ghost use Rattle.flow_core.specs.Core.{idle};
+ghost use Rattle.load_table.specs.Seen.{IsPassOf};
+ghost use Rattle.load_table.specs.Views.{hand};
 
-use crate::least_path;
+use crate::is_least_path;
 use flow_model::{Cell, Commodity, Groups, Net, Setting};
-use load_table::Loads;
+use load_table::{Loads, Pass};
 use std::alloc::{AllocError, Global};
 use std::test::Fail;
+use std::thread::join;
 
 const FIRST: Setting = Setting {
     first: true,
@@ -118,14 +122,16 @@ fn one_claim_routes_two_demands(rt: HostRuntime) -> Result<(), Fail> {
     assert_eq!(rt; ticket, 0);
     let read = loads.read_cell(&mut pass, 0);
     assert_eq!(rt; read, 0);
-    let first = least_path(alloc, &net, &FIRST, &[0], 0)?.ok_or("a walk")?;
-    assert_eq!(rt; first.as_slice(), [0].as_slice());
-    let second = least_path(alloc, &net, &FIRST, &[0], 1)?.ok_or("a walk")?;
-    assert_eq!(rt; second.as_slice(), [0].as_slice());
+    let is_least = is_least_path(alloc, &net, &FIRST, &[0], 0, &[0])?;
+    assert!(rt; is_least);
+    let is_least = is_least_path(alloc, &net, &FIRST, &[0], 1, &[0])?;
+    assert!(rt; is_least);
     let word = loads.add_cell(&mut pass, 0, 0);
     assert_eq!(rt; word, 0);
     let word = loads.add_cell(&mut pass, 1, 0);
     assert_eq!(rt; word, 4);
+    let ticket = loads.claim(&mut pass);
+    assert_eq!(rt; ticket, 1);
     let mut into = [0];
     loads.close(pass, &mut into);
     assert_eq!(rt; into, [10]);
@@ -146,10 +152,12 @@ fn one_worker_takes_the_second_link(rt: HostRuntime) -> Result<(), Fail> {
     assert_eq!(rt; read, 0);
     let read = loads.read_cell(&mut pass, 1);
     assert_eq!(rt; read, 10);
-    let path = least_path(alloc, &net, &LATER, &[0, 10], 0)?.ok_or("a walk")?;
-    assert_eq!(rt; path.as_slice(), [1].as_slice());
+    let is_least = is_least_path(alloc, &net, &LATER, &[0, 10], 0, &[1])?;
+    assert!(rt; is_least);
     let word = loads.add_cell(&mut pass, 0, 1);
     assert_eq!(rt; word, 10);
+    let ticket = loads.claim(&mut pass);
+    assert_eq!(rt; ticket, 1);
     let mut into = [0, 0];
     loads.close(pass, &mut into);
     assert_eq!(rt; into, [0, 20]);
@@ -172,14 +180,76 @@ fn two_workers_add_to_one_cell(rt: HostRuntime) -> Result<(), Fail> {
     assert_eq!(rt; read, 0);
     let read = loads.read_cell(&mut second, 0);
     assert_eq!(rt; read, 0);
-    let there = least_path(alloc, &net, &FIRST, &[0], 0)?.ok_or("a walk")?;
-    assert_eq!(rt; there.as_slice(), [0].as_slice());
-    let back = least_path(alloc, &net, &FIRST, &[0], 1)?.ok_or("a walk")?;
-    assert_eq!(rt; back.as_slice(), [0].as_slice());
+    let is_least = is_least_path(alloc, &net, &FIRST, &[0], 0, &[0])?;
+    assert!(rt; is_least);
+    let is_least = is_least_path(alloc, &net, &FIRST, &[0], 1, &[0])?;
+    assert!(rt; is_least);
     let word = loads.add_cell(&mut first, 0, 0);
     assert_eq!(rt; word, 0);
     let word = loads.add_cell(&mut second, 1, 0);
     assert_eq!(rt; word, 5);
+    let ticket = loads.claim(&mut first);
+    assert_eq!(rt; ticket, 2);
+    let ticket = loads.claim(&mut second);
+    assert_eq!(rt; ticket, 3);
+    loads.join(&mut first, second);
+    let mut into = [0];
+    loads.close(first, &mut into);
+    assert_eq!(rt; into, [10]);
+    Ok(())
+}
+
+/// Claims once, and loads the one cell by the claimed group's demand.
+#[tactic(auto, unfolding(flow_model::specs::Groups::group_in, flow_model::specs::Groups::group_count))]
+fn claim_once(loads: &Loads, pass: Pass) -> Pass
+    requires of { IsPassOf loads.now pass }
+    requires fresh { (n : ℕ) × (pass.view.hands ≡ hand n idle ∷ []) }
+    requires net { loads.now.terms.net ≡ record { nodes = 2; cells = UNDIRECTED ∷ []; commodities = THERE ∷ BACK ∷ [] } }
+    ensures of { IsPassOf loads.now result }
+    ensures splits { (result.view.left ≡ pass.view.left) × (result.view.made ≡ pass.view.made) }
+    ensures alone { length result.view.hands ≡ 1 }
+{
+    let mut pass = pass;
+    match loads.claim(&mut pass) {
+        0 => {
+            loads.read_cell(&mut pass, 0);
+            loads.add_cell(&mut pass, 0, 0);
+        }
+        1 => {
+            loads.read_cell(&mut pass, 0);
+            loads.add_cell(&mut pass, 1, 0);
+        }
+        _ => {}
+    }
+    pass
+}
+
+#[test]
+fn two_threads_share_the_words(rt: HostRuntime) -> Result<(), Fail> {
+    let alloc = rt.alloc();
+    let net = two_ways(alloc)?;
+    let groups = Groups::new(alloc, &net)?;
+    let (loads, mut first) = Loads::new(alloc, &net, &groups, FIRST, &[0], 2)?;
+    let second = loads.split(&mut first);
+    let (mut first, second) = join(
+        &rt,
+        || -> Pass
+            requires of { IsPassOf loads first }
+            requires fresh { (n : ℕ) × (first.view.hands ≡ hand n idle ∷ []) }
+            requires net { loads.terms.net ≡ record { nodes = 2; cells = UNDIRECTED ∷ []; commodities = THERE ∷ BACK ∷ [] } }
+            ensures of { IsPassOf loads result }
+            ensures splits { (result.view.left ≡ first.view.left) × (result.view.made ≡ first.view.made) }
+            ensures alone { length result.view.hands ≡ 1 }
+        { claim_once(&loads, first) },
+        || -> Pass
+            requires of { IsPassOf loads second }
+            requires fresh { (n : ℕ) × (second.view.hands ≡ hand n idle ∷ []) }
+            requires net { loads.terms.net ≡ record { nodes = 2; cells = UNDIRECTED ∷ []; commodities = THERE ∷ BACK ∷ [] } }
+            ensures of { IsPassOf loads result }
+            ensures splits { (result.view.left ≡ second.view.left) × (result.view.made ≡ second.view.made) }
+            ensures alone { length result.view.hands ≡ 1 }
+        { claim_once(&loads, second) },
+    );
     loads.join(&mut first, second);
     let mut into = [0];
     loads.close(first, &mut into);

@@ -1,0 +1,4 @@
+pub mod Finds
+pub mod Goings
+pub mod Logs
+pub mod Spans

@@ -1,0 +1,5 @@
+pub mod Found
+pub mod Going
+pub mod Routes
+pub mod Steps
+pub mod Work
