@@ -1,0 +1,3 @@
+pub mod LineFits
+pub mod PaperFits
+pub mod Steps

@@ -1,0 +1,6 @@
+//! Laws of the texts of certificates and routings, over their definitions.
+#![tactic(auto)]
+
+mod laws;
+
+pub use laws::papers_fit;

@@ -1,0 +1,180 @@
+use cert_names::{LinkMode, ModuleMode, Names, link_word, module_word};
+use cert_text::{CertEnd, CertKind, Paper, cert_head, read_cert};
+use cert_writer::write_cert;
+use indexmap::IndexSet;
+use mcf_base::MemSink;
+use mcf_limits::MAX_CERT_BYTES;
+use std::alloc::{AllocError, Global};
+use std::test::Fail;
+
+const RIGHT: &[u8] =
+    b"mcf-certificate 1\nverdict closed\nlinks directed\nmodules largest\nnet nodes 2 cells 1 commodities 1 decimals 0 skipped 0 left 0 hops 0\ngap 0.050000\nphases 1\nscale 10 4\nlower 10/4 2.500000\nupper 45035996273704960/18014398509481984 2.500000\npath D1 4 L1\nlength L1 4503599627370496\npotential A 0 4503599627370496\nend\n";
+
+const ROUTING: &[u8] =
+    b"mcf-routing 1\nlinks directed\nmodules largest\nphases 1\nscale 10 4\npath D1 4 L1\nend\n";
+
+// A text to be replaced, what takes its place, and the line and kind of the refusal.
+type Edit = (&'static [u8], &'static [u8], u32, CertKind);
+
+const EDITS: &[Edit] = &[
+    (
+        b"mcf-certificate 1",
+        b"mcf-certificate 9",
+        1,
+        CertKind::NoHeader,
+    ),
+    (b"verdict closed", b"verdict shut", 2, CertKind::Syntax),
+    (b"links directed", b"links undirected", 3, CertKind::Syntax),
+    (b"modules largest", b"modules  largest", 4, CertKind::Syntax),
+    (b"net nodes 2", b"net nodes 3", 5, CertKind::OtherNet),
+    (
+        b"net nodes 2",
+        b"net nodes 4294967296",
+        5,
+        CertKind::TooLarge,
+    ),
+    (b"hops 0", b"hops 00", 5, CertKind::BadNumber),
+    (b"hops 0", b"hops", 5, CertKind::Syntax),
+    (b"gap 0.050000", b"gap 1000.000001", 6, CertKind::TooLarge),
+    (b"gap 0.050000", b"gap 0.05", 6, CertKind::BadNumber),
+    (b"phases 1", b"phases 65537", 7, CertKind::TooLarge),
+    (b"scale 10 4", b"scale 10  4", 8, CertKind::Syntax),
+    (
+        b"lower 10/4 2.500000",
+        b"lower 10 2.500000",
+        9,
+        CertKind::Syntax,
+    ),
+    (
+        b"lower 10/4 2.500000",
+        b"lower 10/4/1 2.500000",
+        9,
+        CertKind::BadNumber,
+    ),
+    (
+        b"lower 10/4 2.500000",
+        b"lower 4611686018427387905/x 2.500000",
+        9,
+        CertKind::TooLarge,
+    ),
+    (b"path D1 4 L1", b"path D1 4 L9", 11, CertKind::UnknownName),
+    (b"path D1 4 L1", b"path D1 04 L1", 11, CertKind::BadNumber),
+    (
+        b"path D1 4 L1",
+        b"path D1 4611686018427387905 L1",
+        11,
+        CertKind::TooLarge,
+    ),
+    (
+        b"path D1 4 L1",
+        b"path D1 999999999999999999999999999999999999999 L1",
+        11,
+        CertKind::TooLarge,
+    ),
+    (
+        b"path D1 4 L1",
+        b"path D1 9999999999999999999999999999999999999999 L1",
+        11,
+        CertKind::BadNumber,
+    ),
+    (b"path D1 4 L1", b"path D1 4 L1 ", 11, CertKind::Syntax),
+    (
+        b"path D1 4 L1\nlength L1 4503599627370496\n",
+        b"length L1 4503599627370496\npath D1 4 L1\n",
+        12,
+        CertKind::Syntax,
+    ),
+    (
+        b"potential A 0 4503599627370496",
+        b"potential A 0",
+        13,
+        CertKind::Syntax,
+    ),
+    (
+        b"potential A 0",
+        b"potential C 0",
+        13,
+        CertKind::UnknownName,
+    ),
+    (b"end\n", b"", 14, CertKind::Syntax),
+    (b"end\n", b"end", 14, CertKind::Syntax),
+    (b"end\n", b"end\nx", 15, CertKind::Syntax),
+];
+
+// The text with the first such part replaced.
+fn edited(alloc: Global, text: &[u8], old: &[u8], new: &[u8]) -> Result<Vec<u8>, AllocError> {
+    for i in 0..text.len() {
+        let (front, rest) = text.split_at(i);
+        if let Some(after) = rest.strip_prefix(old) {
+            let mut changed = Vec::from_slice(alloc, front)?;
+            changed.extend_from_slice(new)?;
+            changed.extend_from_slice(after)?;
+            return Ok(changed);
+        }
+    }
+    Vec::from_slice(alloc, text)
+}
+
+fn names(alloc: Global) -> Result<Names<'static>, Fail> {
+    let mut nodes: IndexSet<&'static [u8]> = IndexSet::new(alloc);
+    nodes.insert(b"A")?;
+    nodes.insert(b"B")?;
+    let mut cells: IndexSet<&'static [u8]> = IndexSet::new(alloc);
+    cells.insert(b"L1")?;
+    let mut commodities: IndexSet<&'static [u8]> = IndexSet::new(alloc);
+    commodities.insert(b"D1")?;
+    let counts = [2u32, 1, 1, 0, 0, 0, 0];
+    Ok(Names::new(
+        link_word(LinkMode::Directed),
+        module_word(ModuleMode::Largest),
+        nodes,
+        cells,
+        commodities,
+        counts,
+    ))
+}
+
+#[test]
+fn refusals_with_their_lines(rt: HostRuntime) -> Result<(), Fail> {
+    let names = names(rt.alloc())?;
+    for (old, new, line, kind) in EDITS {
+        let text = edited(rt.alloc(), RIGHT, *old, *new)?;
+        assert!(rt; text.len() <= MAX_CERT_BYTES);
+        match read_cert(rt.alloc(), &names, &text) {
+            Err(CertEnd::Refused(refusal)) => {
+                assert_eq!(rt; refusal.line, *line, "{kind:?}");
+                assert_eq!(rt; refusal.kind, *kind, "at {line}");
+            }
+            _ => assert!(rt; false, "{kind:?} at {line}"),
+        }
+    }
+    Ok(())
+}
+
+#[test]
+fn heads(rt: HostRuntime) {
+    let head = cert_head(RIGHT);
+    assert!(rt;
+        head.is_ok_and(|h| h.full
+            && h.links == LinkMode::Directed
+            && h.modules == ModuleMode::Largest)
+    );
+    let head = cert_head(ROUTING);
+    assert!(rt; head.is_ok_and(|h| !h.full));
+    for (text, line, kind) in [
+        (b"".as_slice(), 1u32, CertKind::NoHeader),
+        (b"mcf-routing 1", 1, CertKind::Syntax),
+        (b"mcf-routing 1\nlinks both\n", 2, CertKind::Syntax),
+        (
+            b"mcf-certificate 1\nverdict open\nlinks directed\nmodules all\n",
+            4,
+            CertKind::Syntax,
+        ),
+    ] {
+        assert!(rt; text.len() <= MAX_CERT_BYTES);
+        assert!(rt;
+            cert_head(text).is_err_and(|r| r.line == line && r.kind == kind),
+            "at {line}"
+        );
+    }
+}

@@ -1,0 +1,2 @@
+pub mod LinePuts
+pub mod TextPuts

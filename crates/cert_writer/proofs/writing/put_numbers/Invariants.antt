@@ -1,0 +1,18 @@
+use Rattle.std.proofs.Common.{◌≤◌, take}
+use Rattle.std.specs.Prelude.{map}
+use Rattle.std.specs.Fmt.{decimal}
+use Rattle.text_lines.specs.Lines.{text_of}
+use Rattle.mcf_base.specs.declared.writing.WriteFault.{WriteFault}
+use Rattle.line_writer.specs.Writing.{Puts, ended}
+use Rattle.line_writer.specs.Spelling.{behind}
+use Rattle.cert_names.specs.Sheet.{cell_word}
+use Rattle.cert_lines.specs.Spelling.{path_words, length_words, potential_words}
+use Rattle.cert_writer.proofs.writing.put_numbers.Given as goal
+
+abbrev pub invariant-loop-number : goal.invariant-loop-number
+invariant-loop-number g l =
+    let sink = g.K.Sink in
+    record {
+      puts : Puts (sink.written l.fn.out) (sink.written l.out) l.fn.buffer l.buffer (ended (Unit {0}) WriteFault tt) (behind (map decimal (take l.number-index l.numbers)));
+      faults : sink.faults l.fn.out ≤ sink.faults l.out;
+    }

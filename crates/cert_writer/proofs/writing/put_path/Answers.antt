@@ -1,0 +1,21 @@
+use Rattle.std.proofs.Common.{◌≡◌, ℕ, ◌+◌, ◌<◌, ◌≤◌, ◌++◌, ◌∷◌, [], Bor, List, length, map, sym, ap, ◌∙◌, arith, refl}
+use Rattle.std.specs.Prelude.{codes}
+use Rattle.std.specs.Fmt.{decimal}
+use Rattle.line_writer.specs.Spelling.{behind}
+use Rattle.line_writer.proofs.Putting.{puts_then, puts_stop}
+use Rattle.line_writer.proofs.Joining.{one_word_on, word_stops}
+use Rattle.cert_names.specs.Sheet.{cell_word, node_word, commodity_word}
+use Rattle.flow_paths.specs.PathRows.{no_row, row_at}
+use Rattle.flow_paths.specs.DualRows.{no_length, no_potential, length_at, potential_at}
+use Rattle.cert_lines.specs.Spelling.{path_words, length_words, potential_words}
+use Rattle.cert_writer.proofs.LinePuts.{one_line_on, line_stops, row_front_stops, row_more_stops, row_put}
+use Rattle.cert_writer.proofs.writing.put_path.Goals as goal
+
+pub returns-in-Err-clause-puts : goal.returns-in-Err-clause-puts
+returns-in-Err-clause-puts g c = row_front_stops _ _ _ _ c.in-Err.fault (codes "path") (commodity_word c.args.names.now (row_at c.args.paths.now c.args.row).commodity ∷ decimal (row_at c.args.paths.now c.args.row).weight ∷ []) (map (cell_word c.args.names.now) (row_at c.args.paths.now c.args.row).walk) (rw (c.commodity_word.ensures, c.commodity.ensures, c.bytes.ensures, c.number-weight.ensures, c.weight.ensures.value) at c.in-Err.ensures.puts)
+
+pub returns-in-Err-put_cells-clause-puts : goal.returns-in-Err-put_cells-clause-puts
+returns-in-Err-put_cells-clause-puts g c = row_more_stops _ _ _ _ _ _ c.in-Err-put_cells.fault (codes "path") (commodity_word c.args.names.now (row_at c.args.paths.now c.args.row).commodity ∷ decimal (row_at c.args.paths.now c.args.row).weight ∷ []) (map (cell_word c.args.names.now) (row_at c.args.paths.now c.args.row).walk) (rw (c.commodity_word.ensures, c.commodity.ensures, c.bytes.ensures, c.number-weight.ensures, c.weight.ensures.value) at c.in-Ok.ensures.puts) (rw c.path.ensures at c.in-Err-put_cells.ensures.puts)
+
+pub returns-clause-puts : goal.returns-clause-puts
+returns-clause-puts g c = row_put _ _ _ _ _ _ _ _ c.put.result (codes "path") (commodity_word c.args.names.now (row_at c.args.paths.now c.args.row).commodity ∷ decimal (row_at c.args.paths.now c.args.row).weight ∷ []) (map (cell_word c.args.names.now) (row_at c.args.paths.now c.args.row).walk) (rw (c.commodity_word.ensures, c.commodity.ensures, c.bytes.ensures, c.number-weight.ensures, c.weight.ensures.value) at c.in-Ok.ensures.puts) (rw c.path.ensures at c.in-Ok-put_cells.ensures.puts) c.put.ensures.puts

@@ -1,0 +1,21 @@
+use Rattle.std.proofs.Common.{◌≡◌, ℕ, ◌+◌, ◌<◌, ◌≤◌, ◌++◌, ◌∷◌, [], Bor, List, length, map, sym, ap, ◌∙◌, arith, refl}
+use Rattle.std.specs.Prelude.{codes}
+use Rattle.std.specs.Fmt.{decimal}
+use Rattle.line_writer.specs.Spelling.{behind}
+use Rattle.line_writer.proofs.Putting.{puts_then, puts_stop}
+use Rattle.line_writer.proofs.Joining.{one_word_on, word_stops}
+use Rattle.cert_names.specs.Sheet.{cell_word, node_word, commodity_word}
+use Rattle.flow_paths.specs.PathRows.{no_row, row_at}
+use Rattle.flow_paths.specs.DualRows.{no_length, no_potential, length_at, potential_at}
+use Rattle.cert_lines.specs.Spelling.{path_words, length_words, potential_words}
+use Rattle.cert_writer.proofs.LinePuts.{one_line_on, line_stops, row_front_stops, row_more_stops, row_put}
+use Rattle.cert_writer.proofs.writing.put_potential.Goals as goal
+
+pub returns-in-Err-clause-puts : goal.returns-in-Err-clause-puts
+returns-in-Err-clause-puts g c = row_front_stops _ _ _ _ c.in-Err.fault (codes "potential") (node_word c.args.names.now (potential_at c.args.dual.now.potentials c.args.row).node ∷ []) (map decimal (potential_at c.args.dual.now.potentials c.args.row).values) (rw (c.node_word.ensures, c.row_node.ensures) at c.in-Err.ensures.puts)
+
+pub returns-in-Err-put_numbers-clause-puts : goal.returns-in-Err-put_numbers-clause-puts
+returns-in-Err-put_numbers-clause-puts g c = row_more_stops _ _ _ _ _ _ c.in-Err-put_numbers.fault (codes "potential") (node_word c.args.names.now (potential_at c.args.dual.now.potentials c.args.row).node ∷ []) (map decimal (potential_at c.args.dual.now.potentials c.args.row).values) (rw (c.node_word.ensures, c.row_node.ensures) at c.in-Ok.ensures.puts) (rw c.row.ensures.value at c.in-Err-put_numbers.ensures.puts)
+
+pub returns-clause-puts : goal.returns-clause-puts
+returns-clause-puts g c = row_put _ _ _ _ _ _ _ _ c.put.result (codes "potential") (node_word c.args.names.now (potential_at c.args.dual.now.potentials c.args.row).node ∷ []) (map decimal (potential_at c.args.dual.now.potentials c.args.row).values) (rw (c.node_word.ensures, c.row_node.ensures) at c.in-Ok.ensures.puts) (rw c.row.ensures.value at c.in-Ok-put_numbers.ensures.puts) c.put.ensures.puts

@@ -1,0 +1,293 @@
+//! The text of a certificate, written.
+
+ghost use Rattle.std.specs.Prelude.{◌≡◌, ◌<◌, ◌∷◌, [], OnOk, OnErr, codes, if◌then◌else◌};
+ghost use Rattle.std.specs.Io.KnownBytes.{Appends};
+ghost use Rattle.text_lines.specs.Lines.{text_of};
+ghost use Rattle.mcf_base.specs.Faults.{HasCause};
+ghost use Rattle.mcf_base.specs.Sink.{AppendsFront};
+ghost use Rattle.line_writer.specs.Writing.{Puts};
+ghost use Rattle.cert_lines.specs.Spelling.{count_at, counts_words};
+ghost use Rattle.cert_writer.specs.Text.{IsWritable, FitsProof, opening_lines, figure_lines, end_line, from_potentials, from_lengths, from_paths, from_figures, from_counts, certificate_lines, certificate_text};
+
+use crate::writing::{put_lengths, put_lines, put_paths, put_potentials};
+use cert_names::Names;
+use flow_paths::Proof;
+use line_writer::{Buffer, Word};
+use mcf_base::{Sink, WriteFault};
+
+// Whether the verdict is closed, as a word.
+fn verdict_word(closed: bool) -> &'static [u8]
+    ensures { result.now ≡ (if closed then codes "closed" else codes "open") }
+{
+    if closed { b"closed" } else { b"open" }
+}
+
+// Puts the form.
+fn put_form<K: Sink>(buffer: &mut Buffer, out: &mut K) -> Result<(), WriteFault>
+    ensures puts { Puts (K.written out.old) (K.written out.new) buffer.old buffer.new result (text_of ((codes "mcf-certificate" ∷ codes "1" ∷ []) ∷ [])) }
+    ensures cause { HasCause (K.faults out.old) (K.faults out.new) result }
+{
+    let form: [&[u8]; 2] = [b"mcf-certificate", b"1"];
+    put_lines(buffer, out, &[&form])
+}
+
+// Puts the verdict and the modes.
+fn put_modes<'a, K: Sink>(
+    buffer: &mut Buffer,
+    out: &mut K,
+    verdict: &'a [u8],
+    links: &'a [u8],
+    modules: &'a [u8],
+) -> Result<(), WriteFault>
+    ensures puts { Puts (K.written out.old) (K.written out.new) buffer.old buffer.new result (text_of ((codes "verdict" ∷ verdict.now ∷ []) ∷ (codes "links" ∷ links.now ∷ []) ∷ (codes "modules" ∷ modules.now ∷ []) ∷ [])) }
+    ensures cause { HasCause (K.faults out.old) (K.faults out.new) result }
+{
+    let verdict_line: [&'a [u8]; 2] = [b"verdict", verdict];
+    let links_line: [&'a [u8]; 2] = [b"links", links];
+    let modules_line: [&'a [u8]; 2] = [b"modules", modules];
+    put_lines(buffer, out, &[&verdict_line, &links_line, &modules_line])
+}
+
+// Puts the form, the verdict and the modes.
+fn put_opening<K: Sink>(
+    buffer: &mut Buffer,
+    out: &mut K,
+    names: &Names<'_>,
+    proof: &Proof,
+) -> Result<(), WriteFault>
+    ensures puts { Puts (K.written out.old) (K.written out.new) buffer.old buffer.new result (text_of (opening_lines names.now proof.now)) }
+    ensures cause { HasCause (K.faults out.old) (K.faults out.new) result }
+{
+    match put_form(buffer, out) {
+        Ok(()) => {}
+        Err(fault) => return Err(fault),
+    }
+    let verdict = verdict_word(proof.closed);
+    put_modes(buffer, out, verdict, names.link_mode(), names.module_mode())
+}
+
+// One count, as a word.
+fn count_word(names: &Names<'_>, i: usize) -> Word
+    requires { i < 7 }
+    ensures { result ≡ count_at names.now i }
+{
+    let counts = names.counts();
+    Word::number(counts[i] as u128)
+}
+
+// Puts the counts.
+fn put_counts<K: Sink>(
+    buffer: &mut Buffer,
+    out: &mut K,
+    names: &Names<'_>,
+) -> Result<(), WriteFault>
+    ensures puts { Puts (K.written out.old) (K.written out.new) buffer.old buffer.new result (text_of (counts_words names.now ∷ [])) }
+    ensures cause { HasCause (K.faults out.old) (K.faults out.new) result }
+{
+    let nodes = count_word(names, 0);
+    let cells = count_word(names, 1);
+    let commodities = count_word(names, 2);
+    let decimals = count_word(names, 3);
+    let skipped = count_word(names, 4);
+    let left = count_word(names, 5);
+    let hops = count_word(names, 6);
+    let words: [&[u8]; 15] = [
+        b"net",
+        b"nodes",
+        nodes.bytes(),
+        b"cells",
+        cells.bytes(),
+        b"commodities",
+        commodities.bytes(),
+        b"decimals",
+        decimals.bytes(),
+        b"skipped",
+        skipped.bytes(),
+        b"left",
+        left.bytes(),
+        b"hops",
+        hops.bytes(),
+    ];
+    put_lines(buffer, out, &[&words])
+}
+
+// Puts the gap, phases, scale and the two fractions.
+fn put_figures<K: Sink>(buffer: &mut Buffer, out: &mut K, proof: &Proof) -> Result<(), WriteFault>
+    requires lower { proof.now.lower.micro < 1000000 }
+    requires upper { proof.now.upper.micro < 1000000 }
+    ensures puts { Puts (K.written out.old) (K.written out.new) buffer.old buffer.new result (text_of (figure_lines proof.now)) }
+    ensures cause { HasCause (K.faults out.old) (K.faults out.new) result }
+{
+    let gap = Word::decimal(proof.gap as u128 / 1000000, (proof.gap % 1000000) as u32);
+    let phases = Word::number(proof.routing.phases as u128);
+    let capacity = Word::number(proof.routing.scale_cap as u128);
+    let load = Word::number(proof.routing.scale_load as u128);
+    let lower = Word::fraction(proof.lower.num, proof.lower.den);
+    let lower_value = Word::decimal(proof.lower.whole, proof.lower.micro);
+    let upper = Word::fraction(proof.upper.num, proof.upper.den);
+    let upper_value = Word::decimal(proof.upper.whole, proof.upper.micro);
+    let gap_line: [&[u8]; 2] = [b"gap", gap.bytes()];
+    let phases_line: [&[u8]; 2] = [b"phases", phases.bytes()];
+    let scale_line: [&[u8]; 3] = [b"scale", capacity.bytes(), load.bytes()];
+    let lower_line: [&[u8]; 3] = [b"lower", lower.bytes(), lower_value.bytes()];
+    let upper_line: [&[u8]; 3] = [b"upper", upper.bytes(), upper_value.bytes()];
+    put_lines(
+        buffer,
+        out,
+        &[
+            &gap_line,
+            &phases_line,
+            &scale_line,
+            &lower_line,
+            &upper_line,
+        ],
+    )
+}
+
+// Puts the last line.
+fn put_end<K: Sink>(buffer: &mut Buffer, out: &mut K) -> Result<(), WriteFault>
+    ensures puts { Puts (K.written out.old) (K.written out.new) buffer.old buffer.new result (text_of (end_line ∷ [])) }
+    ensures cause { HasCause (K.faults out.old) (K.faults out.new) result }
+{
+    let end: [&[u8]; 1] = [b"end"];
+    put_lines(buffer, out, &[&end])
+}
+
+// Puts the potential rows and the end.
+fn put_from_potentials<K: Sink>(
+    buffer: &mut Buffer,
+    out: &mut K,
+    names: &Names<'_>,
+    proof: &Proof,
+) -> Result<(), WriteFault>
+    requires { IsWritable names.now proof.now }
+    ensures puts { Puts (K.written out.old) (K.written out.new) buffer.old buffer.new result (text_of (from_potentials names.now proof.now)) }
+    ensures cause { HasCause (K.faults out.old) (K.faults out.new) result }
+{
+    match put_potentials(buffer, out, names, &proof.dual) {
+        Ok(()) => {}
+        Err(fault) => return Err(fault),
+    }
+    put_end(buffer, out)
+}
+
+// Puts the length rows and what follows.
+fn put_from_lengths<K: Sink>(
+    buffer: &mut Buffer,
+    out: &mut K,
+    names: &Names<'_>,
+    proof: &Proof,
+) -> Result<(), WriteFault>
+    requires { IsWritable names.now proof.now }
+    ensures puts { Puts (K.written out.old) (K.written out.new) buffer.old buffer.new result (text_of (from_lengths names.now proof.now)) }
+    ensures cause { HasCause (K.faults out.old) (K.faults out.new) result }
+{
+    match put_lengths(buffer, out, names, &proof.dual) {
+        Ok(()) => {}
+        Err(fault) => return Err(fault),
+    }
+    put_from_potentials(buffer, out, names, proof)
+}
+
+// Puts the path rows and what follows.
+fn put_from_paths<K: Sink>(
+    buffer: &mut Buffer,
+    out: &mut K,
+    names: &Names<'_>,
+    proof: &Proof,
+) -> Result<(), WriteFault>
+    requires { IsWritable names.now proof.now }
+    ensures puts { Puts (K.written out.old) (K.written out.new) buffer.old buffer.new result (text_of (from_paths names.now proof.now)) }
+    ensures cause { HasCause (K.faults out.old) (K.faults out.new) result }
+{
+    match put_paths(buffer, out, names, &proof.routing.paths) {
+        Ok(()) => {}
+        Err(fault) => return Err(fault),
+    }
+    put_from_lengths(buffer, out, names, proof)
+}
+
+// Puts the figures and what follows.
+fn put_from_figures<K: Sink>(
+    buffer: &mut Buffer,
+    out: &mut K,
+    names: &Names<'_>,
+    proof: &Proof,
+) -> Result<(), WriteFault>
+    requires { IsWritable names.now proof.now }
+    ensures puts { Puts (K.written out.old) (K.written out.new) buffer.old buffer.new result (text_of (from_figures names.now proof.now)) }
+    ensures cause { HasCause (K.faults out.old) (K.faults out.new) result }
+{
+    match put_figures(buffer, out, proof) {
+        Ok(()) => {}
+        Err(fault) => return Err(fault),
+    }
+    put_from_paths(buffer, out, names, proof)
+}
+
+// Puts the counts and what follows.
+fn put_from_counts<K: Sink>(
+    buffer: &mut Buffer,
+    out: &mut K,
+    names: &Names<'_>,
+    proof: &Proof,
+) -> Result<(), WriteFault>
+    requires { IsWritable names.now proof.now }
+    ensures puts { Puts (K.written out.old) (K.written out.new) buffer.old buffer.new result (text_of (from_counts names.now proof.now)) }
+    ensures cause { HasCause (K.faults out.old) (K.faults out.new) result }
+{
+    match put_counts(buffer, out, names) {
+        Ok(()) => {}
+        Err(fault) => return Err(fault),
+    }
+    put_from_figures(buffer, out, names, proof)
+}
+
+// Puts all lines.
+fn put_certificate<K: Sink>(
+    buffer: &mut Buffer,
+    out: &mut K,
+    names: &Names<'_>,
+    proof: &Proof,
+) -> Result<(), WriteFault>
+    requires { IsWritable names.now proof.now }
+    ensures puts { Puts (K.written out.old) (K.written out.new) buffer.old buffer.new result (text_of (certificate_lines names.now proof.now)) }
+    ensures cause { HasCause (K.faults out.old) (K.faults out.new) result }
+{
+    match put_opening(buffer, out, names, proof) {
+        Ok(()) => {}
+        Err(fault) => return Err(fault),
+    }
+    put_from_counts(buffer, out, names, proof)
+}
+
+// Puts all lines, and writes what waits.
+fn put_whole<K: Sink>(
+    buffer: &mut Buffer,
+    out: &mut K,
+    names: &Names<'_>,
+    proof: &Proof,
+) -> Result<(), WriteFault>
+    requires proof { IsWritable names.now proof.now }
+    requires none { buffer.old ≡ [] }
+    ensures ok { OnOk result (Appends (K.written out.old) (K.written out.new) (certificate_text names.now proof.now)) }
+    ensures err { OnErr result (AppendsFront (K.written out.old) (K.written out.new) (certificate_text names.now proof.now)) }
+    ensures cause { HasCause (K.faults out.old) (K.faults out.new) result }
+{
+    match put_certificate(buffer, out, names, proof) {
+        Ok(()) => {}
+        Err(fault) => return Err(fault),
+    }
+    buffer.flush(out)
+}
+
+/// Appends the text of the certificate. After a fault some front of it was appended. It takes no memory.
+pub fn write_cert<K: Sink>(names: &Names<'_>, proof: &Proof, out: &mut K) -> Result<(), WriteFault>
+    requires { FitsProof names.now proof.now }
+    ensures ok { OnOk result (Appends (K.written out.old) (K.written out.new) (certificate_text names.now proof.now)) }
+    ensures err { OnErr result (AppendsFront (K.written out.old) (K.written out.new) (certificate_text names.now proof.now)) }
+    ensures cause { HasCause (K.faults out.old) (K.faults out.new) result }
+{
+    let mut buffer = Buffer::new();
+    put_whole(&mut buffer, out, names, proof)
+}
