@@ -1,8 +1,7 @@
 -- Path rows, as a store keeps them and as the model sees them.
 use Rattle.std.specs.Prelude.{◌≡◌, ◌⊎◌, ℕ, ◌+◌, ◌^◌, ◌<◌, ◌≤◌, List, [], ◌∷◌, ◌++◌, length, take, drop, All, map, slice_index_or, slice_set}
 use Rattle.flow_model.specs.Routing.{Row}
-use Rattle.flow_paths.specs.declared.path_store.PathRow.{PathRow}
-use Rattle.flow_paths.specs.PathKey.{key_of}
+use Rattle.flow_paths.specs.declared.row_buffer.PathRow.{PathRow}
 use Rattle.mcf_limits.specs.declared.TheConstants.{MAX_LENGTH}
 
 abbrev pub row_of : List ℕ → PathRow → Row
@@ -11,12 +10,11 @@ row_of cells r = record { commodity = r.commodity; walk = take r.len (drop r.sta
 abbrev pub rows_of : List ℕ → List PathRow → List Row
 rows_of cells rows = map (row_of cells) rows
 
--- few enough rows, none of too great a weight, each within the buffer and in the index under its key
-pub record AreRows (cells : List ℕ) (rows : List PathRow) (keys : List ℕ) : Type 0 where
+-- few enough rows, none of too great a weight, each within the buffer
+pub record AreRows (cells : List ℕ) (rows : List PathRow) : Type 0 where
   pub count : length rows < 2 ^ 32
   pub weights : All (λ r. r.weight ≤ MAX_LENGTH) rows
   pub places : All (λ r. r.start + r.len ≤ length cells) rows
-  pub keys_are : keys ≡ map (λ r. key_of r.commodity r.walk) (rows_of cells rows)
 
 abbrev pub no_row : Row
 no_row = record { commodity = 0; walk = []; weight = 0 }

@@ -1,25 +1,21 @@
 //! Weighted paths, the cells of all of them in one buffer.
 
-ghost use Rattle.std.specs.Prelude.{◌≡◌, ◌<◌};
+ghost use Rattle.std.specs.Prelude.{◌≡◌, ◌<◌, ◌↔◌, IsTrue, MatchOption, OnOk, length, map};
+ghost use Rattle.flow_paths.specs.PathKey.{key_of, row_key};
+ghost use Rattle.flow_paths.specs.PathRows.{row_at, HasPath, HasNoRow, IsFirstRow};
+ghost use Rattle.flow_paths.specs.KeyIndex.{IsIndexOf};
 
 use crate::key_index::KeyIndex;
+use crate::row_buffer::RowBuffer;
 use mcf_limits::MAX_LENGTH;
 use std::alloc::{AllocError, Global};
 use std::marker::Model;
 
-#[derive(Clone, Copy)]
-struct PathRow {
-    commodity: u32,
-    start: usize,
-    len: usize,
-    weight: u64,
-}
-
 /// Rows of a commodity, the cells of a path, and a weight.
 #[derive(Drop)]
 pub struct PathStore {
-    cells: Vec<u16>,
-    rows: Vec<PathRow>,
+    rows: RowBuffer,
+    // The keys of the first rows. `add` brings it up to the last row before it looks for one.
     index: KeyIndex,
 }
 
@@ -29,11 +25,11 @@ impl Model for PathStore {
 
     ghost Value = { List Row };
 
-    ghost use Rattle.flow_paths.specs.PathRows.{rows_of, AreRows};
+    ghost use Rattle.flow_paths.specs.KeyIndex.{IsIndexOf};
 
-    ghost view = { λ s. rows_of s.cells.items s.rows.items };
+    ghost view = { λ s. s.rows };
 
-    ghost invariant = { λ s. AreRows s.cells.items s.rows.items s.index };
+    ghost invariant = { λ s. IsIndexOf s.index s.rows };
 }
 
 // The key of a commodity and a path.
@@ -47,21 +43,54 @@ fn path_key(k: u32, path: &[u16]) -> u64
     key
 }
 
-ghost use Rattle.flow_paths.specs.PathKey.{key_of};
+// Whether the row is of this commodity and path.
+fn has_path(rows: &RowBuffer, row: u32, k: u32, path: &[u16]) -> bool
+    requires { row < length rows.now }
+    ensures { IsTrue result ↔ HasPath k path.now (row_at rows.now row) }
+{
+    rows.commodity(row) == k && rows.path(row) == path
+}
+
+// Appends the keys of the rows that are not in the index yet.
+fn catch_up(index: &mut KeyIndex, rows: &RowBuffer) -> Result<(), AllocError>
+    requires { IsIndexOf index.old rows.now }
+    ensures part { IsIndexOf index.new rows.now }
+    ensures whole { OnOk result (index.new ≡ map row_key rows.now) }
+{
+    for row in index.len()..rows.rows() {
+        index.push(path_key(rows.commodity(row), rows.path(row)))?;
+    }
+    Ok(())
+}
+
+// The first row of this commodity and path.
+fn first_row(rows: &RowBuffer, index: &KeyIndex, k: u32, path: &[u16]) -> Option<u32>
+    requires { index.now ≡ map row_key rows.now }
+    ensures { MatchOption result (HasNoRow rows.now k path.now) (IsFirstRow rows.now k path.now) }
+{
+    let mut first = None;
+    let mut place = index.latest(path_key(k, path));
+    while place != 0 {
+        let row = place - 1;
+        if has_path(rows, row, k, path) {
+            first = Some(row);
+        }
+        place = index.earlier(row);
+    }
+    first
+}
 
 impl PathStore {
-    ghost use Rattle.std.specs.Prelude.{◌≡◌, ◌+◌, ◌≤◌, ◌<◌, ◌^◌, ◌++◌, ◌∷◌, ◌↔◌, [], ℕ, length, IsTrue, IfOk, OnErr, OnOk, MatchOption};
+    ghost use Rattle.std.specs.Prelude.{◌≡◌, ◌+◌, ◌≤◌, ◌<◌, ◌++◌, ◌∷◌, [], ℕ, length, IfOk, OnErr, OnOk};
     ghost use Rattle.flow_model.specs.Routing.{carried};
-    ghost use Rattle.flow_paths.specs.PathRows.{row_at, HasPath, IsFirstRow, HasNoRow, Adds};
-    ghost use Rattle.flow_paths.specs.PathKey.{key_of};
+    ghost use Rattle.flow_paths.specs.PathRows.{row_at, IsFirstRow, Adds};
 
     /// No rows.
     pub fn new(alloc: Global) -> Self
         ensures { result ≡ [] }
     {
         PathStore {
-            cells: Vec::new(alloc),
-            rows: Vec::new(alloc),
+            rows: RowBuffer::new(alloc),
             index: KeyIndex::new(alloc),
         }
     }
@@ -69,14 +98,14 @@ impl PathStore {
     pub fn rows(&self) -> u32
         ensures { result ≡ length self.now }
     {
-        self.rows.len() as u32
+        self.rows.rows()
     }
 
     pub fn commodity(&self, row: u32) -> u32
         requires { row < length self.now }
         ensures { result ≡ (row_at self.now row).commodity }
     {
-        self.rows[row as usize].commodity
+        self.rows.commodity(row)
     }
 
     pub fn weight(&self, row: u32) -> u64
@@ -84,7 +113,7 @@ impl PathStore {
         ensures value { result ≡ (row_at self.now row).weight }
         ensures limit { result ≤ MAX_LENGTH }
     {
-        self.rows[row as usize].weight
+        self.rows.weight(row)
     }
 
     /// The row's cells, in the store's own buffer.
@@ -92,8 +121,7 @@ impl PathStore {
         requires { row < length self.now }
         ensures { result.now ≡ (row_at self.now row).walk }
     {
-        let row = self.rows[row as usize];
-        &self.cells[row.start..row.start + row.len]
+        self.rows.path(row)
     }
 
     /// The weights of the commodity's rows, added up.
@@ -117,55 +145,8 @@ impl PathStore {
         ensures number { IfOk result (λ n. n ≡ length self.old) }
         ensures err { OnErr result (self.new ≡ self.old) }
     {
-        let row = PathRow {
-            commodity: k,
-            start: self.cells.len(),
-            len: path.len(),
-            weight,
-        };
-        let number = self.rows.len() as u32;
-        self.cells.reserve(path.len())?;
-        self.rows.reserve(1)?;
-        self.index.push(path_key(k, path))?;
-        self.cells.extend_from_slice(path)?;
-        self.rows.push(row)?;
-        Ok(number)
+        self.rows.push(k, path, weight)
     }
-
-    // Whether the row is of this commodity and path.
-    fn has_path(&self, row: u32, k: u32, path: &[u16]) -> bool
-        requires { row < length self.now }
-        ensures { IsTrue result ↔ HasPath k path.now (row_at self.now row) }
-    {
-        self.commodity(row) == k && self.path(row) == path
-    }
-
-    // The first row of this commodity and path.
-    fn first_row(&self, k: u32, path: &[u16]) -> Option<u32>
-        ensures { MatchOption result (HasNoRow self.now k path.now) (IsFirstRow self.now k path.now) }
-    {
-        let mut first = None;
-        let mut place = self.index.latest(path_key(k, path));
-        while place != 0 {
-            let row = place - 1;
-            if self.has_path(row, k, path) {
-                first = Some(row);
-            }
-            place = self.index.earlier(row);
-        }
-        first
-    }
-
-    // Makes the row's weight greater.
-    fn grow(&mut self, row: u32, amount: u64)
-        requires row { row < length self.old }
-        requires weight { (row_at self.old row).weight + amount ≤ MAX_LENGTH }
-        ensures { self.new ≡ grown self.old row amount }
-    {
-        self.rows[row as usize].weight += amount;
-    }
-
-    ghost use Rattle.flow_paths.specs.PathRows.{grown};
 
     /// The first row of this commodity and path grows by the amount, or, where there is none, a new row is appended; answers its number.
     pub fn add(&mut self, k: u32, path: &[u16], amount: u64) -> Result<u32, AllocError>
@@ -175,12 +156,13 @@ impl PathStore {
         ensures ok { IfOk result (Adds self.old self.new k path.now amount) }
         ensures err { OnErr result (self.new ≡ self.old) }
     {
-        match self.first_row(k, path) {
+        catch_up(&mut self.index, &self.rows)?;
+        match first_row(&self.rows, &self.index, k, path) {
             Some(row) => {
-                self.grow(row, amount);
+                self.rows.grow(row, amount);
                 Ok(row)
             }
-            None => self.push(k, path, amount),
+            None => self.rows.push(k, path, amount),
         }
     }
 }

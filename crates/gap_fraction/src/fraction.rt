@@ -8,7 +8,10 @@ use mcf_limits::{MAX_GAP, MAX_LENGTH};
 use std::cmp::Ordering;
 use std::marker::Model;
 
-/// A fraction of whole numbers of at most 2^120, not reduced.
+/// The greatest numerator and the greatest denominator: 2^120.
+pub const MAX_PART: u128 = 1 << 120;
+
+/// A fraction of whole numbers of at most `MAX_PART`, not reduced.
 #[derive(Clone, Copy)]
 pub struct Frac {
     num: u128,
@@ -28,8 +31,9 @@ impl Model for Frac {
 }
 
 impl Frac {
-    ghost use Rattle.std.specs.Prelude.{◌≡◌, ◌+◌, ◌*◌, ◌^◌, ◌≤◌, ◌<◌, ◌↔◌, IsTrue, ℕ};
-    ghost use Rattle.gap_fraction.specs.Fraction.{IsFraction, IsOrderOf, IsWithinGap};
+    ghost use Rattle.std.specs.Prelude.{◌≡◌, ◌≢◌, ◌+◌, ◌*◌, ◌≤◌, ◌<◌, ◌↔◌, IsTrue, ℕ};
+    ghost use Rattle.std.specs.declared.cmp.Ordering.TheVariants.{Greater};
+    ghost use Rattle.gap_fraction.specs.Fraction.{FractionLe, IsFraction, IsOrderOf, IsWithinGap};
     ghost use Rattle.gap_fraction.specs.Decimals.{millionths_down, millionths_up};
 
     pub fn new(num: u128, den: u128) -> Self
@@ -55,7 +59,8 @@ impl Frac {
 
     /// The order of the values.
     pub fn cmp(&self, other: &Frac) -> Ordering
-        ensures { IsOrderOf result self.now other.now }
+        ensures order { IsOrderOf result self.now other.now }
+        ensures at_most { (result ≢ Greater) ↔ FractionLe self.now other.now }
     {
         order(self.num, self.den, other.num, other.den)
     }

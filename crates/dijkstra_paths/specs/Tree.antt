@@ -1,0 +1,45 @@
+-- What a search keeps: a tree of steps with distances.
+use Rattle.std.specs.Prelude.{◌≡◌, ◌≢◌, ℕ, ◌+◌, ◌<◌, ◌≤◌, List, length, slice_index, slice_index_or}
+use Rattle.flow_model.specs.declared.net.Cell.{Cell}
+use Rattle.flow_model.specs.Walk.{PassesOver}
+use Rattle.net_graph.specs.declared.graph.Arc.{Arc}
+use Rattle.dijkstra_paths.specs.declared.search.Step.{Step}
+use Rattle.dijkstra_paths.specs.Heap.{AreInverse}
+use Rattle.mcf_limits.specs.declared.TheConstants.{MAX_LENGTH}
+
+abbrev pub step_at : List Step → ℕ → Step
+step_at steps v = slice_index_or steps v (record { cell = 0; from = 0 })
+
+-- the node was reached over the step's cell from the node before, no nearer than through that
+pub record IsReached (cells : List Cell) (lengths dist : List ℕ) (step : Step) (v : ℕ) : Type 0 where
+  pub passes : PassesOver cells step.cell step.from v
+  pub before : step.from < length dist
+  pub far : slice_index dist step.from + slice_index lengths step.cell ≤ slice_index dist v
+
+-- every node with a distance below MAX_LENGTH but the first was reached
+pub record IsTree (cells : List Cell) (lengths : List ℕ) (from : ℕ) (dist : List ℕ) (steps : List Step) : Type 0 where
+  pub count : length steps ≡ length dist
+  pub bound : (v : ℕ) → v < length dist → slice_index dist v ≤ MAX_LENGTH
+  pub start : slice_index dist from ≡ 0
+  pub reached : (v : ℕ) → v < length dist → v ≢ from → slice_index dist v < MAX_LENGTH → IsReached cells lengths dist (step_at steps v) v
+
+-- no way on from the node is shorter than what is known
+abbrev pub IsDone : List Cell → List ℕ → List ℕ → ℕ → Type 0
+IsDone cells lengths dist u = (c x : ℕ) → PassesOver cells c u x → slice_index dist x ≤ slice_index dist u + slice_index lengths c
+
+-- every reached node that isn't open is done, but for one that is being worked on
+pub record IsUnderWay (cells : List Cell) (lengths : List ℕ) (from node : ℕ) (dist : List ℕ) (steps : List Step) (order place : List ℕ) (count : ℕ) : Type 0 where
+  pub tree : IsTree cells lengths from dist steps
+  pub inverse : AreInverse order place
+  pub nodes : length order ≡ length dist
+  pub few : count ≤ length dist
+  pub opened : (v : ℕ) → v < length dist → slice_index place v < count → slice_index dist v < MAX_LENGTH
+  pub done : (u : ℕ) → u < length dist → u ≢ node → slice_index dist u < MAX_LENGTH → count ≤ slice_index place u → IsDone cells lengths dist u
+
+abbrev pub arc_at : List Arc → ℕ → Arc
+arc_at arcs k = slice_index_or arcs k (record { cell = 0; to = 0 })
+
+-- none of these arcs from the node is shorter than what is known
+abbrev pub ArcsDone : List ℕ → List ℕ → ℕ → List Arc → ℕ → Type 0
+ArcsDone lengths dist node arcs count =
+    (k : ℕ) → k < count → slice_index dist (arc_at arcs k).to ≤ slice_index dist node + slice_index lengths (arc_at arcs k).cell

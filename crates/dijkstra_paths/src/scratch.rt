@@ -1,0 +1,152 @@
+//! The room that searches work in.
+
+ghost use Rattle.std.specs.Prelude.{◌≡◌, ℕ, ◌<◌, ◌≤◌, length, slice_index, IfOk, drop};
+ghost use Rattle.dijkstra_paths.specs.Searched.{trail, Ends};
+ghost use Rattle.flow_model.specs.Lengths.{AreLengths};
+
+use crate::search::{Step, search};
+use mcf_limits::{MAX_LENGTH, MAX_NODES};
+use net_graph::Graph;
+use std::alloc::{AllocError, Global};
+use std::marker::Model;
+
+/// Distances from one node. It is seen as its numbers of nodes and cells, and each node's distance.
+#[derive(Drop)]
+pub struct Scratch {
+    nodes: u16,
+    cells: u16,
+    from: u16,
+    dist: Vec<u64>,
+    steps: Vec<Step>,
+    order: Vec<u16>,
+    place: Vec<u16>,
+    keys: Vec<u64>,
+    path: Vec<u16>,
+}
+
+impl Model for Scratch {
+    ghost use Rattle.std.specs.Prelude.{map};
+    ghost use Rattle.dijkstra_paths.specs.Searched.{Searched, known, paths_from, IsReady};
+
+    ghost Value = { Searched };
+
+    ghost view = { λ s. record { nodes = s.nodes; cells = s.cells; dists = map known s.dist.items; paths = paths_from s.steps.items s.from s.nodes 0 s.dist.items } };
+
+    ghost invariant = { λ s. IsReady s.nodes s.from s.dist.items s.steps.items s.order.items s.place.items s.keys.items s.path.items };
+}
+
+/// The numbers below n in order.
+fn numbers(alloc: Global, n: u16) -> Result<Vec<u16>, AllocError>
+    ensures count { IfOk result (λ v. length v.items ≡ n) }
+    ensures each { IfOk result (λ v. (k : ℕ) → k < n → slice_index v.items k ≡ k) }
+{
+    let mut numbers = Vec::new(alloc);
+    for number in 0..n {
+        numbers.push(number)?;
+    }
+    Ok(numbers)
+}
+
+impl Scratch {
+    ghost use Rattle.std.specs.Prelude.{◌≡◌, ℕ, ◌<◌, ◌≤◌, length, IfOk, IfSome};
+    ghost use Rattle.std.specs.Option.{option_map};
+    ghost use Rattle.std.specs.Borrow.{sem};
+    ghost use Rattle.dijkstra_paths.specs.Lending.{Keeps};
+    ghost use Rattle.dijkstra_paths.specs.Searched.{dist_at, path_at, IsNear, IsPath};
+    ghost use Rattle.flow_model.specs.Least.{IsLeast};
+    ghost use Rattle.flow_model.specs.Lengths.{AreLengths};
+
+    pub fn new(alloc: Global, nodes: u16, cells: u16) -> Result<Self, AllocError>
+        requires { nodes ≤ MAX_NODES }
+        ensures nodes { IfOk result (λ s. s.nodes ≡ nodes) }
+        ensures cells { IfOk result (λ s. s.cells ≡ cells) }
+    {
+        let n = nodes as usize;
+        Ok(Scratch {
+            nodes,
+            cells,
+            from: 0,
+            dist: vec![in alloc; MAX_LENGTH; n]?,
+            steps: vec![in alloc; Step { cell: 0, from: 0 }; n]?,
+            order: numbers(alloc, nodes)?,
+            place: numbers(alloc, nodes)?,
+            keys: vec![in alloc; 0; n]?,
+            path: vec![in alloc; 0; n]?,
+        })
+    }
+
+    /// Finds the least distances from a node.
+    pub fn search(&mut self, graph: &Graph, lengths: &[u64], from: u16)
+        requires lengths { AreLengths graph.now.cells lengths.now }
+        requires nodes { self.old.nodes ≡ graph.now.nodes }
+        requires from { from < self.old.nodes }
+        ensures nodes { self.new.nodes ≡ self.old.nodes }
+        ensures cells { self.new.cells ≡ self.old.cells }
+        ensures least { (v : ℕ) → v < self.new.nodes → IsLeast graph.now.cells lengths.now from v (dist_at self.new v) }
+        ensures paths { (v : ℕ) → v < self.new.nodes → IsPath graph.now.cells lengths.now self.new.nodes from v (dist_at self.new v) (path_at self.new v) }
+        ensures near { IsNear graph.now.cells lengths.now self.new }
+    {
+        let _nodes = graph.nodes();
+        self.from = from;
+        search(
+            graph,
+            lengths,
+            from,
+            &mut self.dist,
+            &mut self.steps,
+            &mut self.order,
+            &mut self.place,
+            &mut self.keys,
+        );
+    }
+
+    /// The least distance of the node, if it was reached.
+    pub fn dist(&self, node: u16) -> Option<u64>
+        requires { node < self.now.nodes }
+        ensures value { result ≡ dist_at self.now node }
+        ensures limit { IfSome result (λ d. d < MAX_LENGTH) }
+    {
+        let dist = self.dist.as_slice()[node as usize];
+        if dist < MAX_LENGTH { Some(dist) } else { None }
+    }
+
+    /// The cells of a least walk to the node, if it was reached.
+    pub fn path_to(&mut self, to: u16) -> Option<&[u16]>
+        requires { to < self.old.nodes }
+        ensures* keeps { sem 𝓛 (Keeps self.entry) }
+        ensures value { option_map (λ path. path.now) result ≡ path_at self.old to }
+    {
+        if self.dist.as_slice()[to as usize] >= MAX_LENGTH {
+            return None;
+        }
+        let start = trace(self.steps.as_slice(), self.from, to, &mut self.path);
+        Some(rest(&self.path, start))
+    }
+}
+
+/// What stands from a place on.
+fn rest(path: &[u16], start: usize) -> &[u16]
+    requires { start ≤ length path.now }
+    ensures { result.now ≡ drop start path.now }
+{
+    &path[start..]
+}
+
+/// Puts the cells of the steps to a node at the end of the path, and gives the place where they begin.
+fn trace(steps: &[Step], from: u16, to: u16, path: &mut [u16]) -> usize
+    requires steps { length steps.now ≡ length path.old }
+    requires to { to < length steps.now }
+    requires ends { Ends steps.now (length steps.now) from (length steps.now) to }
+    ensures within { result ≤ length path.new }
+    ensures value { drop result path.new ≡ trail steps.now from (length steps.now) to }
+{
+    let mut start = steps.len();
+    let mut at = to;
+    while at != from {
+        let step = steps[at as usize];
+        start -= 1;
+        path[start] = step.cell;
+        at = step.from;
+    }
+    start
+}

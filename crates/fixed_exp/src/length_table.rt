@@ -1,0 +1,119 @@
+//! Lengths that stand ready, and follow the loads.
+
+ghost use Rattle.std.specs.Prelude.{◌≡◌, ℕ, ◌≤◌, length, slice_index, All, IfOk};
+ghost use Rattle.flow_model.specs.Lengths.{AreLengths, IsSetting, lengths_of};
+ghost use Rattle.fixed_exp.specs.Far.{EmptyAreFar};
+
+use crate::follow::follow_exponents;
+use crate::lengths::{exponents_of, least_of};
+use crate::powers::Powers;
+use crate::scale::Scale;
+use flow_model::{Net, Setting};
+use mcf_limits::MAX_LENGTH;
+use std::alloc::{AllocError, Global};
+use std::marker::Model;
+use std::snapshot::Snapshot;
+
+/// The length of each cell of one network, kept from one vector of loads to the next: what did not change is not
+/// computed again. It is seen as the network, the setting and the loads.
+#[derive(Drop)]
+pub struct LengthTable {
+    net: Snapshot<Net>,
+    scale: Scale,
+    least: u64,
+    top: u128,
+    loads: Vec<u64>,
+    exponents: Vec<u64>,
+    lengths: Vec<u64>,
+}
+
+impl Model for LengthTable {
+    ghost use Rattle.fixed_exp.specs.LoadedNetwork.{LoadedNetwork, IsLengthTable};
+
+    ghost Value = { LoadedNetwork };
+
+    ghost view = { λ t. record { net = t.net.value; setting = t.scale.setting; loads = t.loads.items } };
+
+    ghost invariant = { λ t. IsLengthTable t.net.value t.scale.setting t.loads.items t.exponents.items t.lengths.items t.top t.least };
+}
+
+impl LengthTable {
+    ghost use Rattle.std.specs.Prelude.{◌≡◌, replicate};
+
+    /// The lengths under loads of 0.
+    pub fn new(
+        alloc: Global,
+        powers: &Powers,
+        net: &Net,
+        setting: &Setting,
+    ) -> Result<Self, AllocError>
+        requires { IsSetting setting.now }
+        ensures { IfOk result (λ t. t ≡ record { net = net.now; setting = setting.now; loads = replicate (length net.now.cells) 0 }) }
+    {
+        let cells = net.cells();
+        let loads = vec![in alloc; 0; cells.len()]?;
+        let mut exponents = vec![in alloc; 0; cells.len()]?;
+        let mut lengths = vec![in alloc; 0; cells.len()]?;
+        let scale = Scale::new(setting);
+        let top = exponents_of(&scale, cells, &loads, &mut exponents);
+        powers.lengths(net, setting, &loads, &mut lengths);
+        Ok(LengthTable {
+            net: Snapshot::of(net),
+            scale,
+            least: least_of(cells),
+            top,
+            loads,
+            exponents,
+            lengths,
+        })
+    }
+
+    /// Takes another setting for the same loads. It takes no memory.
+    pub fn set_setting(&mut self, powers: &Powers, net: &Net, setting: &Setting)
+        requires net { net.now ≡ self.old.net }
+        requires setting { IsSetting setting.now }
+        ensures net { self.new.net ≡ self.old.net }
+        ensures setting { self.new.setting ≡ setting.now }
+        ensures loads { self.new.loads ≡ self.old.loads }
+    {
+        self.scale = Scale::new(setting);
+        self.top = exponents_of(&self.scale, net.cells(), &self.loads, &mut self.exponents);
+        powers.lengths(net, setting, &self.loads, &mut self.lengths);
+    }
+
+    /// Takes other loads, one for each cell. It takes no memory, and its time goes by the number of loads that changed,
+    /// where the greatest exponent stays.
+    pub fn update(&mut self, powers: &Powers, net: &Net, loads: &[u64])
+        requires net { net.now ≡ self.old.net }
+        requires loads { length loads.now ≡ length net.now.cells }
+        requires small { All (λ x. x ≤ MAX_LENGTH) loads.now }
+        ensures net { self.new.net ≡ self.old.net }
+        ensures setting { self.new.setting ≡ self.old.setting }
+        ensures loads { self.new.loads ≡ loads.now }
+    {
+        let cells = net.cells();
+        let top = follow_exponents(&self.scale, cells, &self.loads, loads, &mut self.exponents);
+        powers.follow_lengths(
+            &self.scale,
+            top,
+            top == self.top,
+            self.least,
+            cells,
+            &self.loads,
+            loads,
+            &self.exponents,
+            &mut self.lengths,
+        );
+        self.top = top;
+        self.loads.as_mut_slice().copy_from_slice(loads);
+    }
+
+    /// The length of each cell under the loads: at least 1 and at most 2^52, and 2^62 for a cell without capacity.
+    pub fn lengths(&self) -> &[u64]
+        ensures value { result.now ≡ lengths_of self.now.net self.now.setting self.now.loads }
+        ensures fits { AreLengths self.now.net.cells result.now }
+        ensures empty { EmptyAreFar self.now.net.cells result.now }
+    {
+        &self.lengths
+    }
+}

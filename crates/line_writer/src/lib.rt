@@ -1,0 +1,12 @@
+//! Lines of words, written through a buffer of fixed size.
+#![tactic(auto)]
+
+mod buffer;
+mod lines;
+mod word;
+
+pub use buffer::Buffer;
+pub use word::Word;
+
+#[cfg(test)]
+mod tests;

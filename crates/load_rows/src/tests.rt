@@ -1,0 +1,188 @@
+//! Each row is a list of calls with their answers.
+
+ghost use Rattle.std.specs.Prelude.{◌≡◌, [], ◌∷◌, IfOk};
+
+use crate::least_path;
+use flow_model::{Cell, Commodity, Groups, Net, Setting};
+use load_table::Loads;
+use std::alloc::{AllocError, Global};
+use std::test::Fail;
+
+const FIRST: Setting = Setting {
+    first: true,
+    ref_cap: 0,
+    ref_load: 1,
+    step: 65536,
+};
+
+const LATER: Setting = Setting {
+    first: false,
+    ref_cap: 7,
+    ref_load: 10,
+    step: 65536,
+};
+
+const LINK: Cell = Cell {
+    tail: 0,
+    head: 1,
+    both: false,
+    cap: 10,
+};
+
+const UNDIRECTED: Cell = Cell {
+    tail: 0,
+    head: 1,
+    both: true,
+    cap: 10,
+};
+
+const THREE: Cell = Cell {
+    tail: 0,
+    head: 1,
+    both: false,
+    cap: 3,
+};
+
+const SEVEN: Cell = Cell {
+    tail: 0,
+    head: 1,
+    both: false,
+    cap: 7,
+};
+
+const OF_FOUR: Commodity = Commodity {
+    from: 0,
+    to: 1,
+    amount: 4,
+};
+
+const OF_SIX: Commodity = Commodity {
+    from: 0,
+    to: 1,
+    amount: 6,
+};
+
+const OF_TEN: Commodity = Commodity {
+    from: 0,
+    to: 1,
+    amount: 10,
+};
+
+const THERE: Commodity = Commodity {
+    from: 0,
+    to: 1,
+    amount: 5,
+};
+
+const BACK: Commodity = Commodity {
+    from: 1,
+    to: 0,
+    amount: 5,
+};
+
+/// One link of 10, and two demands over it.
+fn one_source(alloc: Global) -> Result<Net, AllocError>
+    ensures { IfOk result (λ n. n ≡ record { nodes = 2; cells = LINK ∷ []; commodities = OF_FOUR ∷ OF_SIX ∷ [] }) }
+{
+    let cells = vec![in alloc; LINK]?;
+    let commodities = vec![in alloc; OF_FOUR, OF_SIX]?;
+    Ok(Net::new(2, cells, commodities))
+}
+
+/// One link of 10 in both directions, and 5 each way.
+fn two_ways(alloc: Global) -> Result<Net, AllocError>
+    ensures { IfOk result (λ n. n ≡ record { nodes = 2; cells = UNDIRECTED ∷ []; commodities = THERE ∷ BACK ∷ [] }) }
+{
+    let cells = vec![in alloc; UNDIRECTED]?;
+    let commodities = vec![in alloc; THERE, BACK]?;
+    Ok(Net::new(2, cells, commodities))
+}
+
+/// Two links of 3 and 7, and a demand of 10.
+fn two_links(alloc: Global) -> Result<Net, AllocError>
+    ensures { IfOk result (λ n. n ≡ record { nodes = 2; cells = THREE ∷ SEVEN ∷ []; commodities = OF_TEN ∷ [] }) }
+{
+    let cells = vec![in alloc; THREE, SEVEN]?;
+    let commodities = vec![in alloc; OF_TEN]?;
+    Ok(Net::new(2, cells, commodities))
+}
+
+#[tactic(auto, unfolding(flow_model::specs::Groups::group_in, flow_model::specs::Groups::group_count))]
+#[test]
+fn one_claim_routes_two_demands(rt: HostRuntime) -> Result<(), Fail> {
+    let alloc = rt.alloc();
+    let net = one_source(alloc)?;
+    let groups = Groups::new(alloc, &net)?;
+    let (loads, mut pass) = Loads::new(alloc, &net, &groups, FIRST, &[0], 1)?;
+    let ticket = loads.claim(&mut pass);
+    assert_eq!(rt; ticket, 0);
+    let read = loads.read_cell(&mut pass, 0);
+    assert_eq!(rt; read, 0);
+    let first = least_path(alloc, &net, &FIRST, &[0], 0)?.ok_or("a walk")?;
+    assert_eq!(rt; first.as_slice(), [0].as_slice());
+    let second = least_path(alloc, &net, &FIRST, &[0], 1)?.ok_or("a walk")?;
+    assert_eq!(rt; second.as_slice(), [0].as_slice());
+    let word = loads.add_cell(&mut pass, 0, 0);
+    assert_eq!(rt; word, 0);
+    let word = loads.add_cell(&mut pass, 1, 0);
+    assert_eq!(rt; word, 4);
+    let mut into = [0];
+    loads.close(pass, &mut into);
+    assert_eq!(rt; into, [10]);
+    Ok(())
+}
+
+#[tactic(auto, unfolding(flow_model::specs::Groups::group_in, flow_model::specs::Groups::group_count))]
+#[test]
+fn one_worker_takes_the_second_link(rt: HostRuntime) -> Result<(), Fail> {
+    let alloc = rt.alloc();
+    let net = two_links(alloc)?;
+    let groups = Groups::new(alloc, &net)?;
+    assert_eq!(rt; groups.count(), 1);
+    let (loads, mut pass) = Loads::new(alloc, &net, &groups, LATER, &[0, 10], 1)?;
+    let ticket = loads.claim(&mut pass);
+    assert_eq!(rt; ticket, 0);
+    let read = loads.read_cell(&mut pass, 0);
+    assert_eq!(rt; read, 0);
+    let read = loads.read_cell(&mut pass, 1);
+    assert_eq!(rt; read, 10);
+    let path = least_path(alloc, &net, &LATER, &[0, 10], 0)?.ok_or("a walk")?;
+    assert_eq!(rt; path.as_slice(), [1].as_slice());
+    let word = loads.add_cell(&mut pass, 0, 1);
+    assert_eq!(rt; word, 10);
+    let mut into = [0, 0];
+    loads.close(pass, &mut into);
+    assert_eq!(rt; into, [0, 20]);
+    Ok(())
+}
+
+#[tactic(auto, unfolding(flow_model::specs::Groups::group_in, flow_model::specs::Groups::group_count))]
+#[test]
+fn two_workers_add_to_one_cell(rt: HostRuntime) -> Result<(), Fail> {
+    let alloc = rt.alloc();
+    let net = two_ways(alloc)?;
+    let groups = Groups::new(alloc, &net)?;
+    let (loads, mut first) = Loads::new(alloc, &net, &groups, FIRST, &[0], 2)?;
+    let ticket = loads.claim(&mut first);
+    assert_eq!(rt; ticket, 0);
+    let mut second = loads.split(&mut first);
+    let ticket = loads.claim(&mut second);
+    assert_eq!(rt; ticket, 1);
+    let read = loads.read_cell(&mut first, 0);
+    assert_eq!(rt; read, 0);
+    let read = loads.read_cell(&mut second, 0);
+    assert_eq!(rt; read, 0);
+    let there = least_path(alloc, &net, &FIRST, &[0], 0)?.ok_or("a walk")?;
+    assert_eq!(rt; there.as_slice(), [0].as_slice());
+    let back = least_path(alloc, &net, &FIRST, &[0], 1)?.ok_or("a walk")?;
+    assert_eq!(rt; back.as_slice(), [0].as_slice());
+    let word = loads.add_cell(&mut first, 0, 0);
+    assert_eq!(rt; word, 0);
+    let word = loads.add_cell(&mut second, 1, 0);
+    assert_eq!(rt; word, 5);
+    loads.join(&mut first, second);
+    let mut into = [0];
+    loads.close(first, &mut into);
+    assert_eq!(rt; into, [10]);
+    Ok(())
+}

@@ -1,0 +1,20 @@
+use Rattle.std.proofs.Common.{◌≡◌, length, arith, ap, sym, subst}
+use Rattle.flow_core.specs.Core.{Terms, cell_count}
+use Rattle.load_table.specs.declared.view.View.{View}
+use Rattle.load_table.specs.Rule.{MayClose, Closes}
+use Rattle.load_table.specs.Seen.{LoadsView, PassView}
+use Rattle.load_table.proofs.Keeps.{closes, copied}
+use Rattle.load_table.proofs.loads.Loads.close.Goals as goal
+
+pub loop-i-preserved : goal.loop-i-preserved
+loop-i-preserved c = copied _ _ _ _ (omega arith) c.loop-i.invariant c.word.ensures
+
+pub returns : goal.returns
+returns c =
+    let terms = ap (λ (l : LoadsView). l.terms) c.self.view_is in
+    let view = ap (λ (p : PassView). p.view) c.pass.view_is in
+    let M : Terms × View → Type 0 = λ x. MayClose x.0 x.1 in
+    let may = subst M (λ i. (sym terms i, sym view i)) c.requires.whole in
+    let long : length c.loop-i.into ≡ cell_count c.self.inside.table.shared.key = (let r = c.requires.room in let a = c.loop-i.auto.into in let t = ap cell_count terms in omega arith) in
+    let P : Terms × View → Type 0 = λ x. Closes x.0 x.1.hands c.loop-i.into in
+    subst P (λ i. (terms i, view i)) (closes _ _ _ _ _ c.loop-i.into may c.close_with-closed.ensures.values.2 long (λ k inside. c.loop-i.invariant k (omega arith)))

@@ -1,0 +1,93 @@
+-- The rule of the shared words, and what its steps tell.
+use Rattle.std.specs.Prelude.{◌≡◌, ℕ, ◌+◌, ◌-◌, ◌<◌, ◌≤◌, ◌==◌, nat_lt, false, List, [], ◌∷◌, length, slice_index}
+use mathlib.Core.Option.{some}
+use lib.ListN.{get_elem?}
+use Rattle.atomic_table.specs.Table.{State, Me, Step}
+use Rattle.flow_core.specs.declared.state.Entry.{Entry}
+use Rattle.flow_core.specs.Core as core
+use Rattle.flow_core.specs.Core.{Terms, Event, AreLegal, start, after_schedule, worker_at, idle, IsStart, total, cell_count, ticket_count, LastIsComplete, LastMayAdd, claimed, has_read, has_added}
+use Rattle.flow_core.specs.Laws.{one_if, IsFalling, added}
+use Rattle.load_table.specs.declared.view.Hand.{Hand}
+use Rattle.load_table.specs.declared.view.View.{View}
+use Rattle.load_table.specs.Views.{with_work, times_in, hands_of, made_of, splits_of}
+
+-- each hand has what the core has of its worker
+abbrev pub AllFit : core.State → List Hand → Type 0
+AllFit s [] = Unit {0}
+AllFit s (h ∷ hs) = ((h.number < length s.workers) × (worker_at s h.number ≡ h.work)) × AllFit s hs
+
+-- what a view may be: its terms are the table's where it has a worker, and its splits are all or none
+pub record FitsView (t : Terms) (s : core.State) (v : View) : Type 0 where
+  pub terms : 0 < length v.hands → v.terms ≡ t
+  pub splits : 0 < v.left + v.made → v.left + v.made + 1 ≡ t.workers
+  pub works : AllFit s v.hands
+
+pub record Kept (t : Terms) (s : State (Unit {0}) View) : Type 0 where
+  pub is_start : IsStart t
+  pub events : List Event
+  pub legal : AreLegal t (start t) events
+  pub words : s.words ≡ (after_schedule t (start t) events).claims ∷ (after_schedule t (start t) events).loads
+  pub splits : total splits_of s.views + 1 ≡ t.workers
+  pub hands : total hands_of s.views ≡ total made_of s.views + 1
+  pub once : (n : ℕ) → total (times_in n) s.views ≡ one_if (nat_lt n (total made_of s.views + 1))
+  pub fits : (j : ℕ) (v : View) → get_elem? s.views j ≡ some v → FitsView t (after_schedule t (start t) events) v
+  pub fresh : (n : ℕ) → total made_of s.views < n → worker_at (after_schedule t (start t) events) n ≡ idle
+
+-- some schedule leads to a state where the word was this, and the workers had what their hands say
+pub record WasWord (t : Terms) (hands : List Hand) (word found : ℕ) : Type 0 where
+  pub events : List Event
+  pub legal : AreLegal t (start t) events
+  pub found_there : slice_index ((after_schedule t (start t) events).claims ∷ (after_schedule t (start t) events).loads) word ≡ found
+  pub works : AllFit (after_schedule t (start t) events) hands
+
+abbrev pub M : Type 0
+M = Me (Unit {0}) View
+
+abbrev pub Claimed : Step (Unit {0}) → M → ℕ → M → Type 0
+Claimed s v found w = (w ≡ (with_work (claimed (ticket_count v.0.terms) found) v.0, v.1)) × WasWord v.0.terms v.0.hands s.word found
+
+abbrev pub HasRead : Step (Unit {0}) → M → ℕ → M → Type 0
+HasRead s v found w = (w ≡ (with_work (has_read found) v.0, v.1)) × WasWord v.0.terms v.0.hands s.word found
+
+abbrev pub Added : ℕ → Step (Unit {0}) → M → ℕ → M → Type 0
+Added k s v found w = (w ≡ (with_work (has_added k (s.word - 1)) v.0, v.1)) × WasWord v.0.terms v.0.hands s.word found
+
+-- the tickets of the hands are below this one, and ascend
+abbrev pub AllFallBelow : ℕ → List Hand → Type 0
+AllFallBelow ticket [] = Unit {0}
+AllFallBelow ticket (h ∷ hs) = IsFalling ticket h.work.log × AllFallBelow ticket hs
+
+-- one worker alone, which has not stopped and whose last entry is complete
+abbrev pub MayClaim : Terms → List Hand → Type 0
+MayClaim t [] = ⊥
+MayClaim t (h ∷ []) = (h.work.stopped ≡ false) × LastIsComplete t h.work.log
+MayClaim t (h ∷ i ∷ hs) = ⊥
+
+abbrev pub LastReads : Terms → ℕ → List Entry → Type 0
+LastReads t c [] = ⊥
+LastReads t c (e ∷ es) = (length e.reads ≡ c) × (c < cell_count t) × (e.adds ≡ [])
+
+abbrev pub MayRead : Terms → ℕ → List Hand → Type 0
+MayRead t c [] = ⊥
+MayRead t c (h ∷ []) = LastReads t c h.work.log
+MayRead t c (h ∷ i ∷ hs) = ⊥
+
+abbrev pub MayAdd : Terms → ℕ → ℕ → List Hand → Type 0
+MayAdd t k c [] = ⊥
+MayAdd t k c (h ∷ []) = (c < cell_count t) × LastMayAdd t k c h.work.log
+MayAdd t k c (h ∷ i ∷ hs) = ⊥
+
+-- all workers are in the pass
+pub record MayClose (t : Terms) (v : View) : Type 0 where
+  pub splits : v.left + v.made + 1 ≡ t.workers
+  pub hands : length v.hands ≡ v.made + 1
+
+-- some schedule leads to these loads, with what these hands say and nothing else
+pub record Closes (t : Terms) (hands : List Hand) (loads : List ℕ) : Type 0 where
+  pub events : List Event
+  pub legal : AreLegal t (start t) events
+  pub loads_there : (after_schedule t (start t) events).loads ≡ loads
+  pub works : AllFit (after_schedule t (start t) events) hands
+  pub once : (n : ℕ) → total (λ (h : Hand). one_if (n == h.number)) hands ≤ 1
+  pub others : (n : ℕ) → total (λ (h : Hand). one_if (n == h.number)) hands ≡ 0 → worker_at (after_schedule t (start t) events) n ≡ idle
+  pub sums : (c : ℕ) → c < cell_count t → slice_index loads c ≡ slice_index t.base c + total (λ (h : Hand). added t c h.work.log) hands

@@ -1,0 +1,209 @@
+//! The words that workers share, and the passes by which they step: one word of claims, and one a cell.
+
+ghost use Rattle.std.specs.Prelude.{◌≡◌, ℕ, ◌+◌, ◌-◌, ◌^◌, ◌<◌, ◌≤◌, [], ◌∷◌, map, length, IfOk};
+ghost use Rattle.flow_core.specs.Core.{Terms, IsStart, claimed, has_read, has_added, idle};
+ghost use Rattle.flow_model.specs.Groups.{group_count};
+ghost use Rattle.load_table.specs.Seen.{IsPassOf};
+ghost use Rattle.load_table.specs.Views.{hand, first_view, with_work, cut, cut_off, joined};
+ghost use Rattle.load_table.specs.Rule.{MayClaim, MayRead, MayAdd, MayClose, WasWord, AllFallBelow, Closes};
+
+use crate::rule::{Adds, Claims, Cuts, LoadRule, Named, Reads};
+use crate::view::{Origin, View};
+use atomic_table::{Seat, Table};
+use flow_model::{Commodity, Groups, Net, Setting};
+use mcf_limits::MAX_LENGTH;
+use std::alloc::{AllocError, Global};
+use std::marker::{Brand, Model};
+use std::snapshot::Snapshot;
+
+/// The shared words. Contracts see the table, and what the phase starts from: the network, whose groups these are, the setting, the base and the number of workers.
+#[derive(Drop)]
+pub struct Loads {
+    table: Table<(), View, Origin, LoadRule, Global>,
+    amounts: Vec<u64>,
+    groups: u16,
+}
+
+impl Model for Loads {
+    ghost use Rattle.load_table.specs.Seen.{LoadsView, IsLoads};
+
+    ghost Value = { LoadsView };
+
+    ghost view = { λ l. record { table = l.table.shared.table_id; terms = l.table.shared.key } };
+
+    ghost invariant = { λ l. IsLoads l.table.shared.table_id l.table.shared.key l.amounts.items l.groups };
+}
+
+/// What some workers have done. Contracts see the table, and what the pass knows: its workers with their entries and stops, and its splits left and made.
+#[derive(Drop)]
+pub struct Pass {
+    seat: Seat<(), View>,
+}
+
+impl Model for Pass {
+    ghost use Rattle.std.specs.Prelude.{◌≡◌, []};
+    ghost use Rattle.load_table.specs.Seen.{PassView};
+
+    ghost Value = { PassView };
+
+    ghost view = { λ p. record { table = p.seat.table_id; view = p.seat.me.0 } };
+
+    ghost invariant = { λ p. p.seat.me.1 ≡ [] };
+}
+
+fn amounts_of(alloc: Global, commodities: &[Commodity]) -> Result<Vec<u64>, AllocError>
+    ensures { IfOk result (λ v. v.items ≡ map (λ k. k.amount) commodities.now) }
+{
+    commodities.iter().map(|k| k.amount).collect(alloc)
+}
+
+fn words_of(alloc: Global, base: &[u64]) -> Result<Vec<u64>, AllocError>
+    ensures { IfOk result (λ v. v.items ≡ 0 ∷ base.now) }
+{
+    let mut words = Vec::new(alloc);
+    words.push(0)?;
+    words.extend_from_slice(base)?;
+    Ok(words)
+}
+
+impl Loads {
+    /// Word 0 is 0, and each cell's word is its base. The pass is that of worker 0, with a split for each other worker. `Err` is for want of memory.
+    pub fn new(
+        alloc: Global,
+        net: &Net,
+        groups: &Groups,
+        setting: Setting,
+        base: &[u64],
+        workers: u16,
+    ) -> Result<(Loads, Pass), AllocError>
+        requires groups { groups.now ≡ net.now }
+        requires start { IsStart record { net = net.now; setting = setting; base = base.now; workers = workers } }
+        ensures loads { IfOk result (λ r. r.0.terms ≡ record { net = net.now; setting = setting; base = base.now; workers = workers }) }
+        ensures pass { IfOk result (λ r. IsPassOf r.0 r.1 × (r.1.view ≡ first_view r.0.terms)) }
+    {
+        let amounts = amounts_of(alloc, net.commodities())?;
+        let words = words_of(alloc, base)?;
+        let origin = Origin {
+            net: Snapshot::of(net),
+            setting,
+            words: Snapshot::of(&words),
+            workers,
+        };
+        let (table, seat) = Table::of_words(alloc, words.as_slice(), &origin)?;
+        let groups = groups.count();
+        Ok((
+            Loads {
+                table,
+                amounts,
+                groups,
+            },
+            Pass { seat },
+        ))
+    }
+
+    /// How many tickets stand for a group: any other says that all have been claimed.
+    pub fn group_count(&self) -> u16
+        ensures { result ≡ group_count self.now.terms.net }
+    {
+        self.groups
+    }
+
+    /// How many cells there are.
+    pub fn cell_count(&self) -> u16
+        ensures { result ≡ length self.now.terms.net.cells }
+    {
+        (self.table.word_count() - 1) as u16
+    }
+
+    /// A pass for the next worker, which has done nothing.
+    pub fn split(&self, pass: &mut Pass) -> Pass
+        requires of { IsPassOf self.now pass.old }
+        requires left { 0 < pass.old.view.left }
+        ensures of { IsPassOf self.now pass.new × IsPassOf self.now result }
+        ensures views { (pass.new.view ≡ cut pass.old.view) × (result.view ≡ cut_off pass.old.view) }
+    {
+        let seat = self.table.shared.split_seat::<Cuts>(&mut pass.seat);
+        Pass { seat }
+    }
+
+    /// Takes a ticket by one `fetch_add` on word 0. One below the number of groups is the group to route, any other says that all have been claimed.
+    pub fn claim(&self, pass: &mut Pass) -> u64
+        requires of { IsPassOf self.now pass.old }
+        requires may { MayClaim self.now.terms pass.old.view.hands }
+        ensures of { IsPassOf self.now pass.new }
+        ensures view { pass.new.view ≡ with_work (claimed (group_count self.now.terms.net) result) pass.old.view }
+        ensures word { WasWord self.now.terms pass.old.view.hands 0 result }
+        ensures order { AllFallBelow result pass.old.view.hands }
+    {
+        self.table.shared.fetch_add::<Claims>(&mut pass.seat, 0, 1)
+    }
+
+    /// Reads a cell's word by one load. Cells are read in order.
+    pub fn read_cell(&self, pass: &mut Pass, cell: u16) -> u64
+        requires of { IsPassOf self.now pass.old }
+        requires may { MayRead self.now.terms cell pass.old.view.hands }
+        ensures of { IsPassOf self.now pass.new }
+        ensures view { pass.new.view ≡ with_work (has_read result) pass.old.view }
+        ensures word { WasWord self.now.terms pass.old.view.hands (cell + 1) result }
+        ensures within { result ≤ MAX_LENGTH }
+    {
+        let word = cell as usize + 1;
+        self.table.shared.load::<Reads>(&mut pass.seat, word)
+    }
+
+    // The step does not see which commodity it is for: the parameter tells the proof.
+    fn add_for<J: Named>(&self, pass: &mut Pass, k: u32, cell: u16) -> u64
+        requires named { k ≡ J.commodity }
+        requires of { IsPassOf self.now pass.old }
+        requires may { MayAdd self.now.terms k cell pass.old.view.hands }
+        ensures of { IsPassOf self.now pass.new }
+        ensures view { pass.new.view ≡ with_work (has_added J.commodity cell) pass.old.view }
+        ensures word { WasWord self.now.terms pass.old.view.hands (cell + 1) result }
+    {
+        let amount = self.amounts[k as usize];
+        let word = cell as usize + 1;
+        let shared = &self.table.shared;
+        shared.fetch_add::<Adds<J>>(&mut pass.seat, word, amount)
+    }
+
+    /// Adds a commodity's amount to a cell by one `fetch_add`, and answers the word before it.
+    pub fn add_cell(&self, pass: &mut Pass, k: u32, cell: u16) -> u64
+        requires of { IsPassOf self.now pass.old }
+        requires may { MayAdd self.now.terms k cell pass.old.view.hands }
+        ensures of { IsPassOf self.now pass.new }
+        ensures view { pass.new.view ≡ with_work (has_added k cell) pass.old.view }
+        ensures word { WasWord self.now.terms pass.old.view.hands (cell + 1) result }
+    {
+        self.add_for::<Brand>(pass, k, cell)
+    }
+
+    /// Hands what the other pass has to this one.
+    pub fn join(&self, pass: &mut Pass, other: Pass)
+        requires of { IsPassOf self.now pass.old × IsPassOf self.now other }
+        ensures of { IsPassOf self.now pass.new }
+        ensures view { pass.new.view ≡ joined pass.old.view other.view }
+    {
+        let Pass { seat } = other;
+        self.table.shared.join_seat::<Cuts>(&mut pass.seat, seat);
+    }
+
+    /// Puts the load of each cell in its place: the base and all adds. Some schedule leads there with the entries and stops of the pass and no others.
+    pub fn close(self, pass: Pass, into: &mut [u64])
+        requires of { IsPassOf self pass }
+        requires whole { MayClose self.terms pass.view }
+        requires room { length into.old ≡ length self.terms.net.cells }
+        ensures { Closes self.terms pass.view.hands into.new }
+    {
+        let Loads {
+            table,
+            amounts: _,
+            groups: _,
+        } = self;
+        let Pass { seat } = pass;
+        let closed = table.close_with(seat);
+        for i in 0..into.len() {
+            into[i] = closed.word(i + 1);
+        }
+        closed.free();
+    }
+}

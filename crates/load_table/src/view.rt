@@ -1,0 +1,41 @@
+//! What passes know. It exists in proofs alone.
+
+ghost use Rattle.std.specs.Prelude.{drop};
+
+use flow_core::Worker;
+use flow_model::{Net, Setting};
+use std::collections::LinkedList;
+use std::marker::Model;
+use std::snapshot::Snapshot;
+
+/// What the table is told once. Contracts see it as the terms.
+#[derive(Drop)]
+pub struct Origin {
+    pub(crate) net: Snapshot<Net>,
+    pub(crate) setting: Setting,
+    pub(crate) words: Snapshot<Vec<u64>>,
+    pub(crate) workers: u16,
+}
+
+impl Model for Origin {
+    ghost use Rattle.std.specs.Prelude.{drop};
+    ghost use Rattle.flow_core.specs.Core.{Terms};
+
+    ghost Value = { Terms };
+
+    ghost view = { λ o. record { net = o.net.value; setting = o.setting; base = drop 1 o.words.value.items; workers = o.workers } };
+}
+
+/// A worker's number and what it did. No value of it is made.
+pub struct Hand {
+    pub number: u16,
+    pub work: Worker,
+}
+
+/// What a pass knows: the workers in it, and how many splits it has left and has made. No value of it is made.
+pub struct View {
+    pub terms: Origin,
+    pub left: u16,
+    pub made: u16,
+    pub hands: LinkedList<Hand>,
+}

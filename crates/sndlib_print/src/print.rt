@@ -1,0 +1,138 @@
+//! The canonical text, written.
+
+ghost use Rattle.std.specs.Prelude.{◌≡◌, ◌++◌, [], length, map, OnOk, OnErr};
+ghost use Rattle.std.specs.Io.KnownBytes.{Appends};
+ghost use Rattle.text_lines.specs.Lines.{text_of};
+ghost use Rattle.mcf_base.specs.Faults.{HasCause};
+ghost use Rattle.mcf_base.specs.Sink.{AppendsFront};
+ghost use Rattle.line_writer.specs.Writing.{Puts};
+ghost use Rattle.sndlib_grammar.specs.Rows.{names_of_nodes};
+ghost use Rattle.sndlib_text.specs.Canonical.{node_line, link_line, demand_line, canonical_text};
+
+use crate::entries::{put_demand, put_link, put_node};
+use line_writer::Buffer;
+use mcf_base::{Sink, WriteFault};
+use sndlib_read::RawNet;
+
+/// The first line, and the line that opens the nodes.
+const NODES: &[u8] = b"?SNDlib native format; type: network; version: 1.0\nNODES (\n";
+
+/// The line that closes the nodes, and the one that opens the links.
+const LINKS: &[u8] = b")\nLINKS (\n";
+
+const DEMANDS: &[u8] = b")\nDEMANDS (\n";
+
+const END: &[u8] = b")\n";
+
+fn put_nodes<K: Sink>(raw: &RawNet<'_>, buffer: &mut Buffer, out: &mut K) -> Result<(), WriteFault>
+    ensures puts { Puts (K.written out.old) (K.written out.new) buffer.old buffer.new result (text_of (map node_line raw.now.nodes)) }
+    ensures cause { HasCause (K.faults out.old) (K.faults out.new) result }
+{
+    for i in 0..raw.nodes() {
+        match put_node(raw, i, buffer, out) {
+            Ok(()) => {}
+            Err(fault) => return Err(fault),
+        }
+    }
+    Ok(())
+}
+
+fn put_links<K: Sink>(raw: &RawNet<'_>, buffer: &mut Buffer, out: &mut K) -> Result<(), WriteFault>
+    ensures puts { Puts (K.written out.old) (K.written out.new) buffer.old buffer.new result (text_of (map (link_line (names_of_nodes raw.now)) raw.now.links)) }
+    ensures cause { HasCause (K.faults out.old) (K.faults out.new) result }
+{
+    for i in 0..raw.links() {
+        match put_link(raw, i, buffer, out) {
+            Ok(()) => {}
+            Err(fault) => return Err(fault),
+        }
+    }
+    Ok(())
+}
+
+fn put_demands<K: Sink>(
+    raw: &RawNet<'_>,
+    buffer: &mut Buffer,
+    out: &mut K,
+) -> Result<(), WriteFault>
+    ensures puts { Puts (K.written out.old) (K.written out.new) buffer.old buffer.new result (text_of (map (demand_line (names_of_nodes raw.now)) raw.now.demands)) }
+    ensures cause { HasCause (K.faults out.old) (K.faults out.new) result }
+{
+    for i in 0..raw.demands() {
+        match put_demand(raw, i, buffer, out) {
+            Ok(()) => {}
+            Err(fault) => return Err(fault),
+        }
+    }
+    Ok(())
+}
+
+// The text from the opening of the demands on.
+fn put_from_demands<K: Sink>(
+    raw: &RawNet<'_>,
+    buffer: &mut Buffer,
+    out: &mut K,
+) -> Result<(), WriteFault>
+    ensures puts { Puts (K.written out.old) (K.written out.new) buffer.old buffer.new result (DEMANDS.now ++ (text_of (map (demand_line (names_of_nodes raw.now)) raw.now.demands) ++ END.now)) }
+    ensures cause { HasCause (K.faults out.old) (K.faults out.new) result }
+{
+    match buffer.put(out, DEMANDS) {
+        Ok(()) => {}
+        Err(fault) => return Err(fault),
+    }
+    match put_demands(raw, buffer, out) {
+        Ok(()) => {}
+        Err(fault) => return Err(fault),
+    }
+    buffer.put(out, END)
+}
+
+// The text from the opening of the links on.
+fn put_from_links<K: Sink>(
+    raw: &RawNet<'_>,
+    buffer: &mut Buffer,
+    out: &mut K,
+) -> Result<(), WriteFault>
+    ensures puts { Puts (K.written out.old) (K.written out.new) buffer.old buffer.new result (LINKS.now ++ (text_of (map (link_line (names_of_nodes raw.now)) raw.now.links) ++ (DEMANDS.now ++ (text_of (map (demand_line (names_of_nodes raw.now)) raw.now.demands) ++ END.now)))) }
+    ensures cause { HasCause (K.faults out.old) (K.faults out.new) result }
+{
+    match buffer.put(out, LINKS) {
+        Ok(()) => {}
+        Err(fault) => return Err(fault),
+    }
+    match put_links(raw, buffer, out) {
+        Ok(()) => {}
+        Err(fault) => return Err(fault),
+    }
+    put_from_demands(raw, buffer, out)
+}
+
+// The whole text.
+fn put_all<K: Sink>(raw: &RawNet<'_>, buffer: &mut Buffer, out: &mut K) -> Result<(), WriteFault>
+    ensures puts { Puts (K.written out.old) (K.written out.new) buffer.old buffer.new result (canonical_text raw.now) }
+    ensures cause { HasCause (K.faults out.old) (K.faults out.new) result }
+{
+    match buffer.put(out, NODES) {
+        Ok(()) => {}
+        Err(fault) => return Err(fault),
+    }
+    match put_nodes(raw, buffer, out) {
+        Ok(()) => {}
+        Err(fault) => return Err(fault),
+    }
+    put_from_links(raw, buffer, out)
+}
+
+/// Writes the canonical text of the rows, and takes no memory. After a fault a prefix of it was written.
+pub fn print_net<K: Sink>(raw: &RawNet<'_>, out: &mut K) -> Result<(), WriteFault>
+    ensures ok { OnOk result (Appends (K.written out.old) (K.written out.new) (canonical_text raw.now)) }
+    ensures err { OnErr result (AppendsFront (K.written out.old) (K.written out.new) (canonical_text raw.now)) }
+    ensures cause { HasCause (K.faults out.old) (K.faults out.new) result }
+{
+    let mut buffer = Buffer::new();
+    match put_all(raw, &mut buffer, out) {
+        Ok(()) => {}
+        Err(fault) => return Err(fault),
+    }
+    buffer.flush(out)
+}
