@@ -12,7 +12,7 @@ use Rattle.flow_model.specs.declared.net.Cell.{Cell}
 use Rattle.flow_model.specs.declared.net.Commodity.{Commodity}
 use Rattle.flow_model.specs.Network.{IsCell, IsCommodity, IsNetwork}
 use Rattle.sndlib_grammar.specs.Rows.{NetLink, NetDemand, NetRows, AreNetRows, IsNetLink, IsNetDemand}
-use Rattle.unit_scale.specs.Ascending.{AreKeptRows}
+use Rattle.unit_scale.specs.ScaledFacts.{AreKeptRows}
 use Rattle.unit_scale.specs.declared.options.NetOptions.{NetOptions}
 use Rattle.unit_scale.specs.Sizes.{serves, AreDecimals, sizes, capacity, counted, amount, in_units, is_left_out}
 use Rattle.unit_scale.specs.Scaling.{first_line, first_large, is_large_link, is_large_demand, counted_units, kept_from, link_cells, cells_of_link, commodity_of, net_of}
@@ -181,3 +181,10 @@ kept_rise n (d ∷ ds) i j lt h = elim (bool_is (is_left_out d)) [
 
 pub kept_rows : (rows : NetRows) (ks : List ℕ) → AreNetRows rows → ks ≡ kept_from 0 rows.demands → AreKeptRows ks
 kept_rows rows ks a e = subst AreKeptRows (sym e) (record { count = omega (arith, a.demand_count, kept_count 0 rows.demands); rise = λ i j lt h. kept_rise 0 rows.demands i j lt h })
+
+pub kept_same_count : (s n : ℕ) (ds : List NetDemand) → length (kept_from n ds) ≡ length (filter_map (commodity_of s) ds)
+kept_same_count s n [] = refl
+kept_same_count s n (d ∷ ds) = elim (bool_is (is_left_out d)) [
+  | inl out ↦ rw out (kept_same_count s (n + 1) ds)
+  | inr kept ↦ rw kept (ap suc (kept_same_count s (n + 1) ds))
+]

@@ -10,7 +10,7 @@ use Rattle.flow_model.specs.Network.{Network}
 use Rattle.std.specs.Ordering.{nat_cmp}
 use Rattle.std.specs.List.Sorted.{IsBinarySearchResult}
 use Rattle.std.proofs.lemmas.List.Sorted.{searched}
-use Rattle.unit_scale.specs.Ascending.{AreKeptRows}
+use Rattle.unit_scale.specs.ScaledFacts.{AreKeptRows}
 use Rattle.unit_scale.specs.declared.options.NetOptions.{NetOptions}
 use Rattle.unit_scale.specs.declared.refusal.ScaleEnd.{ScaleEnd}
 use Rattle.unit_scale.specs.declared.refusal.ScaleEnd.TheVariants.{Refused, Memory}

@@ -4,6 +4,6 @@ pub mod Sizes
 pub mod Scaling
 pub mod ScaleEnd
 pub mod Seen
-pub mod Ascending
+pub mod ScaledFacts
 pub mod Largest
 pub mod Stages

@@ -31,11 +31,11 @@ impl Model for Scaled {
 
     ghost Value = { ScaledNet };
 
-    ghost use Rattle.unit_scale.specs.Ascending.{AreKeptRows};
+    ghost use Rattle.unit_scale.specs.ScaledFacts.{IsScaledNet};
 
     ghost view = { λ s. record { options = s.options; net = s.net; decimals = s.decimals; kept = s.rows.items; left = s.left; hops = s.hops } };
 
-    ghost invariant = { λ s. AreKeptRows s.rows.items };
+    ghost invariant = { λ s. IsScaledNet (record { options = s.options; net = s.net; decimals = s.decimals; kept = s.rows.items; left = s.left; hops = s.hops }) };
 }
 
 // The network of the rows, stage by stage.
@@ -81,7 +81,7 @@ pub fn scale(alloc: Global, raw: &RawNet<'_>, options: NetOptions) -> Result<Sca
 
 impl Scaled {
     ghost use Rattle.std.specs.Prelude.{◌≡◌, ◌<◌, ◌≤◌, ◌==◌, length, position, slice_index};
-    ghost use Rattle.unit_scale.specs.Ascending.{AreKeptRows};
+    ghost use Rattle.unit_scale.specs.ScaledFacts.{IsScaledNet};
 
     /// How the rows were read.
     pub fn options(&self) -> NetOptions
@@ -92,14 +92,16 @@ impl Scaled {
 
     /// The network, in units.
     pub fn net(&self) -> &Net
-        ensures { result.now ≡ self.now.net }
+        ensures value { result.now ≡ self.now.net }
+        ensures facts { IsScaledNet self.now }
     {
         &self.net
     }
 
     /// How many decimals a unit has: it is 10^-decimals.
     pub fn decimals(&self) -> u8
-        ensures { result ≡ self.now.decimals }
+        ensures value { result ≡ self.now.decimals }
+        ensures facts { IsScaledNet self.now }
     {
         self.decimals
     }
@@ -108,7 +110,7 @@ impl Scaled {
     pub fn demand_of(&self, k: u32) -> u32
         requires { k < length self.now.kept }
         ensures value { result ≡ slice_index self.now.kept k }
-        ensures rows { AreKeptRows self.now.kept }
+        ensures facts { IsScaledNet self.now }
     {
         self.rows[k as usize]
     }

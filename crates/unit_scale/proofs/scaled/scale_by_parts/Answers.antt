@@ -1,7 +1,9 @@
-use Rattle.std.proofs.Common.{◌∙◌, refl}
+use Rattle.std.proofs.Common.{ℕ, ◌∙◌, refl, ap, sym, length}
 use Rattle.unit_scale.specs.Sizes.{AreDecimals, sizes}
 use Rattle.unit_scale.proofs.Composition.{AreFine, cells_end, demands_end, decimals_of_rows, decimals_deref, none_large, some_kept, same_net, empty_end}
-use Rattle.unit_scale.proofs.NetworkFacts.{network_ok, same_network, some_length, kept_rows}
+use Rattle.unit_scale.proofs.NetworkFacts.{network_ok, same_network, some_length, kept_rows, kept_same_count}
+use Rattle.flow_model.specs.Network.{Network}
+use Rattle.flow_model.specs.declared.net.Commodity.{Commodity}
 use Rattle.unit_scale.proofs.scaled.scale_by_parts.Goals as goal
 
 pub returns-in-Err-cells_of : goal.returns-in-Err-cells_of
@@ -42,4 +44,10 @@ returns c =
     }
 
 pub invariant_of-result : goal.invariant_of-result
-invariant_of-result c = kept_rows c.args.raw.now c.in-Ok-kept_demands.kept.rows.items c.nodes.ensures.rows c.in-Ok-kept_demands.ensures.1.rows
+invariant_of-result c =
+    let kept = c.in-Ok-kept_demands.ensures.1 in
+    record {
+      decimals = c.least_decimals-decimals.ensures.within;
+      count = ap (length {A = ℕ}) kept.rows ∙ kept_same_count c.least_decimals-decimals.result 0 c.args.raw.now.demands ∙ sym (ap (length {A = Commodity}) kept.commodities) ∙ sym (ap (λ (n : Network). length n.commodities) c.new.ensures);
+      rows = kept_rows c.args.raw.now c.in-Ok-kept_demands.kept.rows.items c.nodes.ensures.rows kept.rows;
+    }
