@@ -50,7 +50,7 @@ is_claimed t n count ticket routes v w g is l =
     hands_after (claimed count ticket) n v w g.work is g.hands_are ∙ ap (λ (u : Worker). hand n u ∷ []) (claims_one count ticket g.work l) in
     subst (OneWhere (IsClaimed ticket)) (sym hands) refl
 
-routes_more : (net : Network) (log : List Entry) (e : Entry) → routes_of net (e ∷ log) ≡ routes_of net log ++ routes_in net e
+pub routes_more : (net : Network) (log : List Entry) (e : Entry) → routes_of net (e ∷ log) ≡ routes_of net log ++ routes_in net e
 routes_more net log e = ap (flat_map (routes_in net)) (reverse_onto log e []) ∙ (flat_map-append (routes_in net) (reverse log) (e ∷ []) ∙ ap (λ (rs : List Route). routes_of net log ++ rs) (append-nil (routes_in net e)))
 
 pub goes_on : (t : Terms) (net : Network) (n count ticket : ℕ) (routes routes' new : List Route) (reads : List ℕ) (adds : List (ℕ × ℕ)) (v w x : View) → t.net ≡ net → IsGoing t n v.hands routes → w ≡ with_work (claimed count ticket) v → ticket < count

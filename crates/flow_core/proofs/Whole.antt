@@ -18,7 +18,7 @@ use Rattle.flow_core.specs.declared.state.Worker.{Worker}
 use Rattle.flow_core.specs.Core.{Terms, State, Event, AreLegal, after_schedule, total, IsStart, IsComplete, entry, idle, start, worker_at, is_pair, path_of, ticket_count, group_of, commodity_count, amount_of}
 use Rattle.flow_core.specs.Laws as laws
 use Rattle.flow_core.specs.Laws.{one_if, MembersOnly, AllMembers, pairs_in, pairs, added, below}
-use Rattle.flow_core.specs.Phase.{Routed, HasAdded, HasStopped, EachIsComplete, amounts_along, routes, times_routed, IsFinished}
+use Rattle.flow_core.specs.Phase.{Routed, HasAdded, HasStopped, EachIsComplete, IsWhole, amounts_along, routes, times_routed, IsFinished}
 use Rattle.flow_core.proofs.Places.{total-none, total-only, one-place, choose}
 use Rattle.std.proofs.lemmas.Bool.Decides.{nat_tests}
 use mathlib.Core.Bool.{not}
@@ -27,7 +27,7 @@ use native.Mathlib.Decide.{ℕ_discrete}
 use Rattle.flow_core.proofs.Sums.{total-at}
 use Rattle.flow_core.proofs.Steps.{Inv, laws as all_laws, counts_of, added-all}
 
-abbrev no_entry : Entry
+abbrev pub no_entry : Entry
 no_entry = entry 0 [] []
 
 abbrev no_route : Routed
@@ -169,7 +169,7 @@ off-ticket g n e same = let one : one_if (nat_eq g n) ≡ 1 = ap one_if (eq-eqb 
 on-ticket : (g n : ℕ) → one_if (nat_eq g n) ≡ 1 → g ≡ n
 on-ticket g n e = elim (cases_eq g n) [ inl same ↦ same | inr other ↦ let none : one_if (nat_eq g n) ≡ 0 = ap one_if (ne_eqb g n other) in absurd (omega arith) ]
 
-members-at : (t : Terms) (log : List Entry) (j : ℕ) (d : Entry) → AllMembers t log → j < length log → MembersOnly t (get_or log j d).ticket (get_or log j d).adds
+pub members-at : (t : Terms) (log : List Entry) (j : ℕ) (d : Entry) → AllMembers t log → j < length log → MembersOnly t (get_or log j d).ticket (get_or log j d).adds
 members-at t [] j d m l = absurd (omega arith)
 members-at t (e ∷ es) zero d m l = m.0.0
 members-at t (e ∷ es) (suc j) d m l = members-at t es j d m.1 (omega arith)
@@ -188,7 +188,7 @@ log-pairs k c log h = total-none (λ (e : Entry). pairs_in k c e.adds) log no_en
 log-routes : (k : ℕ) (log : List Entry) → ((j : ℕ) → j < length log → path_of k (get_or log j no_entry).adds ≡ []) → total (λ (e : Entry). one_if (routes k e)) log ≡ 0
 log-routes k log h = total-none (λ (e : Entry). one_if (routes k e)) log no_entry (λ j l. ap one_if (routes-none k (get_or log j no_entry).adds (h j l)))
 
-contained : (log : List Entry) (e : Entry) → Contains log e → (j : ℕ) × (j < length log) × (get_or log j no_entry ≡ e)
+pub contained : (log : List Entry) (e : Entry) → Contains log e → (j : ℕ) × (j < length log) × (get_or log j no_entry ≡ e)
 contained log e h = (h.0, h.1, any_default log h.0 no_entry e h.1 ∙ h.2)
   where
     any_default : (xs : List Entry) (i : ℕ) (d f : Entry) → i < length xs → get_or xs i d ≡ get_or xs i f
@@ -197,7 +197,7 @@ contained log e h = (h.0, h.1, any_default log h.0 no_entry e h.1 ∙ h.2)
     any_default (x ∷ xs) (suc i) d f l = any_default xs i d f (omega arith)
 
 -- the path of a complete entry's member
-path-some : (t : Terms) (e : Entry) (k : ℕ) → IsNetwork t.net → k < commodity_count t → IsComplete t e → group_of t k ≡ e.ticket → path_of k e.adds ≢ []
+pub path-some : (t : Terms) (e : Entry) (k : ℕ) → IsNetwork t.net → k < commodity_count t → IsComplete t e → group_of t k ≡ e.ticket → path_of k e.adds ≢ []
 path-some t e k n l complete same none =
     let d : Commodity = record { from = 0; to = 0; amount = 0 } in
     let commodity = get_or t.net.commodities k d in
@@ -301,21 +301,23 @@ whole t es h legal stopped complete =
     let chosen = choose (IsRoute t s) no_route (commodity_count t) (route-of t s h.net i (omega arith) complete) in
     let entries = chosen.0 in
     let routes_at : (k : ℕ) → k < commodity_count t → IsRoute t s k (get_or entries k no_route) = chosen.2 in
+    let is_whole : IsWhole t s s.loads entries = record {
+      loads_are = refl;
+      stopped = stopped;
+      complete = complete;
+      entries_are = λ k w path. (to-added s entries k w path chosen.1 routes_at, from-added s entries k w path chosen.1 routes_at i);
+    } in
     record {
       entries = entries;
       count = chosen.1;
       once = λ k l. (routes_at k l).once;
+      whole = is_whole;
       phase = record {
         workers = t.workers;
         few = h.few_workers;
         events = es;
         legal = legal;
-        whole = record {
-          loads_are = refl;
-          stopped = stopped;
-          complete = complete;
-          entries_are = λ k w path. (to-added s entries k w path chosen.1 routes_at, from-added s entries k w path chosen.1 routes_at i);
-        };
+        whole = is_whole;
       };
       sums = λ c few.
           let sum = i.sums c few in

@@ -67,5 +67,6 @@ pub record IsFinished (t : Terms) (s : State) : Type 0 where
   pub entries : List Routed
   pub count : length entries ≡ commodity_count t
   pub once : (k : ℕ) → k < commodity_count t → total (times_routed k) s.workers ≡ 1
+  pub whole : IsWhole t s s.loads entries
   pub phase : IsPhase t.net t.setting t.base s.loads entries
   pub sums : (c : ℕ) → c < cell_count t → slice_index s.loads c ≡ slice_index t.base c + load_of (amounts_along 0 t.net.commodities entries) c

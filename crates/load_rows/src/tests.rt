@@ -201,9 +201,9 @@ fn two_workers_add_to_one_cell(rt: HostRuntime) -> Result<(), Fail> {
 
 /// Claims once, and loads the one cell by the claimed group's demand.
 #[tactic(auto, unfolding(flow_model::specs::Groups::group_in, flow_model::specs::Groups::group_count))]
-fn claim_once(loads: &Loads, pass: Pass) -> Pass
+fn claim_once(loads: &Loads, pass: Pass, worker: u16) -> Pass
     requires of { IsPassOf loads.now pass }
-    requires fresh { (n : ℕ) × (pass.view.hands ≡ hand n idle ∷ []) }
+    requires fresh { pass.view.hands ≡ hand worker idle ∷ [] }
     requires net { loads.now.terms.net ≡ record { nodes = 2; cells = UNDIRECTED ∷ []; commodities = THERE ∷ BACK ∷ [] } }
     ensures of { IsPassOf loads.now result }
     ensures splits { (result.view.left ≡ pass.view.left) × (result.view.made ≡ pass.view.made) }
@@ -235,20 +235,20 @@ fn two_threads_share_the_words(rt: HostRuntime) -> Result<(), Fail> {
         &rt,
         || -> Pass
             requires of { IsPassOf loads first }
-            requires fresh { (n : ℕ) × (first.view.hands ≡ hand n idle ∷ []) }
+            requires fresh { first.view.hands ≡ hand 0 idle ∷ [] }
             requires net { loads.terms.net ≡ record { nodes = 2; cells = UNDIRECTED ∷ []; commodities = THERE ∷ BACK ∷ [] } }
             ensures of { IsPassOf loads result }
             ensures splits { (result.view.left ≡ first.view.left) × (result.view.made ≡ first.view.made) }
             ensures alone { length result.view.hands ≡ 1 }
-        { claim_once(&loads, first) },
+        { claim_once(&loads, first, 0) },
         || -> Pass
             requires of { IsPassOf loads second }
-            requires fresh { (n : ℕ) × (second.view.hands ≡ hand n idle ∷ []) }
+            requires fresh { second.view.hands ≡ hand 1 idle ∷ [] }
             requires net { loads.terms.net ≡ record { nodes = 2; cells = UNDIRECTED ∷ []; commodities = THERE ∷ BACK ∷ [] } }
             ensures of { IsPassOf loads result }
             ensures splits { (result.view.left ≡ second.view.left) × (result.view.made ≡ second.view.made) }
             ensures alone { length result.view.hands ≡ 1 }
-        { claim_once(&loads, second) },
+        { claim_once(&loads, second, 1) },
     );
     loads.join(&mut first, second);
     let mut into = [0];

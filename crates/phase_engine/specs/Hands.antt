@@ -1,0 +1,71 @@
+-- The hands of the workers in a phase.
+use Rattle.std.specs.Prelude.{◌≡◌, ℕ, ◌-◌, ◌<◌, ◌==◌, true, if◌then◌else◌, List, [], ◌∷◌, length, Option, Some, None, slice_index_or}
+use Rattle.flow_model.specs.declared.setting.Setting.{Setting}
+use Rattle.flow_model.specs.Network.{Network}
+use Rattle.flow_model.specs.Least.{HasNoCut}
+use Rattle.flow_model.specs.Lengths.{IsSetting}
+use Rattle.flow_core.specs.Core.{Terms, idle}
+use Rattle.flow_core.specs.Laws.{AllComplete}
+use Rattle.load_table.specs.declared.view.View.{View}
+use Rattle.load_table.specs.declared.view.Hand as table
+use Rattle.load_table.specs.Views.{hand, view_of}
+use Rattle.load_table.specs.Seen.{LoadsView, IsPassOf}
+use Rattle.commodity_claims.specs.declared.worker.Worked.{Worked}
+use Rattle.commodity_claims.specs.Work.{HasWorked, routes_of}
+use Rattle.phase_engine.specs.declared.hand.Hand.{Hand}
+
+abbrev pub OfTurn : Option Worked → (Worked → Type 0) → Type 0
+OfTurn None P = ⊥
+OfTurn (Some w) P = P w
+
+-- the view of worker k when the work begins: the first has made all splits
+abbrev pub start_view : Terms → ℕ → View
+start_view t k = view_of t 0 (if k == 0 then t.workers - 1 else 0) (hand k idle ∷ [])
+
+-- hand k before a phase: its number, no turn, no routes, and a scratch for so many nodes
+abbrev pub IsFresh : ℕ → ℕ → Hand → Type 0
+IsFresh nodes k h = (h.worker ≡ k) × (h.turn ≡ None) × (h.routes ≡ []) × (h.scratch.nodes ≡ nodes)
+
+-- the hand has the pass of its worker, with nothing done
+abbrev pub IsReady : LoadsView → Hand → Type 0
+IsReady l h = OfTurn h.turn (λ w. IsPassOf l w.pass × (w.pass.view ≡ start_view l.terms h.worker) × (h.routes ≡ []) × (h.scratch.nodes ≡ l.terms.net.nodes))
+
+-- the hand has the pass of its worker after the work
+abbrev pub IsDone : LoadsView → Hand → Type 0
+IsDone l h = OfTurn h.turn (λ w. IsPassOf l w.pass × HasWorked l.terms h.worker (start_view l.terms h.worker) w.pass.view w.memory h.routes)
+
+-- the same worker, with a scratch of the same size
+abbrev pub IsSameWorker : Hand → Hand → Type 0
+IsSameWorker h g = (g.worker ≡ h.worker) × (g.scratch.nodes ≡ h.scratch.nodes) × (g.scratch.cells ≡ h.scratch.cells)
+
+abbrev pub Runs : LoadsView → Hand → Hand → Type 0
+Runs l h g = IsSameWorker h g × IsDone l g
+
+-- the turn is over, and the rest is as it was
+abbrev pub IsBack : Hand → Hand → Type 0
+IsBack h g = IsSameWorker h g × (g.turn ≡ None) × (g.routes ≡ h.routes)
+
+abbrev pub no_hand : table.Hand
+no_hand = hand 0 idle
+
+-- the work in the joined pass that is that of hand k
+abbrev pub IsWorkOf : Terms → List table.Hand → ℕ → Hand → Type 0
+IsWorkOf t works k h = ((slice_index_or works k no_hand).number ≡ k) × AllComplete t (slice_index_or works k no_hand).work.log × (h.routes ≡ routes_of t.net (slice_index_or works k no_hand).work.log)
+
+-- each hand's routes are those of its worker's entries, which are complete
+pub record EachWork (t : Terms) (hands : List Hand) (works : List table.Hand) : Type 0 where
+  pub as_many : length works ≡ length hands
+  pub each : (k : ℕ) (d : Hand) → k < length hands → IsWorkOf t works k (slice_index_or hands k d)
+
+-- some worker has stopped
+abbrev pub SomeStopped : List table.Hand → Type 0
+SomeStopped works = (k : ℕ) × (k < length works) × ((slice_index_or works k no_hand).work.stopped ≡ true)
+
+-- groups and graph are of the network of the loads, which has no cut, and the setting is that of the loads
+pub record AreOf (net groups graph : Network) (setting : Setting) (l : LoadsView) : Type 0 where
+  pub loads : l.terms.net ≡ net
+  pub groups_are : groups ≡ net
+  pub graph_is : graph ≡ net
+  pub setting_is : setting ≡ l.terms.setting
+  pub fits : IsSetting setting
+  pub no_cut : HasNoCut net

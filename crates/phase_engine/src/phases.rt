@@ -1,0 +1,70 @@
+//! One phase: the loads are shared, the hands take their turns, and the loads are read back.
+
+ghost use Rattle.std.specs.Prelude.{◌≡◌, ℕ, ◌<◌, ◌≤◌, [], All, OnOk, OnErr, length, slice_index_or};
+ghost use Rattle.flow_model.specs.Least.{HasNoCut};
+ghost use Rattle.flow_model.specs.Lengths.{IsSetting};
+ghost use Rattle.flow_core.specs.Core.{IsStart};
+ghost use Rattle.phase_engine.specs.Hands.{IsFresh, IsSameWorker};
+ghost use Rattle.phase_engine.specs.Routing.{IsRoutedPhase};
+
+use crate::hand::Hand;
+use crate::turns::{gather, hand_out, run_all};
+use fixed_exp::Powers;
+use flow_model::{Groups, Net, Setting};
+use load_table::Loads;
+use mcf_base::Gate;
+use mcf_limits::MAX_WORKERS;
+use net_graph::Graph;
+use std::alloc::{AllocError, Global};
+use std::thread::Threads;
+
+/// Forgets all routes.
+fn clear_all(hands: &mut [Hand])
+    ensures cleared { All (λ h. h.routes ≡ []) hands.new }
+    ensures back { (k : ℕ) (d : _) → k < length hands.old → IsSameWorker (slice_index_or hands.old k d) (slice_index_or hands.new k d) × ((slice_index_or hands.new k d).turn ≡ (slice_index_or hands.old k d).turn) }
+{
+    for hand in hands.iter_mut() {
+        hand.routes.clear();
+    }
+}
+
+/// One phase over the loads, which grow by the routes of the hands. Where some worker went on to the end the phase
+/// is whole, although another was refused room. Else `Err` is for want of memory: the loads are as before, and the
+/// routes are cleared.
+pub fn phase<G: Gate, R: Threads + Sync>(
+    rt: &R,
+    alloc: Global,
+    net: &Net,
+    groups: &Groups,
+    graph: &Graph,
+    powers: &Powers,
+    setting: Setting,
+    loads: &mut [u64],
+    hands: &mut [Hand],
+    gate: &G,
+) -> Result<(), AllocError>
+    requires start { IsStart record { net = net.now; setting = setting; base = loads.old; workers = length hands.old } }
+    requires groups { groups.now ≡ net.now }
+    requires graph { graph.now ≡ net.now }
+    requires setting { IsSetting setting }
+    requires no_cut { HasNoCut net.now }
+    requires fresh { (k : ℕ) (d : _) → k < length hands.old → IsFresh net.now.nodes k (slice_index_or hands.old k d) }
+    ensures ok { OnOk result (IsRoutedPhase net.now setting loads.old loads.new hands.new) }
+    ensures loads { OnErr result (loads.new ≡ loads.old) }
+    ensures routes { OnErr result (All (λ h. h.routes ≡ []) hands.new) }
+    ensures back { (k : ℕ) (d : _) → k < length hands.old → IsSameWorker (slice_index_or hands.old k d) (slice_index_or hands.new k d) }
+    ensures turns { (k : ℕ) (d : _) → k < length hands.old → (slice_index_or hands.new k d).turn ≡ None }
+{
+    let (table, first) = Loads::new(alloc, net, groups, setting, loads, hands.len() as u16)?;
+    hand_out(&table, first, hands);
+    run_all(
+        rt, alloc, net, groups, graph, powers, &setting, &table, gate, hands,
+    );
+    let (pass, whole) = gather(&table, hands);
+    if !whole {
+        clear_all(hands);
+        return Err(AllocError);
+    }
+    table.close(pass, loads);
+    Ok(())
+}
