@@ -1,155 +1,120 @@
-//! The words of nodes, cells and commodities, looked up by hash.
+//! The words of nodes, cells and commodities, as the rows of a network text have them.
 
-ghost use Rattle.std.specs.Prelude.{◌≡◌, ◌<◌, IfSome, length};
-ghost use Rattle.cert_names.specs.NameSets.{words_in};
-ghost use Rattle.cert_names.specs.Sheet.{place_of};
-
-use indexmap::IndexSet;
+use net_options::{link_word, module_word};
+use sndlib_read::RawNet;
 use std::marker::Model;
+use unit_scale::Scaled;
 
-/// What a certificate's text cites of a network.
-#[derive(Drop)]
+/// What a certificate's text cites of a network: a view of its rows and of its network in units, which takes no memory.
 pub struct Names<'a> {
-    link_mode: &'a [u8],
-    module_mode: &'a [u8],
-    nodes: IndexSet<&'a [u8]>,
-    cells: IndexSet<&'a [u8]>,
-    commodities: IndexSet<&'a [u8]>,
-    counts: [u32; 7],
+    rows: &'a RawNet<'a>,
+    net: &'a Scaled,
 }
 
 impl<'a> Model for Names<'a> {
-    ghost use Rattle.cert_names.specs.Sheet.{Sheet, IsWithin};
-    ghost use Rattle.cert_names.specs.NameSets.{words_in};
+    ghost use Rattle.cert_names.specs.Sheet.{Sheet, sheet_of, IsOf};
 
     ghost Value = { Sheet };
 
-    ghost view = { λ s. record { link_mode = s.link_mode.now; module_mode = s.module_mode.now; nodes = words_in s.nodes; cells = words_in s.cells; commodities = words_in s.commodities; counts = s.counts } };
+    ghost view = { λ s. sheet_of s.rows.now s.net.now };
 
-    ghost invariant = { λ s. IsWithin (record { link_mode = s.link_mode.now; module_mode = s.module_mode.now; nodes = words_in s.nodes; cells = words_in s.cells; commodities = words_in s.commodities; counts = s.counts }) };
+    ghost invariant = { λ s. IsOf s.rows.now s.net.now };
 }
-
-// The place of the word.
-fn place(words: &IndexSet<&[u8]>, word: &[u8]) -> Option<usize>
-    ensures place { result ≡ place_of (words_in words.now) word.now }
-    ensures within { IfSome result (λ i. i < length (words_in words.now)) }
-{
-    words.get_index_of(word)
-}
-
-// The word of that place.
-fn word_at<'a>(words: &IndexSet<&'a [u8]>, i: usize) -> &'a [u8]
-    requires { i < length (words_in words.now) }
-    ensures { result.now ≡ slice_index_or (words_in words.now) i [] }
-{
-    match words.get_index(i) {
-        Some(word) => *word,
-        None => unreachable!(),
-    }
-}
-
-ghost use Rattle.std.specs.Prelude.{slice_index_or, []};
 
 impl<'a> Names<'a> {
     ghost use Rattle.std.specs.Prelude.{◌≡◌, ◌<◌, length};
-    ghost use Rattle.cert_names.specs.NameSets.{words_in};
-    ghost use Rattle.cert_names.specs.Sheet.{node_word, cell_word, commodity_word, place_of, IsWithin};
+    ghost use Rattle.cert_names.specs.Sheet.{node_word, cell_word, commodity_word, place_of, sheet_of, IsOf, IsWithin};
 
-    /// These words, in the order of their sets, and the counts of nodes, cells, commodities, decimals, skipped sections,
-    /// demands left out and demands with a longest path.
-    pub fn new(
-        link_mode: &'a [u8],
-        module_mode: &'a [u8],
-        nodes: IndexSet<&'a [u8]>,
-        cells: IndexSet<&'a [u8]>,
-        commodities: IndexSet<&'a [u8]>,
-        counts: [u32; 7],
-    ) -> Self
-        requires { IsWithin (record { link_mode = link_mode.now; module_mode = module_mode.now; nodes = words_in nodes; cells = words_in cells; commodities = words_in commodities; counts = counts }) }
-        ensures { result ≡ record { link_mode = link_mode.now; module_mode = module_mode.now; nodes = words_in nodes.entry; cells = words_in cells.entry; commodities = words_in commodities.entry; counts = counts } }
+    /// The words of these rows and of their network in units.
+    pub fn new(rows: &'a RawNet<'a>, net: &'a Scaled) -> Self
+        requires { IsOf rows.now net.now }
+        ensures { result ≡ sheet_of rows.now net.now }
     {
-        Names {
-            link_mode,
-            module_mode,
-            nodes,
-            cells,
-            commodities,
-            counts,
-        }
+        Names { rows, net }
     }
 
     /// How links are read, as line 3 or 2 says it.
-    pub fn link_mode(&self) -> &[u8]
+    pub fn link_mode(&self) -> &'a [u8]
         ensures { result.now ≡ self.now.link_mode }
     {
-        self.link_mode
+        link_word(self.net.options().links)
     }
 
     /// How modules are read, as line 4 or 3 says it.
-    pub fn module_mode(&self) -> &[u8]
+    pub fn module_mode(&self) -> &'a [u8]
         ensures { result.now ≡ self.now.module_mode }
     {
-        self.module_mode
+        module_word(self.net.options().modules)
     }
 
+    /// How many nodes there are.
     pub fn nodes(&self) -> usize
         ensures value { result ≡ length self.now.nodes }
         ensures within { IsWithin self.now }
     {
-        self.nodes.len()
+        self.rows.nodes() as usize
     }
 
+    /// The counts of nodes, cells, commodities, decimals, skipped sections, demands left out and demands with a longest path.
     pub fn counts(&self) -> [u32; 7]
         ensures { result ≡ self.now.counts }
     {
-        self.counts
+        [
+            self.rows.nodes() as u32,
+            self.rows.links() as u32,
+            self.net.commodities(),
+            self.net.decimals() as u32,
+            self.rows.skipped(),
+            self.net.left(),
+            self.net.hops(),
+        ]
     }
 
+    /// The node of that word, and `None` exactly where none has it.
     pub fn node_named(&self, word: &[u8]) -> Option<u16>
         ensures { result ≡ place_of self.now.nodes word.now }
     {
-        match place(&self.nodes, word) {
-            Some(i) => Some(i as u16),
-            None => None,
-        }
+        self.rows.node_named(word)
     }
 
+    /// The cell of that word, and `None` exactly where none has it.
     pub fn cell_named(&self, word: &[u8]) -> Option<u16>
         ensures { result ≡ place_of self.now.cells word.now }
     {
-        match place(&self.cells, word) {
-            Some(i) => Some(i as u16),
-            None => None,
-        }
+        self.rows.link_named(word)
     }
 
+    /// The commodity of that word, and `None` exactly where none has it.
     pub fn commodity_named(&self, word: &[u8]) -> Option<u32>
         ensures { result ≡ place_of self.now.commodities word.now }
     {
-        match place(&self.commodities, word) {
-            Some(i) => Some(i as u32),
+        match self.rows.demand_named(word) {
+            Some(demand) => self.net.commodity_of(demand),
             None => None,
         }
     }
 
+    /// The word of a node.
     pub fn node_word(&self, v: u16) -> &'a [u8]
         requires { v < length self.now.nodes }
         ensures { result.now ≡ node_word self.now v }
     {
-        word_at(&self.nodes, v as usize)
+        self.rows.node_id(v)
     }
 
+    /// The word of a cell.
     pub fn cell_word(&self, c: u16) -> &'a [u8]
         requires { c < length self.now.cells }
         ensures { result.now ≡ cell_word self.now c }
     {
-        word_at(&self.cells, c as usize)
+        self.rows.link(c).id
     }
 
+    /// The word of a commodity.
     pub fn commodity_word(&self, k: u32) -> &'a [u8]
         requires { k < length self.now.commodities }
         ensures { result.now ≡ commodity_word self.now k }
     {
-        word_at(&self.commodities, k as usize)
+        self.rows.demand(self.net.demand_of(k)).id
     }
 }

@@ -2,9 +2,9 @@
 use Rattle.std.specs.Prelude.{Bool, true, false, List, Result, Ok, codes}
 use Rattle.text_lines.specs.Lines.{Line}
 use Rattle.cert_names.specs.Sheet.{Sheet}
-use Rattle.cert_names.specs.Modes.{link_mode_of, module_mode_of}
-use Rattle.cert_names.specs.declared.modes.LinkMode.{LinkMode}
-use Rattle.cert_names.specs.declared.modes.ModuleMode.{ModuleMode}
+use Rattle.net_options.specs.Modes.{link_mode_of, module_mode_of}
+use Rattle.net_options.specs.declared.modes.LinkMode.{LinkMode}
+use Rattle.net_options.specs.declared.modes.ModuleMode.{ModuleMode}
 use Rattle.cert_lines.specs.declared.refusal.CertKind.{CertKind}
 use Rattle.cert_lines.specs.declared.refusal.CertKind.TheVariants.{Syntax}
 use Rattle.cert_lines.specs.declared.refusal.CertRefusal.{CertRefusal}

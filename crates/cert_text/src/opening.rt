@@ -10,7 +10,7 @@ ghost use Rattle.cert_text.specs.Whole.{link_mode_line, module_mode_line, behind
 
 use crate::place::{Place, split};
 use cert_lines::{CertKind, CertRefusal, is_fixed, one_behind, verdict_line};
-use cert_names::{LinkMode, ModuleMode, link_mode_of, module_mode_of};
+use net_options::{LinkMode, ModuleMode, link_mode_of, module_mode_of};
 use mcf_limits::MAX_CERT_BYTES;
 
 /// The form of a text, and how links and modules are read.

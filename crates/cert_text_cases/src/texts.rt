@@ -1,11 +1,20 @@
-use cert_names::{LinkMode, ModuleMode, Names, link_word, module_word};
+use cert_laws::papers_fit;
+
+ghost use Rattle.std.specs.Prelude.{◌≡◌, Ok};
+ghost use Rattle.sndlib_grammar.specs.Rows.{AreNetRows};
+ghost use Rattle.unit_scale.specs.Scaling.{scaled_of};
+ghost use Rattle.cert_names.specs.Sheet.{sheet_of};
+
+use cert_names::Names;
 use cert_text::{CertEnd, CertKind, Paper, cert_head, read_cert};
 use cert_writer::write_cert;
-use indexmap::IndexSet;
 use mcf_base::MemSink;
 use mcf_limits::MAX_CERT_BYTES;
+use net_options::{LinkMode, ModuleMode, NetOptions};
+use sndlib_read::{RawNet, read_net};
 use std::alloc::{AllocError, Global};
 use std::test::Fail;
+use unit_scale::{Scaled, scale};
 
 const RIGHT: &[u8] =
     b"mcf-certificate 1\nverdict closed\nlinks directed\nmodules largest\nnet nodes 2 cells 1 commodities 1 decimals 0 skipped 0 left 0 hops 0\ngap 0.050000\nphases 1\nscale 10 4\nlower 10/4 2.500000\nupper 45035996273704960/18014398509481984 2.500000\npath D1 4 L1\nlength L1 4503599627370496\npotential A 0 4503599627370496\nend\n";
@@ -115,28 +124,32 @@ fn edited(alloc: Global, text: &[u8], old: &[u8], new: &[u8]) -> Result<Vec<u8>,
     Vec::from_slice(alloc, text)
 }
 
-fn names(alloc: Global) -> Result<Names<'static>, Fail> {
-    let mut nodes: IndexSet<&'static [u8]> = IndexSet::new(alloc);
-    nodes.insert(b"A")?;
-    nodes.insert(b"B")?;
-    let mut cells: IndexSet<&'static [u8]> = IndexSet::new(alloc);
-    cells.insert(b"L1")?;
-    let mut commodities: IndexSet<&'static [u8]> = IndexSet::new(alloc);
-    commodities.insert(b"D1")?;
-    let counts = [2u32, 1, 1, 0, 0, 0, 0];
-    Ok(Names::new(
-        link_word(LinkMode::Directed),
-        module_word(ModuleMode::Largest),
-        nodes,
-        cells,
-        commodities,
-        counts,
-    ))
+const NET: &[u8] =
+    b"?SNDlib native format; type: network; version: 1.0\nNODES (\n  A\n  B\n)\nLINKS (\n  L1 ( A B ) 10 0 0 0 ( )\n)\nDEMANDS (\n  D1 ( A B ) 1 4 UNLIMITED\n)\n";
+
+// The words of the rows, which scale to the network under the options.
+fn names<'a>(rows: &'a RawNet<'a>, net: &'a Scaled, _options: NetOptions) -> Names<'a>
+    requires rows { AreNetRows rows.now }
+    requires net { scaled_of rows.now _options ≡ Ok net.now }
+    ensures { result ≡ sheet_of rows.now net.now }
+{
+    Names::new(rows, net)
 }
 
 #[test]
 fn refusals_with_their_lines(rt: HostRuntime) -> Result<(), Fail> {
-    let names = names(rt.alloc())?;
+    let rows = read_net(rt.alloc(), NET);
+    assert!(rt; rows.is_ok());
+    let Ok(rows) = rows else { return Ok(()) };
+    assert_eq!(rt; rows.nodes(), 2);
+    let options = NetOptions {
+        links: LinkMode::Directed,
+        modules: ModuleMode::Largest,
+    };
+    let net = scale(rt.alloc(), &rows, options);
+    assert!(rt; net.is_ok());
+    let Ok(net) = net else { return Ok(()) };
+    let names = names(&rows, &net, options);
     for (old, new, line, kind) in EDITS {
         let text = edited(rt.alloc(), RIGHT, *old, *new)?;
         assert!(rt; text.len() <= MAX_CERT_BYTES);
@@ -177,4 +190,58 @@ fn heads(rt: HostRuntime) {
             "at {line}"
         );
     }
+}
+
+#[test]
+fn a_routing_is_read(rt: HostRuntime) -> Result<(), Fail> {
+    let rows = read_net(rt.alloc(), NET);
+    assert!(rt; rows.is_ok());
+    let Ok(rows) = rows else { return Ok(()) };
+    assert_eq!(rt; rows.nodes(), 2);
+    let options = NetOptions {
+        links: LinkMode::Directed,
+        modules: ModuleMode::Largest,
+    };
+    let net = scale(rt.alloc(), &rows, options);
+    assert!(rt; net.is_ok());
+    let Ok(net) = net else { return Ok(()) };
+    let names = names(&rows, &net, options);
+    match read_cert(rt.alloc(), &names, ROUTING) {
+        Ok(Paper::Routing(routing)) => {
+            assert_eq!(rt;
+                (routing.phases, routing.scale_cap, routing.scale_load),
+                (1, 10, 4)
+            );
+            assert_eq!(rt; routing.paths.rows(), 1);
+            assert_eq!(rt; routing.paths.weight(0), 4);
+        }
+        _ => assert!(rt; false),
+    }
+    Ok(())
+}
+
+#[test]
+fn a_certificate_is_written_as_it_was_read(rt: HostRuntime) -> Result<(), Fail> {
+    let rows = read_net(rt.alloc(), NET);
+    assert!(rt; rows.is_ok());
+    let Ok(rows) = rows else { return Ok(()) };
+    assert_eq!(rt; rows.nodes(), 2);
+    let options = NetOptions {
+        links: LinkMode::Directed,
+        modules: ModuleMode::Largest,
+    };
+    let net = scale(rt.alloc(), &rows, options);
+    assert!(rt; net.is_ok());
+    let Ok(net) = net else { return Ok(()) };
+    let names = names(&rows, &net, options);
+    papers_fit();
+    match read_cert(rt.alloc(), &names, RIGHT) {
+        Ok(Paper::Full(proof)) => {
+            let mut out = MemSink::new(rt.alloc(), 1000, 7, Vec::new(rt.alloc()))?;
+            assert!(rt; write_cert(&names, &proof, &mut out).is_ok());
+            assert_eq!(rt; out.written(), RIGHT);
+        }
+        _ => assert!(rt; false),
+    }
+    Ok(())
 }

@@ -2,12 +2,10 @@
 
 use anyhow::Result;
 use mcf_limits::{MAX_DECIMALS, MAX_NET_BYTES};
+use net_options::{LinkMode, ModuleMode, NetOptions};
 use sndlib_read::{NetKind, RawNet, ReadNetEnd, read_net};
 use std::fs;
-use unit_scale::{
-    Decimal, LinkMode, ModuleMode, NetOptions, ScaleEnd, Scaled, UnitFault, read_decimal, scale,
-    units,
-};
+use unit_scale::{Decimal, ScaleEnd, Scaled, UnitFault, read_decimal, scale, units};
 
 fn code(kind: NetKind) -> &'static str {
     match kind {

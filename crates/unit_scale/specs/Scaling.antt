@@ -13,10 +13,10 @@ use Rattle.sndlib_grammar.specs.declared.refusal.NetKind.{NetKind}
 use Rattle.sndlib_grammar.specs.declared.refusal.NetKind.TheVariants.{TooFine, TooLarge, NoDemand}
 use Rattle.unit_scale.specs.Units.{most}
 use Rattle.unit_scale.specs.Sizes.{AreDecimals, decimals_of, sizes, in_units, capacity, amount, looked_at, is_over, is_fine_link, is_fine_demand, is_left_out}
-use Rattle.unit_scale.specs.declared.options.NetOptions.{NetOptions}
-use Rattle.unit_scale.specs.declared.options.ModuleMode.{ModuleMode}
-use Rattle.unit_scale.specs.declared.options.LinkMode.{LinkMode}
-use Rattle.unit_scale.specs.declared.options.LinkMode.TheVariants.{Directed, Undirected}
+use Rattle.net_options.specs.declared.options.NetOptions.{NetOptions}
+use Rattle.net_options.specs.declared.modes.ModuleMode.{ModuleMode}
+use Rattle.net_options.specs.declared.modes.LinkMode.{LinkMode}
+use Rattle.net_options.specs.declared.modes.LinkMode.TheVariants.{Directed, Undirected}
 
 -- ---- the network, with this number of decimals
 

@@ -6,8 +6,8 @@ use Rattle.mcf_limits.specs.declared.TheConstants.{MAX_DECIMALS}
 use Rattle.sndlib_number.specs.Number.{Number, number_of}
 use Rattle.sndlib_grammar.specs.Rows.{NetLink, NetDemand, NetRows}
 use Rattle.unit_scale.specs.Units.{units_of, most}
-use Rattle.unit_scale.specs.declared.options.ModuleMode.{ModuleMode}
-use Rattle.unit_scale.specs.declared.options.ModuleMode.TheVariants.{Ignore, Largest, Sum}
+use Rattle.net_options.specs.declared.modes.ModuleMode.{ModuleMode}
+use Rattle.net_options.specs.declared.modes.ModuleMode.TheVariants.{Ignore, Largest, Sum}
 
 abbrev pub millionths_of : Option Number → Option ℕ
 millionths_of None = None

@@ -7,7 +7,7 @@ ghost use Rattle.unit_scale.specs.Scaling.{first_line, is_large_link, cells_of_l
 ghost use Rattle.unit_scale.specs.Stages.{Stage, AreLinkSizes};
 
 use crate::links::LinkSize;
-use crate::options::{LinkMode, NetOptions};
+use net_options::{LinkMode, NetOptions};
 use crate::refusal::{ScaleEnd, refused};
 use crate::sizes::{unit_of, units_of_size};
 use flow_model::Cell;

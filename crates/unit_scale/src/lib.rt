@@ -10,7 +10,6 @@ mod largest;
 mod laws;
 mod links;
 mod number;
-mod options;
 mod refusal;
 mod scaled;
 mod short;
@@ -18,6 +17,5 @@ mod sizes;
 
 pub use decimal::{Decimal, UnitFault, read_decimal, units};
 pub use laws::{decimals_are_least, decimals_are_unique};
-pub use options::{LinkMode, ModuleMode, NetOptions};
 pub use refusal::ScaleEnd;
 pub use scaled::{Scaled, scale};

@@ -7,7 +7,7 @@ use crate::cells::cells_of;
 use crate::commodities::{hop_count, kept_demands};
 use crate::demands::demand_sizes;
 use crate::links::link_sizes;
-use crate::options::NetOptions;
+use net_options::NetOptions;
 use crate::refusal::{ScaleEnd, refused};
 use crate::sizes::least_decimals;
 use flow_model::Net;
@@ -104,6 +104,13 @@ impl Scaled {
         ensures facts { IsScaledNet self.now }
     {
         self.decimals
+    }
+
+    /// How many commodities there are.
+    pub fn commodities(&self) -> u32
+        ensures { result ≡ length self.now.kept }
+    {
+        self.rows.len() as u32
     }
 
     /// The demand of the commodity of that number.
