@@ -1,15 +1,14 @@
 -- How `print` ends, stage by stage.
-use Rattle.std.proofs.Common.{◌≡◌, ◌⊎◌, ℕ, List, Option, Ok, inl, inr, refl, sym, ap, subst}
+use Rattle.std.proofs.Common.{◌≡◌, ℕ, List, Option, Ok, inl, inr, refl, sym, ap, subst}
 use Rattle.mcf_limits.specs.declared.TheConstants.{MAX_NET_BYTES}
 use Rattle.mcf_base.specs.Faults.{Faults}
 use Rattle.mcf_base.specs.Shelf.{Holding}
 use Rattle.sndlib_grammar.specs.Rows.{NetRows}
 use Rattle.sndlib_grammar.specs.Net.{rows_of}
 use Rattle.sndlib_text.specs.Canonical.{canonical_text}
-use Rattle.mcf_cli.specs.declared.outcome.Paper.TheVariants.{Network}
 use Rattle.mcf_cli.specs.declared.outcome.Outcome.{Outcome}
 use Rattle.mcf_cli.specs.declared.outcome.Outcome.TheVariants as outcomes
-use Rattle.mcf_cli.specs.Answer.{Answer, Writes, answer_of}
+use Rattle.mcf_cli.specs.Answer.{Writes, answer_of}
 use Rattle.mcf_cli.specs.Files.{IsText}
 use Rattle.mcf_cli.specs.Print.{printed, print_answer}
 use Rattle.mcf_cli.specs.PrintRun.{Prints, IsPrinted}
@@ -31,6 +30,7 @@ prints_outcome old new before after status text outcomes.Memory ends written = i
 prints_outcome old new before after status text outcomes.Usage ends written = absurd ends
 prints_outcome old new before after status text outcomes.ReadFault ends written = absurd ends
 prints_outcome old new before after status text (outcomes.TooLong paper) ends written = absurd ends
+prints_outcome old new before after status text (outcomes.Judged judged) ends written = absurd ends
 
 -- the file gave that text
 pub prints_file : (holds : Option Holding) (first last : Faults) (name : List ℕ) (old new : Option (List ℕ)) (before after status : ℕ) (text : List ℕ) → IsText MAX_NET_BYTES holds name text → Prints old new before after status (print_answer text)

@@ -1,33 +1,18 @@
 -- What a run answers: a status, and a text on standard output.
 use Rattle.std.specs.Prelude.{◌≡◌, ◌⊎◌, ℕ, List, [], ◌∷◌, Option, codes}
-use Rattle.std.specs.Fmt.{decimal}
 use Rattle.std.specs.Io.KnownBytes.{Appends}
 use Rattle.text_lines.specs.Lines.{Line, spelled}
 use Rattle.mcf_base.specs.Faults.{Rose}
 use Rattle.mcf_base.specs.Sink.{AppendsFront}
-use Rattle.sndlib_grammar.specs.declared.refusal.NetKind.{NetKind}
-use Rattle.sndlib_grammar.specs.declared.refusal.NetKind.TheVariants as kinds
 use Rattle.mcf_cli.specs.declared.outcome.Paper.{Paper}
 use Rattle.mcf_cli.specs.declared.outcome.Paper.TheVariants as papers
 use Rattle.mcf_cli.specs.declared.outcome.Outcome.{Outcome}
 use Rattle.mcf_cli.specs.declared.outcome.Outcome.TheVariants as outcomes
+use Rattle.mcf_cli.specs.Judged.{net_refused, judged_words, judged_status}
 
 pub record Answer : Type 0 where
   pub status : ℕ
   pub text : List ℕ
-
--- the short name of each refusal of a network text
-abbrev pub kind_word : NetKind → List ℕ
-kind_word kinds.NoHeader = codes "N1"
-kind_word kinds.LongWord = codes "N2"
-kind_word kinds.Syntax = codes "N3"
-kind_word kinds.TooMany = codes "N4"
-kind_word kinds.Duplicate = codes "N5"
-kind_word kinds.UnknownNode = codes "N6"
-kind_word kinds.BadNumber = codes "N7"
-kind_word kinds.TooFine = codes "N8"
-kind_word kinds.TooLarge = codes "N9"
-kind_word kinds.NoDemand = codes "N10"
 
 -- how a kind of file is named in a line
 abbrev pub paper_word : Paper → List ℕ
@@ -40,7 +25,8 @@ words_of outcomes.Usage = codes "usage" ∷ []
 words_of outcomes.ReadFault = codes "read" ∷ codes "fault" ∷ []
 words_of outcomes.Memory = codes "memory" ∷ []
 words_of (outcomes.TooLong paper) = codes "refused" ∷ paper_word paper ∷ codes "TooLong" ∷ []
-words_of (outcomes.NetRefused r) = codes "refused" ∷ codes "net" ∷ kind_word r.kind ∷ codes "line" ∷ decimal r.line ∷ []
+words_of (outcomes.NetRefused r) = net_refused r
+words_of (outcomes.Judged judged) = judged_words judged
 
 abbrev pub status_of : Outcome → ℕ
 status_of outcomes.Usage = 2
@@ -48,6 +34,7 @@ status_of outcomes.ReadFault = 4
 status_of outcomes.Memory = 6
 status_of (outcomes.TooLong paper) = 3
 status_of (outcomes.NetRefused r) = 3
+status_of (outcomes.Judged judged) = judged_status judged
 
 -- the outcome's line, with its status
 abbrev pub answer_of : Outcome → Answer

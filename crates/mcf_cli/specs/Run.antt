@@ -4,7 +4,7 @@ use Rattle.mcf_limits.specs.declared.TheConstants.{MAX_NET_BYTES}
 use Rattle.mcf_base.specs.Faults.{Faults}
 use Rattle.mcf_base.specs.Shelf.{Holding}
 use Rattle.mcf_words.specs.declared.request.Command.{Command}
-use Rattle.mcf_words.specs.declared.request.Command.TheVariants.{Solve, Check, WhatIf, Print, Gen, Trial}
+use Rattle.mcf_words.specs.declared.request.Command.TheVariants.{Check, Print}
 use Rattle.mcf_words.specs.declared.request.Request.{Request}
 use Rattle.mcf_words.specs.Request.{request_of}
 use Rattle.mcf_cli.specs.declared.outcome.Paper.TheVariants.{Network}
@@ -12,6 +12,7 @@ use Rattle.mcf_cli.specs.declared.outcome.Outcome.TheVariants.{Usage, Memory}
 use Rattle.mcf_cli.specs.Answer.{Answer, answer_of, Writes}
 use Rattle.mcf_cli.specs.Files.{OfFile}
 use Rattle.mcf_cli.specs.Print.{print_answer}
+use Rattle.mcf_cli.specs.Check.{OfCheck}
 
 -- the file of that place among the words
 abbrev pub file_at : Request → ℕ → List ℕ
@@ -23,6 +24,7 @@ OfPrint holds before after request answer = OfFile MAX_NET_BYTES Network holds b
 -- the answer of a command
 abbrev pub OfCommand : Command → Option Holding → Faults → Faults → Request → Answer → Type 0
 OfCommand Print holds before after request answer = OfPrint holds before after request answer
+OfCommand Check holds before after request answer = OfCheck holds before after (file_at request 0) (file_at request 1) answer
 OfCommand _ holds before after request answer = ⊥
 
 -- usage exactly where the words ask for nothing, and else the answer of the command

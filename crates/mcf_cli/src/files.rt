@@ -2,27 +2,34 @@
 
 ghost use Rattle.std.specs.Prelude.{◌≡◌, ◌≤◌, IfOk, IfErr, length};
 ghost use Rattle.mcf_cli.specs.Files.{IsText, NotRead};
-ghost use Rattle.mcf_cli.specs.declared.outcome.Paper.TheVariants as PaperIs;
+ghost use Rattle.mcf_limits.specs.declared.TheConstants.{MAX_NET_BYTES};
+ghost use Rattle.sndlib_grammar.specs.Rows.{AreNetRows};
 ghost use Rattle.sndlib_grammar.specs.Net.{rows_of};
 ghost use Rattle.mcf_cli.specs.Rows.{ReadsRows};
 
 use crate::outcome::{Outcome, Paper};
 use mcf_base::{ReadEnd, Shelf, read_all};
-use mcf_limits::MAX_NET_BYTES;
+use sndlib_grammar::rows_are_sound;
 use sndlib_read::{RawNet, ReadNetEnd, read_net};
 use std::alloc::Global;
 
-/// The bytes of a network's file.
-pub fn net_text<F: Shelf>(alloc: Global, shelf: &mut F, name: &str) -> Result<Vec<u8>, Outcome>
-    ensures text { IfOk result (λ text. IsText MAX_NET_BYTES (F.holds shelf.old) name.now text.items) }
-    ensures none { IfErr result (NotRead MAX_NET_BYTES PaperIs.Network (F.holds shelf.old) (F.faults shelf.old) (F.faults shelf.new) name.now) }
+/// The bytes of the file of that name and kind, which has at most so many.
+pub fn file_text<F: Shelf>(
+    alloc: Global,
+    shelf: &mut F,
+    name: &str,
+    limit: usize,
+    paper: Paper,
+) -> Result<Vec<u8>, Outcome>
+    ensures text { IfOk result (λ text. IsText limit (F.holds shelf.old) name.now text.items) }
+    ensures none { IfErr result (NotRead limit paper (F.holds shelf.old) (F.faults shelf.old) (F.faults shelf.new) name.now) }
     ensures holds { F.holds shelf.new ≡ F.holds shelf.old }
     ensures faults { (F.faults shelf.old).count ≤ (F.faults shelf.new).count }
 {
-    match read_all(alloc, shelf, name, MAX_NET_BYTES) {
+    match read_all(alloc, shelf, name, limit) {
         Ok(text) => Ok(text),
         Err(ReadEnd::Fault) => Err(Outcome::ReadFault),
-        Err(ReadEnd::TooLong) => Err(Outcome::TooLong(Paper::Network)),
+        Err(ReadEnd::TooLong) => Err(Outcome::TooLong(paper)),
         Err(ReadEnd::Memory) => Err(Outcome::Memory),
     }
 }
@@ -30,8 +37,10 @@ pub fn net_text<F: Shelf>(alloc: Global, shelf: &mut F, name: &str) -> Result<Ve
 /// The rows of a network's text.
 pub fn net_rows(alloc: Global, text: &[u8]) -> Result<RawNet<'_>, Outcome>
     requires { length text.now ≤ MAX_NET_BYTES }
-    ensures { ReadsRows text.now result }
+    ensures rows { ReadsRows text.now result }
+    ensures sound { IfOk result AreNetRows }
 {
+    rows_are_sound();
     match read_net(alloc, text) {
         Ok(raw) => Ok(raw),
         Err(ReadNetEnd::Refused(refusal)) => Err(Outcome::NetRefused(refusal)),

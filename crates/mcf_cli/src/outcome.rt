@@ -1,5 +1,6 @@
 //! What a run found, where one line tells it.
 
+use cert_judge::Judged;
 use sndlib_read::NetRefusal;
 
 /// A kind of file.
@@ -10,7 +11,7 @@ pub enum Paper {
 }
 
 /// What one line tells.
-#[derive(Clone, Copy, Debug, PartialEq, Eq)]
+#[derive(Clone, Copy)]
 pub enum Outcome {
     /// The words are not in the grammar.
     Usage,
@@ -19,4 +20,6 @@ pub enum Outcome {
     /// The file is over its limit.
     TooLong(Paper),
     NetRefused(NetRefusal),
+    /// What is said of a certificate.
+    Judged(Judged),
 }

@@ -2,17 +2,18 @@
 
 ghost use Rattle.std.specs.Prelude.{◌≤◌, length};
 ghost use Rattle.sndlib_text.specs.Canonical.{canonical_text};
-ghost use Rattle.mcf_limits.specs.declared.TheConstants.{MAX_NET_BYTES};
 ghost use Rattle.mcf_cli.specs.declared.outcome.Paper.TheVariants as PaperIs;
 ghost use Rattle.mcf_cli.specs.declared.outcome.Outcome.TheVariants as OutcomeIs;
 ghost use Rattle.mcf_cli.specs.Answer.{Answer, Writes, answer_of};
 ghost use Rattle.mcf_cli.specs.Print.{print_answer};
 ghost use Rattle.mcf_cli.specs.PrintRun.{IsPrinted, Prints};
 
-use crate::files::{net_rows, net_text};
+use crate::files::{file_text, net_rows};
+use crate::outcome::Paper;
 use crate::run_words::Ended;
 use crate::tell::tell;
 use mcf_base::{Shelf, Sink};
+use mcf_limits::MAX_NET_BYTES;
 use sndlib_print::print_net;
 use sndlib_read::RawNet;
 use std::alloc::Global;
@@ -42,7 +43,7 @@ fn print_text<K: Sink>(alloc: Global, text: &[u8], out: &mut K) -> Ended
 pub fn print<F: Shelf, K: Sink>(alloc: Global, shelf: &mut F, out: &mut K, name: &str) -> Ended
     ensures { IsPrinted (F.holds shelf.old) (F.faults shelf.old) (F.faults shelf.new) name.now (K.written out.old) (K.written out.new) (K.faults out.old) (K.faults out.new) result.status }
 {
-    match net_text(alloc, shelf, name) {
+    match file_text(alloc, shelf, name, MAX_NET_BYTES, Paper::Network) {
         Ok(text) => print_text(alloc, &text, out),
         Err(outcome) => tell(out, outcome),
     }

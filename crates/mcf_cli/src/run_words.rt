@@ -4,6 +4,7 @@ ghost use Rattle.std.specs.Prelude.{◌≡◌, length, map, string_bytes};
 ghost use Rattle.mcf_words.specs.Request.{file_count, IsBuilt};
 ghost use Rattle.mcf_cli.specs.Run.{CommandEnds, RunEnds};
 
+use crate::check::check;
 use crate::outcome::Outcome;
 use crate::print::print;
 use crate::tell::tell;
@@ -29,6 +30,13 @@ fn run_command<F: Shelf, K: Sink>(
     ensures { CommandEnds (F.holds shelf.old) (F.faults shelf.old) (F.faults shelf.new) request.now (K.written out.old) (K.written out.new) (K.faults out.old) (K.faults out.new) result.status }
 {
     match request.command {
+        Command::Check => check(
+            alloc,
+            shelf,
+            out,
+            request.names.name(0),
+            request.names.name(1),
+        ),
         Command::Print => print(alloc, shelf, out, request.names.name(0)),
         _ => unreachable!(),
     }

@@ -20,10 +20,11 @@ None >>= f = None
 (Some x) >>= f = f x
 
 abbrev pub command_of : List ℕ → Option Command
-command_of word = if bytes_eq word (codes "print") then Some Print else None
+command_of word = if bytes_eq word (codes "check") then Some Check else if bytes_eq word (codes "print") then Some Print else None
 
 -- the command is in the grammar
 abbrev pub IsBuilt : Command → Type 0
+IsBuilt Check = Unit {0}
 IsBuilt Print = Unit {0}
 IsBuilt _ = ⊥
 

@@ -19,6 +19,8 @@ use mcf_limits::{MAX_DEMANDS, MAX_LINKS, MAX_NODES, MAX_PHASES, MAX_STEP, MAX_WO
 use std::alloc::{AllocError, Global};
 use net_options::{LinkMode, ModuleMode, NetOptions, link_mode_of, module_mode_of};
 
+const CHECK: &[u8] = b"check";
+
 const PRINT: &[u8] = b"print";
 
 const LINKS: &[u8] = b"--links";
@@ -54,6 +56,9 @@ fn command_of(word: &[u8]) -> Option<Command>
     ensures value { result ≡ command_of_lem word.now }
     ensures built { IfSome result IsBuilt }
 {
+    if word == CHECK {
+        return Some(Command::Check);
+    }
     if word == PRINT {
         return Some(Command::Print);
     }

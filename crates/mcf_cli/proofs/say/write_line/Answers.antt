@@ -1,6 +1,6 @@
 use Rattle.line_writer.proofs.Putting.{written_front}
 use Rattle.sndlib_print.proofs.Steps.{flushed_front}
-use Rattle.mcf_cli.proofs.tell.write_line.Goals as goal
+use Rattle.mcf_cli.proofs.say.write_line.Goals as goal
 
 pub returns-in-Err-clause-err : goal.returns-in-Err-clause-err
 returns-in-Err-clause-err g c = written_front _ _ _ _ c.in-Err.fault (rw c.new-buffer.ensures at c.in-Err.ensures.puts)
