@@ -1,15 +1,14 @@
 -- How `print` ends, stage by stage.
-use Rattle.std.proofs.Common.{◌≡◌, ◌⊎◌, ℕ, List, Option, Ok, inl, inr, refl, sym, ap, subst}
+use Rattle.std.proofs.Common.{◌≡◌, ℕ, List, Option, Ok, inl, inr, refl, sym, ap, subst}
 use Rattle.mcf_limits.specs.declared.TheConstants.{MAX_NET_BYTES}
 use Rattle.mcf_base.specs.Faults.{Faults}
 use Rattle.mcf_base.specs.Shelf.{Holding}
 use Rattle.sndlib_grammar.specs.Rows.{NetRows}
 use Rattle.sndlib_grammar.specs.Net.{rows_of}
 use Rattle.sndlib_text.specs.Canonical.{canonical_text}
-use Rattle.mcf_cli.specs.declared.outcome.Paper.TheVariants.{Network}
 use Rattle.mcf_cli.specs.declared.outcome.Outcome.{Outcome}
 use Rattle.mcf_cli.specs.declared.outcome.Outcome.TheVariants as outcomes
-use Rattle.mcf_cli.specs.Answer.{Answer, Writes, answer_of}
+use Rattle.mcf_cli.specs.Answer.{Writes, answer_of}
 use Rattle.mcf_cli.specs.Files.{IsText}
 use Rattle.mcf_cli.specs.Print.{printed, print_answer}
 use Rattle.mcf_cli.specs.PrintRun.{Prints, IsPrinted}

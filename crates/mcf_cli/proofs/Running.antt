@@ -5,7 +5,7 @@ use Rattle.mcf_base.specs.Shelf.{Holding}
 use Rattle.mcf_words.specs.declared.request.Request.{Request}
 use Rattle.mcf_words.specs.Request.{request_of}
 use Rattle.mcf_cli.specs.declared.outcome.Outcome.TheVariants.{Usage, Memory}
-use Rattle.mcf_cli.specs.Answer.{Answer, Writes, answer_of}
+use Rattle.mcf_cli.specs.Answer.{Writes, answer_of}
 use Rattle.mcf_cli.specs.Run.{CommandEnds, OfRequest, RunEnds}
 
 -- the words ask for this
