@@ -6,6 +6,7 @@ use std::marker::Model;
 use unit_scale::Scaled;
 
 /// What a certificate's text cites of a network: a view of its rows and of its network in units, which takes no memory.
+#[derive(Drop)]
 pub struct Names<'a> {
     rows: &'a RawNet<'a>,
     net: &'a Scaled,
