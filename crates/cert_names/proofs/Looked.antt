@@ -1,20 +1,20 @@
 -- Words of nodes, cells and commodities, looked up in the rows of a network text.
-use Rattle.std.proofs.Common.{◌≡◌, ◌≢◌, ℕ, zero, suc, ◌+◌, ◌≤◌, ◌<◌, List, [], ◌∷◌, length, get_or, map, Option, Some, None, Ok, true, false, Bool, arith, refl, ap, sym, subst, ◌∙◌, ◌==◌, if◌then◌else◌, nat_lt, ◌⊎◌, inl, inr}
-use Rattle.std.specs.Prelude.{position, not, All}
+use Rattle.std.proofs.Common.{◌≡◌, ℕ, ◌+◌, ◌≤◌, ◌<◌, List, [], ◌∷◌, length, get_or, map, Option, Some, None, Ok, true, false, Bool, arith, refl, ap, sym, subst, ◌∙◌, ◌==◌, if◌then◌else◌, nat_lt, inl, inr}
+use Rattle.std.specs.Prelude.{position, not}
 use Rattle.std.specs.List.{prefix_len, position_or_len}
 use Rattle.std.specs.Str.{bytes_eq}
 use Rattle.std.proofs.lemmas.List.{length-map, get_or-map}
 use Rattle.std.proofs.lemmas.List.Quantifiers.{position-Some}
-use Rattle.sndlib_grammar.specs.Rows.{NetRows, NetDemand, AreNetRows, AreDistinct, demand_at, no_demand, names_of_demands}
-use Rattle.unit_scale.specs.Scaling.{ScaledNet, scaled_of, scaled_with, unless_refused, refusal, kept_from}
+use Rattle.sndlib_grammar.specs.Rows.{NetRows, NetDemand, AreNetRows, no_demand, names_of_demands}
+use Rattle.unit_scale.specs.Scaling.{ScaledNet, scaled_with, unless_refused, refusal, kept_from}
 use Rattle.unit_scale.specs.Sizes.{decimals_of, sizes, is_left_out}
 use Rattle.cert_names.specs.Sheet.{IsOf, IsWithin, demand_word, place_of, sheet_of}
-use Rattle.std.specs.List.{AllByRecursion, AllPairs}
+use Rattle.std.specs.List.{AllByRecursion}
 use Rattle.std.specs.Prelude.{Result, Err}
 use Rattle.std.proofs.lemmas.Bool.{false_from_ne_true, cases_lt}
 use Rattle.std.proofs.lemmas.Bool.Decides.{nat_tests}
 use Rattle.std.proofs.lemmas.Slice.Eq.{bytes_eq-Decides}
-use Rattle.std.proofs.lemmas.List.Elements.{All-from_recursion, recursion_from_All}
+use Rattle.std.proofs.lemmas.List.Elements.{All-from_recursion}
 use Rattle.std.proofs.lemmas.List.Sums.{fails_before_first, position_or_len_is}
 use Rattle.sndlib_grammar.specs.declared.refusal.NetRefusal.{NetRefusal}
 
@@ -89,8 +89,10 @@ name_at rows r lt = get_or-map (λ d. d.id) rows.demands r no_demand [] lt
 one_demand : (rows : NetRows) → AreNetRows rows → (r d : ℕ) → r < length rows.demands → d < length rows.demands → get_or (names_of_demands rows) r [] ≡ get_or (names_of_demands rows) d [] → r ≡ d
 one_demand rows well r d below bound same =
     let size = length-map rows.demands (λ d. d.id) in
-    elim (cases_lt r d) [ inl lt ↦ absurd (well.demand_names r d [] lt (omega arith) same)
-    | inr ge ↦ elim (cases_lt d r) [ inl lt ↦ absurd (well.demand_names d r [] lt (omega arith) (sym same)) | inr le ↦ omega arith ] ]
+    elim (cases_lt r d) [
+      | inl lt ↦ absurd (well.demand_names r d [] lt (omega arith) same)
+      | inr ge ↦ elim (cases_lt d r) [ inl lt ↦ absurd (well.demand_names d r [] lt (omega arith) (sym same)) | inr le ↦ omega arith ]
+    ]
 
 not_same : (a b : ℕ) → (a ≡ b → ⊥) → (a == b) ≡ false
 not_same a b h = grind (arith, nat_tests)
@@ -101,9 +103,10 @@ is_same a b h = grind (arith, nat_tests)
 one_word : (rows : NetRows) → AreNetRows rows → (w : List ℕ) (d : ℕ) → d < length rows.demands → bytes_eq w (get_or (names_of_demands rows) d []) ≡ true → (r : ℕ) → r < length rows.demands → bytes_eq w (demand_word rows r) ≡ (r == d)
 one_word rows well w d bound hit r below =
     let here = name_at rows r below in
-    let go = elim (r == d) as (λ (b : Bool). (r == d) ≡ b → bytes_eq w (demand_word rows r) ≡ b)
-    [ true ↦ λ e. subst (λ v. bytes_eq w v ≡ true) (ap (λ n. get_or (names_of_demands rows) n []) (sym (is_same r d e)) ∙ here) hit
-    | false ↦ λ e. false_from_ne_true (bytes_eq w (demand_word rows r)) (λ same. other e same) ] in
+    let go = elim (r == d) as (λ (b : Bool). (r == d) ≡ b → bytes_eq w (demand_word rows r) ≡ b) [
+      | true ↦ λ e. subst (λ v. bytes_eq w v ≡ true) (ap (λ n. get_or (names_of_demands rows) n []) (sym (is_same r d e)) ∙ here) hit
+      | false ↦ λ e. false_from_ne_true (bytes_eq w (demand_word rows r)) (λ same. other e same)
+    ] in
     go refl
   where
     other : (r == d) ≡ false → bytes_eq w (demand_word rows r) ≡ true → ⊥

@@ -10,8 +10,8 @@ ghost use Rattle.cert_text.specs.Whole.{link_mode_line, module_mode_line, behind
 
 use crate::place::{Place, split};
 use cert_lines::{CertKind, CertRefusal, is_fixed, one_behind, verdict_line};
-use net_options::{LinkMode, ModuleMode, link_mode_of, module_mode_of};
 use mcf_limits::MAX_CERT_BYTES;
+use net_options::{LinkMode, ModuleMode, link_mode_of, module_mode_of};
 
 /// The form of a text, and how links and modules are read.
 #[derive(Clone, Copy, Debug, PartialEq, Eq)]

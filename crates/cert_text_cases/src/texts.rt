@@ -1,10 +1,9 @@
-use cert_laws::papers_fit;
-
 ghost use Rattle.std.specs.Prelude.{◌≡◌, Ok};
 ghost use Rattle.sndlib_grammar.specs.Rows.{AreNetRows};
 ghost use Rattle.unit_scale.specs.Scaling.{scaled_of};
 ghost use Rattle.cert_names.specs.Sheet.{sheet_of};
 
+use cert_laws::papers_fit;
 use cert_names::Names;
 use cert_text::{CertEnd, CertKind, Paper, cert_head, read_cert};
 use cert_writer::write_cert;

@@ -16,8 +16,8 @@ use crate::items::{Items, Setting, items_of};
 use crate::request::{Command, Names, Request, WordsEnd};
 use crate::values::{gap_of, number_in, value_of};
 use mcf_limits::{MAX_DEMANDS, MAX_LINKS, MAX_NODES, MAX_PHASES, MAX_STEP, MAX_WORKERS};
-use std::alloc::{AllocError, Global};
 use net_options::{LinkMode, ModuleMode, NetOptions, link_mode_of, module_mode_of};
+use std::alloc::{AllocError, Global};
 
 const CHECK: &[u8] = b"check";
 

@@ -7,11 +7,11 @@ ghost use Rattle.unit_scale.specs.Scaling.{first_line, is_large_link, cells_of_l
 ghost use Rattle.unit_scale.specs.Stages.{Stage, AreLinkSizes};
 
 use crate::links::LinkSize;
-use net_options::{LinkMode, NetOptions};
 use crate::refusal::{ScaleEnd, refused};
 use crate::sizes::{unit_of, units_of_size};
 use flow_model::Cell;
 use mcf_limits::MAX_DECIMALS;
+use net_options::{LinkMode, NetOptions};
 use sndlib_read::{LinkRow, NetKind, RawNet};
 use std::alloc::{AllocError, Global};
 

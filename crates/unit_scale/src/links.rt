@@ -10,10 +10,10 @@ ghost use Rattle.sndlib_read.specs.RowViews.{link_row_view};
 ghost use Rattle.sndlib_grammar.specs.declared.refusal.NetKind.TheVariants.{TooFine as TooFineIs};
 
 use crate::largest::largest;
-use net_options::ModuleMode;
 use crate::refusal::{ScaleEnd, refused};
 use crate::short::MOST;
 use crate::sizes::{either, word_size};
+use net_options::ModuleMode;
 use sndlib_read::{LinkRow, NetKind, RawNet};
 use std::alloc::Global;
 

@@ -35,7 +35,10 @@ fn bound_of_two_links_under_a_load(rt: HostRuntime) -> Result<(), Fail> {
 fn bound_of_a_node_that_is_cut_off(rt: HostRuntime) -> Result<(), Fail> {
     let alloc = rt.alloc();
     let cells = [cell(0, 1, true, 4), cell(1, 2, false, 0)];
-    let net = network(alloc, 3, &cells, &[demand(0, 2, 2), demand(1, 0, 5)])?.expect(&rt, "a network");
+    let net = network(alloc, 3, &cells, &[demand(0, 2, 2), demand(1, 0, 5)])?.expect(
+        &rt,
+        "a network",
+    );
     let graph = Graph::new(alloc, &net)?;
     assert_eq!(rt; graph.first_cut(alloc, &net)?, Some(0));
     if let Some(_) = graph.first_cut(alloc, &net)? {

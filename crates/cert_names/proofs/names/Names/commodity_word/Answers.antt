@@ -1,4 +1,4 @@
-use Rattle.std.proofs.Common.{◌≡◌, ◌<◌, length, ap, sym, subst, arith}
+use Rattle.std.proofs.Common.{◌<◌, length, ap, sym, subst, arith}
 use Rattle.std.proofs.lemmas.List.{length-map}
 use Rattle.cert_names.specs.Sheet.{Sheet, demand_word}
 use Rattle.cert_names.proofs.Looked.{is_demand}
