@@ -3,15 +3,13 @@ ghost use Rattle.sndlib_grammar.specs.Rows.{AreNetRows};
 ghost use Rattle.unit_scale.specs.Scaling.{scaled_of};
 ghost use Rattle.cert_names.specs.Sheet.{sheet_of};
 
-use cert_laws::papers_fit;
 use cert_names::Names;
-use cert_text::{CertEnd, CertKind, Paper, cert_head, read_cert};
-use cert_writer::write_cert;
-use mcf_base::MemSink;
+use cert_text::{CertEnd, CertKind, cert_head, read_cert};
 use mcf_limits::MAX_CERT_BYTES;
 use net_options::{LinkMode, ModuleMode, NetOptions};
 use sndlib_read::{RawNet, read_net};
 use std::alloc::{AllocError, Global};
+use std::process::Abort;
 use std::test::Fail;
 use unit_scale::{Scaled, scale};
 
@@ -135,24 +133,12 @@ fn names<'a>(rows: &'a RawNet<'a>, net: &'a Scaled, _options: NetOptions) -> Nam
     Names::new(rows, net)
 }
 
-#[test]
-fn refusals_with_their_lines(rt: HostRuntime) -> Result<(), Fail> {
-    let rows = read_net(rt.alloc(), NET);
-    assert!(rt; rows.is_ok());
-    let Ok(rows) = rows else { return Ok(()) };
-    assert_eq!(rt; rows.nodes(), 2);
-    let options = NetOptions {
-        links: LinkMode::Directed,
-        modules: ModuleMode::Largest,
-    };
-    let net = scale(rt.alloc(), &rows, options);
-    assert!(rt; net.is_ok());
-    let Ok(net) = net else { return Ok(()) };
-    let names = names(&rows, &net, options);
+// Each edit of the certificate is refused at its line.
+fn refused(rt: &impl Abort, alloc: Global, names: &Names<'_>) -> Result<(), Fail> {
     for (old, new, line, kind) in EDITS {
-        let text = edited(rt.alloc(), RIGHT, *old, *new)?;
+        let text = edited(alloc, RIGHT, *old, *new)?;
         assert!(rt; text.len() <= MAX_CERT_BYTES);
-        match read_cert(rt.alloc(), &names, &text) {
+        match read_cert(alloc, names, &text) {
             Err(CertEnd::Refused(refusal)) => {
                 assert_eq!(rt; refusal.line, *line, "{kind:?}");
                 assert_eq!(rt; refusal.kind, *kind, "at {line}");
@@ -161,6 +147,32 @@ fn refusals_with_their_lines(rt: HostRuntime) -> Result<(), Fail> {
         }
     }
     Ok(())
+}
+
+fn on_rows(rt: &impl Abort, alloc: Global, rows: &RawNet<'_>) -> Result<(), Fail> {
+    assert_eq!(rt; rows.nodes(), 2);
+    let options = NetOptions {
+        links: LinkMode::Directed,
+        modules: ModuleMode::Largest,
+    };
+    match scale(alloc, rows, options) {
+        Ok(net) => refused(rt, alloc, &names(rows, &net, options)),
+        Err(_) => {
+            assert!(rt; false, "the network is refused");
+            Ok(())
+        }
+    }
+}
+
+#[test]
+fn refusals_with_their_lines(rt: HostRuntime) -> Result<(), Fail> {
+    match read_net(rt.alloc(), NET) {
+        Ok(rows) => on_rows(&rt, rt.alloc(), &rows),
+        Err(_) => {
+            assert!(rt; false, "the text is refused");
+            Ok(())
+        }
+    }
 }
 
 #[test]
@@ -189,58 +201,4 @@ fn heads(rt: HostRuntime) {
             "at {line}"
         );
     }
-}
-
-#[test]
-fn a_routing_is_read(rt: HostRuntime) -> Result<(), Fail> {
-    let rows = read_net(rt.alloc(), NET);
-    assert!(rt; rows.is_ok());
-    let Ok(rows) = rows else { return Ok(()) };
-    assert_eq!(rt; rows.nodes(), 2);
-    let options = NetOptions {
-        links: LinkMode::Directed,
-        modules: ModuleMode::Largest,
-    };
-    let net = scale(rt.alloc(), &rows, options);
-    assert!(rt; net.is_ok());
-    let Ok(net) = net else { return Ok(()) };
-    let names = names(&rows, &net, options);
-    match read_cert(rt.alloc(), &names, ROUTING) {
-        Ok(Paper::Routing(routing)) => {
-            assert_eq!(rt;
-                (routing.phases, routing.scale_cap, routing.scale_load),
-                (1, 10, 4)
-            );
-            assert_eq!(rt; routing.paths.rows(), 1);
-            assert_eq!(rt; routing.paths.weight(0), 4);
-        }
-        _ => assert!(rt; false),
-    }
-    Ok(())
-}
-
-#[test]
-fn a_certificate_is_written_as_it_was_read(rt: HostRuntime) -> Result<(), Fail> {
-    let rows = read_net(rt.alloc(), NET);
-    assert!(rt; rows.is_ok());
-    let Ok(rows) = rows else { return Ok(()) };
-    assert_eq!(rt; rows.nodes(), 2);
-    let options = NetOptions {
-        links: LinkMode::Directed,
-        modules: ModuleMode::Largest,
-    };
-    let net = scale(rt.alloc(), &rows, options);
-    assert!(rt; net.is_ok());
-    let Ok(net) = net else { return Ok(()) };
-    let names = names(&rows, &net, options);
-    papers_fit();
-    match read_cert(rt.alloc(), &names, RIGHT) {
-        Ok(Paper::Full(proof)) => {
-            let mut out = MemSink::new(rt.alloc(), 1000, 7, Vec::new(rt.alloc()))?;
-            assert!(rt; write_cert(&names, &proof, &mut out).is_ok());
-            assert_eq!(rt; out.written(), RIGHT);
-        }
-        _ => assert!(rt; false),
-    }
-    Ok(())
 }
