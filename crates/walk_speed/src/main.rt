@@ -1,5 +1,6 @@
 //! Times lengths and searches on a generated network: `walk_speed NODES LINKS ROUNDS`. Each round takes the lengths of
-//! the loads, searches from the next node, and adds to the loads of one path, as a worker does for a claim.
+//! the loads, searches from the next node, and adds to the loads of one path, as a worker does for a claim. The times go to standard error,
+//! the sum of the distances to standard output.
 #![tactic(auto)]
 
 ghost use Rattle.std.specs.Prelude.{◌≡◌, ◌+◌, ◌-◌, ◌*◌, ◌<◌, ◌≤◌, length, All, IfOk};
@@ -194,11 +195,12 @@ fn main(rt: HostRuntime) -> Result<()> {
     let mut loads = loads(alloc, &mut words, links)?;
     let (times, far) = measure(&rt, alloc, &net, &mut loads, rounds)?;
     let rounds = u128::from(rounds);
-    println!(rt;
-        "table {} anew {} search {} sum {far}",
+    eprintln!(rt;
+        "table {} anew {} search {}",
         times.table / rounds,
         times.anew / rounds,
         times.search / rounds
     )?;
+    println!(rt; "sum {far}")?;
     Ok(())
 }
