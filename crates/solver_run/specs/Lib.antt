@@ -1,0 +1,5 @@
+pub mod Headline
+pub mod History
+pub mod Options
+pub mod Run
+pub mod Small

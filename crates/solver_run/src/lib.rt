@@ -1,0 +1,11 @@
+//! What a run of the solver is, and what holds of its certificate.
+#![tactic(auto)]
+
+mod laws;
+mod options;
+
+pub use laws::{
+    paths_are_in_order, run_keeps_the_gap, small_has_a_fullest_cell, small_has_groups,
+    small_phases_load, solved_is_certified,
+};
+pub use options::{Entry, SolveOptions};
