@@ -1,0 +1,54 @@
+//! What is asked of a solve.
+
+ghost use Rattle.std.specs.Prelude.{◌≡◌, ◌<◌, ◌≤◌, ◌*◌, MatchOption, length};
+ghost use Rattle.mcf_limits.specs.declared.TheConstants.{MAX_WORK};
+ghost use Rattle.solver_run.specs.Options.{AreOptions};
+ghost use Rattle.net_solve.specs.Asked.{IsAsked, options_for, IsTooMuch};
+
+use flow_model::Net;
+use mcf_limits::MAX_WORK;
+use solver_run::SolveOptions;
+
+/// The gap in millionths, the phase budget if one was given, the number of workers, and the step of the lengths.
+#[derive(Clone, Copy, Debug, PartialEq, Eq)]
+pub struct Asked {
+    pub gap: u64,
+    pub phases: Option<u32>,
+    pub workers: u16,
+    pub step: u32,
+}
+
+/// The most phases where no budget was given: 1,000, or as many as the most work allows.
+const DEFAULT_PHASES: u64 = 1000;
+
+// The phase budget where none was given.
+fn default_phases(commodities: u64) -> u32
+    requires some { 1 ≤ commodities }
+    ensures { result ≡ default_budget commodities }
+{
+    DEFAULT_PHASES.min(MAX_WORK / commodities) as u32
+}
+
+/// The options of a solve, or how many commodities times phases there would be, where that is too much.
+pub fn options_of(net: &Net, asked: &Asked) -> Result<SolveOptions, u64>
+    requires { IsAsked asked.now }
+    ensures options { IfOk result (λ o. (o ≡ options_for net.now asked.now) × AreOptions net.now o) }
+    ensures work { IfErr result (IsTooMuch net.now asked.now) }
+    ensures within { OnOk result (¬ ((n : ℕ) × IsTooMuch net.now asked.now n)) }
+{
+    let commodities = net.commodities().len() as u64;
+    let phases = match asked.phases {
+        Some(phases) => phases,
+        None => default_phases(commodities),
+    };
+    let work = commodities * phases as u64;
+    if work > MAX_WORK {
+        return Err(work);
+    }
+    Ok(SolveOptions {
+        gap: asked.gap,
+        phases,
+        workers: asked.workers,
+        step: asked.step,
+    })
+}
