@@ -1,0 +1,15 @@
+//! Tests alone: whole runs of `check` and `print` over files and output in memory.
+#![tactic(auto)]
+
+#[cfg(test)]
+mod checks;
+#[cfg(test)]
+mod faults;
+#[cfg(test)]
+mod prints;
+#[cfg(test)]
+mod running;
+#[cfg(test)]
+mod texts;
+#[cfg(test)]
+mod usages;
