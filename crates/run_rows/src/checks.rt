@@ -347,6 +347,20 @@ const TEXTS: &[Row] = &[(
     b"refused net N3 line 12\n",
 )];
 
+// This is said of the certificate or the routing on the network.
+fn expect_said<'a>(
+    rt: &impl Abort,
+    alloc: Global,
+    shows: &str,
+    net: &'a [u8],
+    cert: &'a [u8],
+    status: u8,
+    line: &[u8],
+) -> Result<(), Fail> {
+    let files: [File<'a>; 2] = [("net", net), ("cert", cert)];
+    expect(rt, alloc, shows, CHECK, &files, status, line)
+}
+
 // Each certificate or routing, with its part replaced, is answered so.
 fn certs(
     rt: &impl Abort,
@@ -357,8 +371,7 @@ fn certs(
 ) -> Result<(), Fail> {
     for (shows, part, by, status, line) in rows {
         let cert = edited(alloc, cert, part, by)?;
-        let files: [File<'_>; 2] = [("net", net), ("cert", &cert)];
-        expect(rt, alloc, shows, CHECK, &files, *status, line)?;
+        expect_said(rt, alloc, shows, net, &cert, *status, line)?;
     }
     Ok(())
 }
@@ -367,8 +380,7 @@ fn certs(
 fn nets(rt: &impl Abort, alloc: Global, net: &[u8], cert: &[u8], rows: &[Row]) -> Result<(), Fail> {
     for (shows, part, by, status, line) in rows {
         let net = edited(alloc, net, part, by)?;
-        let files: [File<'_>; 2] = [("net", &net), ("cert", cert)];
-        expect(rt, alloc, shows, CHECK, &files, *status, line)?;
+        expect_said(rt, alloc, shows, &net, cert, *status, line)?;
     }
     Ok(())
 }
