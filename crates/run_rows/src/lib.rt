@@ -2,6 +2,8 @@
 #![tactic(auto)]
 
 #[cfg(test)]
+mod certificates;
+#[cfg(test)]
 mod checks;
 #[cfg(test)]
 mod faults;
@@ -9,6 +11,8 @@ mod faults;
 mod prints;
 #[cfg(test)]
 mod running;
+#[cfg(test)]
+mod said;
 #[cfg(test)]
 mod texts;
 #[cfg(test)]
