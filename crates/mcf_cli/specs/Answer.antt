@@ -1,5 +1,5 @@
 -- What a run answers: a status, and a text on standard output.
-use Rattle.std.specs.Prelude.{◌≡◌, ◌⊎◌, ℕ, List, [], ◌∷◌, Option, codes}
+use Rattle.std.specs.Prelude.{◌≡◌, ◌⊎◌, ℕ, ◌≤◌, List, [], ◌∷◌, Option, codes}
 use Rattle.std.specs.Io.KnownBytes.{Appends}
 use Rattle.text_lines.specs.Lines.{Line, spelled}
 use Rattle.mcf_base.specs.Faults.{Rose}
@@ -40,8 +40,8 @@ status_of (outcomes.Judged judged) = judged_status judged
 abbrev pub answer_of : Outcome → Answer
 answer_of outcome = record { status = status_of outcome; text = spelled (words_of outcome) }
 
--- the answer was written and its status given, or the output failed and a front of the text was written
-abbrev pub Writes : Option (List ℕ) → Option (List ℕ) → ℕ → ℕ → ℕ → Answer → Type 0
-Writes old new before after status answer =
-    ((status ≡ answer.status) × Appends old new answer.text)
-    ⊎ ((status ≡ 5) × Rose before after × AppendsFront old new answer.text)
+-- The answer was written and its status given, or the output failed and a front of the text was written. No fault of
+-- the output is forgotten.
+pub record Writes (old new : Option (List ℕ)) (before after status : ℕ) (answer : Answer) : Type 0 where
+  pub later : before ≤ after
+  pub ends : ((status ≡ answer.status) × Appends old new answer.text) ⊎ ((status ≡ 5) × Rose before after × AppendsFront old new answer.text)

@@ -1,6 +1,6 @@
 //! The command `check`: what is said of a certificate on a network.
 
-ghost use Rattle.std.specs.Prelude.{◌≤◌, length};
+ghost use Rattle.std.specs.Prelude.{◌≡◌, ◌≤◌, length};
 ghost use Rattle.mcf_cli.specs.declared.outcome.Paper.TheVariants as PaperIs;
 ghost use Rattle.sndlib_grammar.specs.Rows.{AreNetRows};
 ghost use Rattle.sndlib_grammar.specs.Net.{rows_of};
@@ -32,7 +32,9 @@ fn on_texts(alloc: Global, rows: &RawNet<'_>, text: &[u8]) -> Outcome
 // What is said of the certificate in the file of that name on the rows.
 fn on_rows<F: Shelf>(alloc: Global, rows: &RawNet<'_>, shelf: &mut F, cert: &str) -> Outcome
     requires { AreNetRows rows.now }
-    ensures { Finds (OfFile MAX_CERT_BYTES PaperIs.Certificate (F.holds shelf.old) (F.faults shelf.old) (F.faults shelf.new) cert.now (OnTexts rows.now)) result }
+    ensures finds { Finds (OfFile MAX_CERT_BYTES PaperIs.Certificate (F.holds shelf.old) (F.faults shelf.old) (F.faults shelf.new) cert.now (OnTexts rows.now)) result }
+    ensures holds { F.holds shelf.new ≡ F.holds shelf.old }
+    ensures faults { (F.faults shelf.old).count ≤ (F.faults shelf.new).count }
 {
     match file_text(alloc, shelf, cert, MAX_CERT_BYTES, Paper::Certificate) {
         Ok(text) => on_texts(alloc, rows, &text),
@@ -43,7 +45,9 @@ fn on_rows<F: Shelf>(alloc: Global, rows: &RawNet<'_>, shelf: &mut F, cert: &str
 // The same for the network of that text.
 fn on_text<F: Shelf>(alloc: Global, text: &[u8], shelf: &mut F, cert: &str) -> Outcome
     requires { length text.now ≤ MAX_NET_BYTES }
-    ensures { Finds (OnRows (F.holds shelf.old) (F.faults shelf.old) (F.faults shelf.new) cert.now (rows_of text.now)) result }
+    ensures finds { Finds (OnRows (F.holds shelf.old) (F.faults shelf.old) (F.faults shelf.new) cert.now (rows_of text.now)) result }
+    ensures holds { F.holds shelf.new ≡ F.holds shelf.old }
+    ensures faults { (F.faults shelf.old).count ≤ (F.faults shelf.new).count }
 {
     match net_rows(alloc, text) {
         Ok(rows) => on_rows(alloc, &rows, shelf, cert),
@@ -53,7 +57,9 @@ fn on_text<F: Shelf>(alloc: Global, text: &[u8], shelf: &mut F, cert: &str) -> O
 
 // The outcome of both files.
 fn of_files<F: Shelf>(alloc: Global, shelf: &mut F, net: &str, cert: &str) -> Outcome
-    ensures { Finds (OfCheck (F.holds shelf.old) (F.faults shelf.old) (F.faults shelf.new) net.now cert.now) result }
+    ensures finds { Finds (OfCheck (F.holds shelf.old) (F.faults shelf.old) (F.faults shelf.new) net.now cert.now) result }
+    ensures holds { F.holds shelf.new ≡ F.holds shelf.old }
+    ensures faults { (F.faults shelf.old).count ≤ (F.faults shelf.new).count }
 {
     match file_text(alloc, shelf, net, MAX_NET_BYTES, Paper::Network) {
         Ok(text) => on_text(alloc, &text, shelf, cert),
@@ -69,7 +75,9 @@ pub fn check<F: Shelf, K: Sink>(
     net: &str,
     cert: &str,
 ) -> Ended
-    ensures { IsTold (OfCheck (F.holds shelf.old) (F.faults shelf.old) (F.faults shelf.new) net.now cert.now) (K.written out.old) (K.written out.new) (K.faults out.old) (K.faults out.new) result.status }
+    ensures told { IsTold (OfCheck (F.holds shelf.old) (F.faults shelf.old) (F.faults shelf.new) net.now cert.now) (K.written out.old) (K.written out.new) (K.faults out.old) (K.faults out.new) result.status }
+    ensures holds { F.holds shelf.new ≡ F.holds shelf.old }
+    ensures faults { (F.faults shelf.old).count ≤ (F.faults shelf.new).count }
 {
     let outcome = of_files(alloc, shelf, net, cert);
     tell(out, outcome)

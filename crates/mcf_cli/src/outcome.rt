@@ -13,7 +13,7 @@ pub enum Paper {
 /// What one line tells.
 #[derive(Clone, Copy)]
 pub enum Outcome {
-    /// The words are not in the grammar.
+    /// The words ask for nothing that is built.
     Usage,
     ReadFault,
     Memory,

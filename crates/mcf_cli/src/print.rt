@@ -1,6 +1,6 @@
 //! The command `print`: the canonical text of a network.
 
-ghost use Rattle.std.specs.Prelude.{◌≤◌, length};
+ghost use Rattle.std.specs.Prelude.{◌≡◌, ◌≤◌, length};
 ghost use Rattle.sndlib_text.specs.Canonical.{canonical_text};
 ghost use Rattle.mcf_cli.specs.declared.outcome.Paper.TheVariants as PaperIs;
 ghost use Rattle.mcf_cli.specs.declared.outcome.Outcome.TheVariants as OutcomeIs;
@@ -41,7 +41,9 @@ fn print_text<K: Sink>(alloc: Global, text: &[u8], out: &mut K) -> Ended
 
 /// Writes the canonical text of the network in the file of that name.
 pub fn print<F: Shelf, K: Sink>(alloc: Global, shelf: &mut F, out: &mut K, name: &str) -> Ended
-    ensures { IsPrinted (F.holds shelf.old) (F.faults shelf.old) (F.faults shelf.new) name.now (K.written out.old) (K.written out.new) (K.faults out.old) (K.faults out.new) result.status }
+    ensures printed { IsPrinted (F.holds shelf.old) (F.faults shelf.old) (F.faults shelf.new) name.now (K.written out.old) (K.written out.new) (K.faults out.old) (K.faults out.new) result.status }
+    ensures holds { F.holds shelf.new ≡ F.holds shelf.old }
+    ensures faults { (F.faults shelf.old).count ≤ (F.faults shelf.new).count }
 {
     match file_text(alloc, shelf, name, MAX_NET_BYTES, Paper::Network) {
         Ok(text) => print_text(alloc, &text, out),

@@ -1,6 +1,6 @@
 //! The top call.
 
-ghost use Rattle.std.specs.Prelude.{◌≡◌, length, map, string_bytes};
+ghost use Rattle.std.specs.Prelude.{◌≡◌, ◌≤◌, length, map, string_bytes};
 ghost use Rattle.mcf_words.specs.Request.{file_count, IsBuilt};
 ghost use Rattle.mcf_cli.specs.Run.{CommandEnds, RunEnds};
 
@@ -27,7 +27,9 @@ fn run_command<F: Shelf, K: Sink>(
 ) -> Ended
     requires files { length request.now.names ≡ file_count request.now.command }
     requires built { IsBuilt request.now.command }
-    ensures { CommandEnds (F.holds shelf.old) (F.faults shelf.old) (F.faults shelf.new) request.now (K.written out.old) (K.written out.new) (K.faults out.old) (K.faults out.new) result.status }
+    ensures ends { CommandEnds (F.holds shelf.old) (F.faults shelf.old) (F.faults shelf.new) request.now (K.written out.old) (K.written out.new) (K.faults out.old) (K.faults out.new) result.status }
+    ensures holds { F.holds shelf.new ≡ F.holds shelf.old }
+    ensures faults { (F.faults shelf.old).count ≤ (F.faults shelf.new).count }
 {
     match request.command {
         Command::Check => check(
@@ -50,7 +52,9 @@ pub fn run<F: Shelf, K: Sink, G: Gate>(
     out: &mut K,
     _gate: &G,
 ) -> Ended
-    ensures { RunEnds (F.holds shelf.old) (F.faults shelf.old) (F.faults shelf.new) (map string_bytes words.now) (K.written out.old) (K.written out.new) (K.faults out.old) (K.faults out.new) result.status }
+    ensures ends { RunEnds (F.holds shelf.old) (F.faults shelf.old) (F.faults shelf.new) (map string_bytes words.now) (K.written out.old) (K.written out.new) (K.faults out.old) (K.faults out.new) result.status }
+    ensures holds { F.holds shelf.new ≡ F.holds shelf.old }
+    ensures faults { (F.faults shelf.old).count ≤ (F.faults shelf.new).count }
 {
     match read_words(alloc, words) {
         Ok(request) => run_command(alloc, &request, shelf, out),

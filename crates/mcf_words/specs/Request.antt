@@ -22,7 +22,7 @@ None >>= f = None
 abbrev pub command_of : List ℕ → Option Command
 command_of word = if bytes_eq word (codes "check") then Some Check else if bytes_eq word (codes "print") then Some Print else None
 
--- the command is in the grammar
+-- the command is built
 abbrev pub IsBuilt : Command → Type 0
 IsBuilt Check = Unit {0}
 IsBuilt Print = Unit {0}
@@ -97,7 +97,7 @@ request_from command items = if are_known command items.settings then (do
   Some (record { command = command; names = names; numbers = numbers; net = choices.net; gap = choices.gap; phases = choices.phases; workers = choices.workers; step = choices.step }))
     else None
 
--- what the words ask for; none where they are not in the grammar
+-- what the words ask for; none where they ask for nothing that is built
 abbrev pub request_of : List (List ℕ) → Option Request
 request_of [] = None
 request_of (word ∷ words) = do

@@ -303,7 +303,7 @@ fn request_from(alloc: Global, command: Command, items: &Items<'_>) -> Result<Re
     })
 }
 
-/// What the words ask for. `Usage` exactly where they are not in the grammar of the command line.
+/// What the words ask for. `Usage` exactly where they ask for nothing that is built.
 pub fn read_words(alloc: Global, words: &[String]) -> Result<Request, WordsEnd>
     ensures files { IfOk result (λ r. length r.names ≡ file_count_lem r.command) }
     ensures built { IfOk result (λ r. IsBuilt r.command) }

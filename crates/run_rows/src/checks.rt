@@ -1,0 +1,187 @@
+//! Rows of `check` on routings and on networks, and the order of refusals.
+
+use crate::running::{File, expect};
+use crate::said::{Row, certs, nets};
+use crate::texts::{
+    BOTH_ROUTED, BOTH_WAYS, CERTIFICATE, ONE_LINK, ROUTING, THERE_AND_BACK, edited,
+};
+use std::test::Fail;
+
+const ROUTINGS: &[Row] = &[
+    (
+        "feasible_on_one_link",
+        b"",
+        b"",
+        0,
+        b"feasible directed none 10/4 2.500000\n",
+    ),
+    (
+        "scale_has_no_load",
+        b"scale 10 4",
+        b"scale 0 0",
+        1,
+        b"invalid C4\n",
+    ),
+    (
+        "weight_over_the_demand",
+        b"path D1 4",
+        b"path D1 5",
+        1,
+        b"invalid C2\n",
+    ),
+    (
+        "load_over_the_capacity",
+        b"scale 10 4",
+        b"scale 10 3",
+        1,
+        b"invalid C3\n",
+    ),
+];
+
+// A routing in which the demands of both directions share one load.
+const TWO_WAYS: &[Row] = &[
+    (
+        "undirected_link_shares_one_load",
+        b"",
+        b"",
+        0,
+        b"feasible undirected none 10/10 1.000000\n",
+    ),
+    (
+        "shared_load_over_the_capacity",
+        b"scale 10 10",
+        b"scale 10 9",
+        1,
+        b"invalid C3\n",
+    ),
+];
+
+// Whole texts in place of a certificate.
+const WHOLE: &[Row] = &[
+    (
+        "walk_uses_a_link_three_times",
+        ROUTING,
+        THERE_AND_BACK,
+        0,
+        b"feasible undirected none 10/12 0.833333\n",
+    ),
+    (
+        "empty_certificate",
+        ROUTING,
+        b"",
+        3,
+        b"refused cert K1 line 1\n",
+    ),
+    (
+        "header_without_its_end",
+        ROUTING,
+        b"mcf-certificate 1",
+        3,
+        b"refused cert K2 line 1\n",
+    ),
+    (
+        "routing_header_without_its_end",
+        ROUTING,
+        b"mcf-routing 1",
+        3,
+        b"refused cert K2 line 1\n",
+    ),
+];
+
+// Changes of a network, under a routing that stands.
+const NETWORKS: &[Row] = &[
+    (
+        "second_section",
+        b"UNLIMITED\n)\n",
+        b"UNLIMITED\n)\nNODES ( )\n",
+        3,
+        b"refused net N3 line 12\n",
+    ),
+    (
+        "seventh_decimal_is_too_fine",
+        b"10 0 0 0",
+        b"10.0000001 0 0 0",
+        3,
+        b"refused net N8 line 7\n",
+    ),
+    (
+        "capacity_over_its_limit",
+        b"10 0 0 0",
+        b"17592186044417 0 0 0",
+        3,
+        b"refused net N9 line 7\n",
+    ),
+    (
+        "no_demand_is_left",
+        b"( A B ) 1 4",
+        b"( A B ) 1 0",
+        3,
+        b"refused net N10 line 12\n",
+    ),
+];
+
+// Two refusals at once: which one is told.
+const HEADS: &[Row] = &[
+    (
+        "head_before_units",
+        b"mcf-certificate 1",
+        b"mcf-certificate 9",
+        3,
+        b"refused cert K1 line 1\n",
+    ),
+    (
+        "options_before_units",
+        b"links directed",
+        b"links both",
+        3,
+        b"refused cert K2 line 3\n",
+    ),
+    (
+        "units_before_the_rest",
+        b"path D1 4",
+        b"path D1 04",
+        3,
+        b"refused net N8 line 7\n",
+    ),
+];
+
+const TEXTS: &[Row] = &[(
+    "network_text_before_the_head",
+    b"UNLIMITED\n)\n",
+    b"UNLIMITED\n)\nNODES ( )\n",
+    3,
+    b"refused net N3 line 12\n",
+)];
+
+#[test]
+fn routings(rt: HostRuntime) -> Result<(), Fail> {
+    certs(&rt, rt.alloc(), ONE_LINK, ROUTING, ROUTINGS)?;
+    certs(&rt, rt.alloc(), BOTH_WAYS, BOTH_ROUTED, TWO_WAYS)?;
+    certs(&rt, rt.alloc(), ONE_LINK, ROUTING, WHOLE)
+}
+
+#[test]
+fn networks(rt: HostRuntime) -> Result<(), Fail> {
+    nets(&rt, rt.alloc(), ONE_LINK, ROUTING, NETWORKS)
+}
+
+#[test]
+fn refusals_in_order(rt: HostRuntime) -> Result<(), Fail> {
+    let too_fine = edited(rt.alloc(), ONE_LINK, b"10 0 0 0", b"10.0000001 0 0 0")?;
+    certs(&rt, rt.alloc(), &too_fine, CERTIFICATE, HEADS)?;
+    nets(&rt, rt.alloc(), ONE_LINK, b"", TEXTS)
+}
+
+#[test]
+fn network_named_by_a_dash(rt: HostRuntime) -> Result<(), Fail> {
+    let files: [File<'_>; 2] = [("-", ONE_LINK), ("cert", ROUTING)];
+    expect(
+        &rt,
+        rt.alloc(),
+        "network_named_by_a_dash",
+        &["check", "-", "cert"],
+        &files,
+        0,
+        b"feasible directed none 10/4 2.500000\n",
+    )
+}

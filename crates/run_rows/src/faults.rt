@@ -1,0 +1,190 @@
+//! Files and output that fail: at each read, at each write, and where nothing stands.
+
+use crate::running::{AMPLE, File, Outside, answer_to, expect};
+use crate::texts::{CERTIFICATE, FREE_LAYOUT, FREE_LAYOUT_PRINTED, ONE_LINK, ROUTING};
+use std::alloc::Global;
+use std::process::Abort;
+use std::test::Fail;
+
+/// A run that answers with status 0, and how often it reads and writes.
+struct Run {
+    words: &'static [&'static str],
+    files: &'static [File<'static>],
+    text: &'static [u8],
+    reads: u64,
+    writes: u64,
+}
+
+const READ: usize = 64;
+
+const WRITTEN: usize = 24;
+
+const SMALL: Outside = Outside {
+    most_read: READ,
+    most_written: WRITTEN,
+    ..AMPLE
+};
+
+// Each file is started, read in pieces, and read once more at its end.
+const CHECK: Run = Run {
+    words: &["check", "net", "cert"],
+    files: &[("net", ONE_LINK), ("cert", CERTIFICATE)],
+    text: b"valid closed directed largest lower 10/4 2.500000 upper 45035996273704960/18014398509481984 2.500000\n",
+    reads: 12,
+    writes: 5,
+};
+
+const PRINT: Run = Run {
+    words: &["print", "net"],
+    files: &[("net", FREE_LAYOUT)],
+    text: FREE_LAYOUT_PRINTED,
+    reads: 5,
+    writes: 8,
+};
+
+// Where the read of that number fails, the fault is told; a fault behind the last read changes nothing.
+fn reads_fail(rt: &impl Abort, alloc: Global, case: &Run) -> Result<(), Fail> {
+    for number in 1..=case.reads {
+        let outside = Outside {
+            failing_read: number,
+            ..SMALL
+        };
+        let given = answer_to(alloc, case.words, case.files, outside)?;
+        assert!(rt; given.is(4, b"read fault\n"), "read {number}");
+    }
+    let outside = Outside {
+        failing_read: case.reads.saturating_add(1),
+        ..SMALL
+    };
+    let given = answer_to(alloc, case.words, case.files, outside)?;
+    assert!(rt; given.is(0, case.text), "no read fails");
+    Ok(())
+}
+
+// Where the write of that number fails, what the writes before it took stands there; a fault behind the last write
+// changes nothing.
+fn writes_fail(rt: &impl Abort, alloc: Global, case: &Run) -> Result<(), Fail> {
+    let mut front = 0usize;
+    for number in 1..=case.writes {
+        let outside = Outside {
+            failing_write: number,
+            ..SMALL
+        };
+        let given = answer_to(alloc, case.words, case.files, outside)?;
+        assert!(rt; front <= case.text.len());
+        assert!(rt; given.is(5, &case.text[..front]), "write {number}");
+        front = front.saturating_add(WRITTEN);
+    }
+    let outside = Outside {
+        failing_write: case.writes.saturating_add(1),
+        ..SMALL
+    };
+    let given = answer_to(alloc, case.words, case.files, outside)?;
+    assert!(rt; given.is(0, case.text), "no write fails");
+    Ok(())
+}
+
+// Where there is room for a front of the text, that front stands there.
+fn rooms_end(rt: &impl Abort, alloc: Global, case: &Run) -> Result<(), Fail> {
+    for room in 0..case.text.len() {
+        let outside = Outside { room, ..SMALL };
+        let given = answer_to(alloc, case.words, case.files, outside)?;
+        assert!(rt; given.is(5, &case.text[..room]), "room {room}");
+    }
+    Ok(())
+}
+
+#[test]
+fn check_fails(rt: HostRuntime) -> Result<(), Fail> {
+    reads_fail(&rt, rt.alloc(), &CHECK)?;
+    writes_fail(&rt, rt.alloc(), &CHECK)?;
+    rooms_end(&rt, rt.alloc(), &CHECK)
+}
+
+#[test]
+fn print_fails(rt: HostRuntime) -> Result<(), Fail> {
+    reads_fail(&rt, rt.alloc(), &PRINT)?;
+    writes_fail(&rt, rt.alloc(), &PRINT)?;
+    rooms_end(&rt, rt.alloc(), &PRINT)
+}
+
+// What a row shows, the words, the files that stand, the status, and the line.
+type Row = (
+    &'static str,
+    &'static [&'static str],
+    &'static [File<'static>],
+    u8,
+    &'static [u8],
+);
+
+const MISSING: &[Row] = &[
+    (
+        "no_network",
+        &["print", "net"],
+        &[("cert", ROUTING)],
+        4,
+        b"read fault\n",
+    ),
+    (
+        "no_certificate",
+        &["check", "net", "cert"],
+        &[("net", ONE_LINK)],
+        4,
+        b"read fault\n",
+    ),
+    (
+        "no_file_of_two",
+        &["check", "net", "cert"],
+        &[],
+        4,
+        b"read fault\n",
+    ),
+    (
+        "network_is_refused_before",
+        &["check", "net", "cert"],
+        &[("net", b"")],
+        3,
+        b"refused net N1 line 1\n",
+    ),
+    (
+        "empty_name",
+        &["print", ""],
+        &[("net", ONE_LINK)],
+        4,
+        b"read fault\n",
+    ),
+    (
+        "name_behind_dashes",
+        &["print", "--", "-h"],
+        &[("-h", ONE_LINK)],
+        0,
+        ONE_LINK,
+    ),
+    (
+        "first_of_one_name",
+        &["print", "net"],
+        &[("net", ONE_LINK), ("net", b"")],
+        0,
+        ONE_LINK,
+    ),
+];
+
+#[test]
+fn files_that_do_not_stand(rt: HostRuntime) -> Result<(), Fail> {
+    for (shows, words, files, status, text) in MISSING {
+        expect(&rt, rt.alloc(), shows, words, files, *status, text)?;
+    }
+    Ok(())
+}
+
+// A program that always answers want of memory meets its contract, and fails here.
+#[test]
+fn always_memory(rt: HostRuntime) -> Result<(), Fail> {
+    for case in [&CHECK, &PRINT] {
+        let given = answer_to(rt.alloc(), case.words, case.files, AMPLE)?;
+        assert!(&rt; given.is(0, case.text));
+    }
+    let given = answer_to(rt.alloc(), &["help"], &[], AMPLE)?;
+    assert!(&rt; given.is(2, b"usage\n"));
+    Ok(())
+}

@@ -1,0 +1,19 @@
+//! Tests alone: whole runs of `check` and `print` over files and output in memory.
+#![tactic(auto)]
+
+#[cfg(test)]
+mod certificates;
+#[cfg(test)]
+mod checks;
+#[cfg(test)]
+mod faults;
+#[cfg(test)]
+mod prints;
+#[cfg(test)]
+mod running;
+#[cfg(test)]
+mod said;
+#[cfg(test)]
+mod texts;
+#[cfg(test)]
+mod usages;

@@ -1,0 +1,109 @@
+//! A run over files and output in memory, and its answer.
+
+ghost use Rattle.std.specs.Prelude.{◌≤◌};
+
+use mcf_base::{MemShelf, MemSink, OpenGate};
+use mcf_cli::run;
+use std::alloc::{AllocError, Global};
+use std::process::Abort;
+use std::test::Fail;
+
+/// A name and its bytes.
+pub type File<'a> = (&'a str, &'a [u8]);
+
+/// How many bytes a read and a write take at most, how many there is room for, and the numbers of the read and of the write
+/// that fail: 0 fails none.
+#[derive(Clone, Copy)]
+pub struct Outside {
+    pub most_read: usize,
+    pub most_written: usize,
+    pub room: usize,
+    pub failing_read: u64,
+    pub failing_write: u64,
+}
+
+/// Nothing fails, and the usual texts are read and written at once.
+pub const AMPLE: Outside = Outside {
+    most_read: 65536,
+    most_written: 65536,
+    room: 65536,
+    failing_read: 0,
+    failing_write: 0,
+};
+
+/// What a run wrote, and how it ended.
+#[derive(Drop)]
+pub struct Answer {
+    pub status: u8,
+    pub sink: MemSink,
+}
+
+impl Answer {
+    /// Whether these are its status and its text.
+    pub fn is(&self, status: u8, text: &[u8]) -> bool {
+        self.status == status && self.sink.written() == text
+    }
+}
+
+fn owned_words(alloc: Global, words: &[&str]) -> Result<Vec<String>, AllocError> {
+    let mut owned = Vec::new(alloc);
+    for word in words {
+        owned.push(String::from_str(alloc, word)?)?;
+    }
+    Ok(owned)
+}
+
+fn owned_files(alloc: Global, files: &[File<'_>]) -> Result<Vec<(String, Vec<u8>)>, AllocError> {
+    let mut owned = Vec::new(alloc);
+    for (name, bytes) in files {
+        owned.push((
+            String::from_str(alloc, name)?,
+            Vec::from_slice(alloc, bytes)?,
+        ))?;
+    }
+    Ok(owned)
+}
+
+fn only(alloc: Global, number: u64) -> Result<Vec<u64>, AllocError> {
+    let mut numbers = Vec::new(alloc);
+    numbers.push(number)?;
+    Ok(numbers)
+}
+
+/// The answer to the words, where these files stand.
+pub fn answer_to(
+    alloc: Global,
+    words: &[&str],
+    files: &[File<'_>],
+    outside: Outside,
+) -> Result<Answer, AllocError>
+    requires reads { 1 ≤ outside.most_read }
+    requires writes { 1 ≤ outside.most_written }
+{
+    let owned = owned_words(alloc, words)?;
+    let failing = only(alloc, outside.failing_read)?;
+    let mut shelf = MemShelf::new(owned_files(alloc, files)?, outside.most_read, failing);
+    let failing = only(alloc, outside.failing_write)?;
+    let mut sink = MemSink::new(alloc, outside.room, outside.most_written, failing)?;
+    let ended = run(alloc, &owned, &mut shelf, &mut sink, &OpenGate);
+    Ok(Answer {
+        status: ended.status,
+        sink,
+    })
+}
+
+/// The words are answered so.
+pub fn expect(
+    rt: &impl Abort,
+    alloc: Global,
+    shows: &str,
+    words: &[&str],
+    files: &[File<'_>],
+    status: u8,
+    text: &[u8],
+) -> Result<(), Fail> {
+    let given = answer_to(alloc, words, files, AMPLE)?;
+    assert_eq!(rt; given.status, status, "{shows}");
+    assert!(rt; given.sink.written() == text, "{shows}");
+    Ok(())
+}
