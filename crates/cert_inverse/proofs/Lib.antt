@@ -1,0 +1,5 @@
+pub mod CountTakes
+pub mod Decimals
+pub mod HeadTakes
+pub mod RowTakes
+pub mod Words

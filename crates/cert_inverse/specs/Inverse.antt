@@ -1,0 +1,16 @@
+-- What a text must cite so that it is read as what was written.
+use Rattle.std.specs.Prelude.{◌≡◌, ℕ, ◌≤◌, List, length}
+use Rattle.std.specs.List.{AllByRecursion}
+use Rattle.cert_names.specs.Sheet.{Sheet}
+use Rattle.cert_lines.specs.declared.net_line.TheConstants.{MAX_COUNT}
+use Rattle.cert_lines.specs.Spelling.{IsClear}
+
+-- there are seven counts, each within the limit of a count
+pub record AreCounts (counts : List ℕ) : Type 0 where
+  pub seven : length counts ≡ 7
+  pub within : AllByRecursion (λ n. n ≤ MAX_COUNT) counts
+
+-- what a text cites can be told apart in it: words that are distinct and clean, and seven counts within their limit
+pub record IsCitable (sheet : Sheet) : Type 0 where
+  pub clear : IsClear sheet
+  pub counts : AreCounts sheet.counts

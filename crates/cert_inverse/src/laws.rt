@@ -1,0 +1,1 @@
+//! Laws, each proved for all names, all lines and all certificates.

@@ -1,0 +1,4 @@
+//! Texts of certificates and routings both ways: what is written is read as the same, and what is read was written so.
+#![tactic(auto)]
+
+mod laws;
