@@ -1,30 +1,25 @@
 -- The lines before the rows: what is read was spelled so.
-use Rattle.std.proofs.Common.{◌≡◌, ℕ, ◌+◌, ◌*◌, ◌/◌, ◌%◌, ◌≤◌, ◌<◌, Bool, true, false, cond, List, [], ◌∷◌, ◌++◌, length, get_or, take, drop, Option, Some, None, Result, Ok, Err, refl, sym, ap, subst, ◌∙◌, arith}
-use Rattle.std.specs.Prelude.{codes, nat_le, ◌&&◌, option_and_then}
+use Rattle.std.proofs.Common.{◌≡◌, ℕ, ◌+◌, ◌*◌, ◌/◌, ◌%◌, ◌≤◌, Bool, true, false, cond, List, [], ◌∷◌, ◌++◌, Ok, Err, refl, ap, ◌∙◌, arith}
+use Rattle.std.specs.Prelude.{codes, nat_le}
 use Rattle.std.specs.List.{join_with_byte}
 use Rattle.std.specs.Fmt.{decimal}
 use Rattle.std.specs.Str.{bytes_eq}
-use Rattle.std.proofs.lemmas.List.{take-append-drop}
-use Rattle.std.proofs.lemmas.Option.{option_and_then_some}
 use Rattle.text_lines.specs.Lines.{Line}
 use Rattle.flow_paths.specs.declared.certificate.Printed.{Printed}
 use Rattle.gap_fraction.specs.declared.fraction.TheConstants.{MAX_PART}
 use Rattle.mcf_limits.specs.declared.TheConstants.{MAX_GAP, MAX_LENGTH, MAX_PHASES, MAX_UNITS}
 use Rattle.line_writer.specs.Spelling.{fraction_word, decimal_word}
-use Rattle.cert_names.specs.Sheet.{Sheet}
-use Rattle.cert_lines.specs.declared.net_line.TheConstants.{MAX_COUNT}
 use Rattle.cert_lines.specs.declared.refusal.CertKind.{CertKind}
-use Rattle.cert_lines.specs.declared.refusal.CertKind.TheVariants.{Syntax, TooLarge, OtherNet}
-use Rattle.cert_lines.specs.Forms.{◌>>=◌, or_fault, one_behind, two_behind, stroke_parts, named_first, is_fixed}
+use Rattle.cert_lines.specs.declared.refusal.CertKind.TheVariants.{Syntax, TooLarge}
+use Rattle.cert_lines.specs.Forms.{◌>>=◌, or_fault, one_behind, two_behind, stroke_parts, is_fixed}
 use Rattle.cert_lines.specs.Numbers.{number_within, decimal_within}
-use Rattle.cert_lines.specs.HeadLines.{verdict_line, gap_line, phases_line, scale_line, fraction_parts, value_line, first_counts, last_counts, behind_net, four_counts, three_counts, is_none_left, are_counts, count_words, counts_line}
-use Rattle.cert_lines.specs.Spelling.{verdict_words, gap_words, phases_words, scale_words, value_words, counts_words}
+use Rattle.cert_lines.specs.HeadLines.{verdict_line, gap_line, phases_line, scale_line, fraction_parts, value_line}
+use Rattle.cert_lines.specs.Spelling.{verdict_words, gap_words, phases_words, scale_words, value_words}
 use Rattle.cert_lines.proofs.NumberLaws.{number_takes}
-use Rattle.cert_lines.proofs.NumberSteps.{both_true}
 use Rattle.cert_text.specs.Reading.{fixed_line, mode_line}
 use Rattle.cert_laws.proofs.Steps.{bind_ok, done, ok_is, some_is, passed}
 use Rattle.cert_laws.proofs.LineFits.{decimal_fits}
-use Rattle.cert_inverse.proofs.Words.{same_bytes, one_takes, two_takes, named_takes}
+use Rattle.cert_inverse.proofs.Words.{same_bytes, one_takes, two_takes}
 use Rattle.cert_inverse.proofs.Decimals.{decimal_takes, fraction_takes}
 
 -- the bytes of a line

@@ -1,5 +1,9 @@
+pub mod Between
 pub mod CountTakes
 pub mod Decimals
+pub mod HeadAgain
 pub mod HeadTakes
+pub mod RowAgain
 pub mod RowTakes
+pub mod TextTakes
 pub mod Words

@@ -4,6 +4,14 @@ use Rattle.std.specs.List.{AllByRecursion}
 use Rattle.cert_names.specs.Sheet.{Sheet}
 use Rattle.cert_lines.specs.declared.net_line.TheConstants.{MAX_COUNT}
 use Rattle.cert_lines.specs.Spelling.{IsClear}
+use Rattle.cert_text.specs.declared.papers.Paper.{Paper}
+use Rattle.cert_text.specs.declared.papers.Paper.TheVariants.{Routing, Full}
+use Rattle.cert_writer.specs.Text.{certificate_text, routing_text}
+
+-- the text of a certificate or of a routing
+abbrev pub paper_text : Sheet → Paper → List ℕ
+paper_text sheet (Routing r) = routing_text sheet r
+paper_text sheet (Full p) = certificate_text sheet p
 
 -- there are seven counts, each within the limit of a count
 pub record AreCounts (counts : List ℕ) : Type 0 where
