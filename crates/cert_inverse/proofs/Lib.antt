@@ -1,9 +1,12 @@
 pub mod Between
+pub mod Clean
 pub mod CountTakes
 pub mod Decimals
 pub mod HeadAgain
 pub mod HeadTakes
+pub mod PlacesAgain
 pub mod RowAgain
 pub mod RowTakes
+pub mod TextAgain
 pub mod TextTakes
 pub mod Words
