@@ -10,7 +10,7 @@ use Rattle.std.proofs.lemmas.Fmt.{decimal_is_IsNumeral_wide}
 use Rattle.std.proofs.lemmas.Str.Parse.{digit_from_value}
 use Rattle.text_lines.specs.Lines.{Line, IsInside, IsLine}
 use Rattle.flow_model.specs.Routing.{Row}
-use Rattle.flow_paths.specs.DualRows.{DualRows, Length, Potential}
+use Rattle.flow_paths.specs.DualRows.{Length, Potential}
 use Rattle.flow_paths.specs.declared.certificate.Routing.{Routing}
 use Rattle.flow_paths.specs.declared.certificate.Printed.{Printed}
 use Rattle.flow_paths.specs.declared.certificate.Proof.{Proof}

@@ -1,9 +1,8 @@
 -- The lines before the rows: what is spelled is read.
-use Rattle.std.proofs.Common.{◌≡◌, ℕ, ◌+◌, ◌*◌, ◌/◌, ◌%◌, ◌≤◌, ◌<◌, Bool, true, false, cond, List, [], ◌∷◌, ◌++◌, length, get_or, take, drop, Option, Some, None, Result, Ok, Err, refl, sym, ap, subst, ◌∙◌, arith}
-use Rattle.std.specs.Prelude.{codes, nat_le, ◌&&◌, option_and_then}
+use Rattle.std.proofs.Common.{◌≡◌, ℕ, ◌+◌, ◌*◌, ◌/◌, ◌%◌, ◌≤◌, ◌<◌, Bool, true, false, List, [], ◌∷◌, ◌++◌, length, Some, Ok, refl, arith}
+use Rattle.std.specs.Prelude.{codes, nat_le}
 use Rattle.std.specs.List.{AllByRecursion}
 use Rattle.std.specs.Fmt.{decimal}
-use Rattle.std.specs.Str.{bytes_eq}
 use Rattle.std.proofs.lemmas.Bool.Decides.{nat_tests}
 use Rattle.text_lines.specs.Lines.{Line}
 use Rattle.flow_paths.specs.declared.certificate.Printed.{Printed}
@@ -12,11 +11,9 @@ use Rattle.mcf_limits.specs.declared.TheConstants.{MAX_GAP, MAX_LENGTH, MAX_PHAS
 use Rattle.line_writer.specs.Spelling.{fraction_word, decimal_word, six_digits}
 use Rattle.cert_names.specs.Sheet.{Sheet}
 use Rattle.cert_lines.specs.declared.net_line.TheConstants.{MAX_COUNT}
-use Rattle.cert_lines.specs.declared.refusal.CertKind.{CertKind}
-use Rattle.cert_lines.specs.declared.refusal.CertKind.TheVariants.{Syntax, TooLarge, OtherNet}
-use Rattle.cert_lines.specs.Forms.{◌>>=◌, or_fault, one_behind, two_behind, stroke_parts, named_first, is_full}
-use Rattle.cert_lines.specs.Numbers.{number_within, decimal_within}
-use Rattle.cert_lines.specs.HeadLines.{verdict_line, gap_line, phases_line, scale_line, fraction_parts, value_line, first_counts, last_counts, four_counts, three_counts, are_counts, count_words, counts_line}
+use Rattle.cert_lines.specs.Forms.{is_full}
+use Rattle.cert_lines.specs.Numbers.{number_within}
+use Rattle.cert_lines.specs.HeadLines.{verdict_line, gap_line, phases_line, scale_line, fraction_parts, value_line, first_counts, last_counts, four_counts, three_counts, count_words, counts_line}
 use Rattle.cert_lines.specs.Spelling.{verdict_words, gap_words, phases_words, scale_words, value_words, counts_words, FitsValue}
 use Rattle.cert_lines.proofs.NumberLaws.{number_again}
 use Rattle.cert_text.specs.Reading.{mode_line}

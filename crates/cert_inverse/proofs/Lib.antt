@@ -2,8 +2,10 @@ pub mod Between
 pub mod Clean
 pub mod CountTakes
 pub mod Decimals
+pub mod Exactly
 pub mod HeadAgain
 pub mod HeadTakes
+pub mod NetworkWords
 pub mod PlacesAgain
 pub mod RowAgain
 pub mod RowTakes

@@ -1,20 +1,17 @@
 -- Rows: what is spelled is read.
-use Rattle.std.proofs.Common.{◌≡◌, ℕ, ◌+◌, ◌≤◌, ◌<◌, Bool, true, false, cond, List, [], ◌∷◌, length, get_or, Option, Some, None, Result, Ok, Err, refl, sym, ap, subst, ◌∙◌, arith}
+use Rattle.std.proofs.Common.{◌≡◌, ℕ, ◌+◌, ◌≤◌, ◌<◌, true, List, [], ◌∷◌, length, Ok, refl, ◌∙◌, arith}
 use Rattle.std.specs.Prelude.{codes, nat_lt, nat_eq, map}
 use Rattle.std.specs.List.{AllByRecursion, list_all}
 use Rattle.std.specs.Fmt.{decimal}
 use Rattle.std.proofs.lemmas.Bool.Decides.{nat_tests}
 use Rattle.std.proofs.lemmas.List.{length-map}
-use Rattle.text_lines.specs.Lines.{Line}
 use Rattle.flow_model.specs.Routing.{Row}
 use Rattle.flow_paths.specs.DualRows.{Length, Potential}
 use Rattle.mcf_limits.specs.declared.TheConstants.{MAX_LENGTH, MAX_PATH_CELLS}
-use Rattle.cert_names.specs.Sheet.{Sheet, place_of, node_word, cell_word, commodity_word, AreNames}
-use Rattle.cert_lines.specs.declared.refusal.CertKind.{CertKind}
-use Rattle.cert_lines.specs.declared.refusal.CertKind.TheVariants.{Syntax, UnknownName, TooLarge}
-use Rattle.cert_lines.specs.Forms.{◌>>=◌, or_fault, is_full, two_behind, list_behind, row_behind}
+use Rattle.cert_names.specs.Sheet.{Sheet, node_word, cell_word, commodity_word, AreNames}
+use Rattle.cert_lines.specs.Forms.{is_full}
 use Rattle.cert_lines.specs.Numbers.{number_within}
-use Rattle.cert_lines.specs.Rows.{length_row, cells_from, path_row, potentials_from, of_that_many, potential_row}
+use Rattle.cert_lines.specs.Rows.{length_row, cells_from, path_row, potentials_from, potential_row}
 use Rattle.cert_lines.specs.Spelling.{length_words, potential_words, path_words, FitsLength, FitsPotential, FitsPath, IsClear}
 use Rattle.cert_lines.proofs.NumberLaws.{number_again}
 use Rattle.cert_inverse.proofs.Words.{place_again, full_name, two_again, list_again, row_again}

@@ -1,11 +1,15 @@
 -- What a text must cite so that it is read as what was written.
-use Rattle.std.specs.Prelude.{◌≡◌, ℕ, ◌≤◌, List, length}
+use Rattle.std.specs.Prelude.{◌≡◌, ℕ, ◌≤◌, Bool, true, false, List, length, Result, Ok}
 use Rattle.std.specs.List.{AllByRecursion}
 use Rattle.cert_names.specs.Sheet.{Sheet}
 use Rattle.cert_lines.specs.declared.net_line.TheConstants.{MAX_COUNT}
 use Rattle.cert_lines.specs.Spelling.{IsClear}
+use Rattle.cert_lines.specs.declared.refusal.CertRefusal.{CertRefusal}
 use Rattle.cert_text.specs.declared.papers.Paper.{Paper}
 use Rattle.cert_text.specs.declared.papers.Paper.TheVariants.{Routing, Full}
+use Rattle.cert_text.specs.declared.opening.CertHead.{CertHead}
+use Rattle.cert_laws.specs.Fits.{FitsPaper}
+use Rattle.net_options.specs.declared.options.NetOptions.{NetOptions}
 use Rattle.cert_writer.specs.Text.{certificate_text, routing_text}
 
 -- the text of a certificate or of a routing
@@ -22,3 +26,20 @@ pub record AreCounts (counts : List ℕ) : Type 0 where
 pub record IsCitable (sheet : Sheet) : Type 0 where
   pub clear : IsClear sheet
   pub counts : AreCounts sheet.counts
+
+-- the text is that of this certificate or routing, which is within the limits of a text
+pub record IsPaperText (sheet : Sheet) (text : List ℕ) (paper : Paper) : Type 0 where
+  pub fits : FitsPaper sheet paper
+  pub spelled : text ≡ paper_text sheet paper
+
+abbrev pub is_certificate : Paper → Bool
+is_certificate (Routing r) = false
+is_certificate (Full p) = true
+
+-- what the first lines of its text say: the form and the options
+abbrev pub head_of : NetOptions → Paper → CertHead
+head_of options paper = record { full = is_certificate paper; links = options.links; modules = options.modules }
+
+-- what reading the first lines answers where it refuses nothing
+abbrev pub read_head : CertHead → Result CertHead CertRefusal
+read_head head = Ok head

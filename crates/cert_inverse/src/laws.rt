@@ -1,16 +1,33 @@
 //! Laws, each proved for all names, all texts and all certificates.
 
-ghost use Rattle.std.specs.Prelude.{◌≡◌, ℕ, List};
+ghost use Rattle.std.specs.Prelude.{◌≡◌, ◌≤◌, ◌↔◌, ℕ, List};
 ghost use Rattle.text_lines.specs.Lines.{Line, lines_of};
+ghost use Rattle.net_options.specs.Modes.{link_word, module_word};
+ghost use Rattle.net_options.specs.declared.options.NetOptions.{NetOptions};
 ghost use Rattle.cert_names.specs.Sheet.{Sheet};
 ghost use Rattle.cert_text.specs.declared.papers.Paper.{Paper};
 ghost use Rattle.cert_text.specs.Reading.{bytes_of};
-ghost use Rattle.cert_text.specs.Whole.{paper_in};
-ghost use Rattle.cert_laws.specs.Fits.{read};
-ghost use Rattle.cert_inverse.specs.Inverse.{paper_text};
+ghost use Rattle.cert_text.specs.Whole.{head_in, paper_in};
+ghost use Rattle.cert_laws.specs.Fits.{FitsPaper, read};
+ghost use Rattle.cert_inverse.specs.Inverse.{IsCitable, IsPaperText, head_of, paper_text, read_head};
+
+/// What is written is read as the same: the text of a certificate or a routing that is within its limits.
+pub fn written_texts_read_back()
+    ensures { (sheet : Sheet) (paper : Paper) → IsCitable sheet → FitsPaper sheet paper → paper_in sheet (lines_of (paper_text sheet paper)) ≡ read paper }
+{}
 
 /// What is read was written so: lines and texts that are read as a certificate or a routing are its text and no other.
 pub fn read_texts_are_written()
     ensures lines { (sheet : Sheet) (lines : List Line) (paper : Paper) → paper_in sheet lines ≡ read paper → bytes_of lines ≡ paper_text sheet paper }
     ensures texts { (sheet : Sheet) (text : List ℕ) (paper : Paper) → paper_in sheet (lines_of text) ≡ read paper → text ≡ paper_text sheet paper }
+{}
+
+/// A text is read as a certificate or a routing exactly where it is its text.
+pub fn texts_read_exactly()
+    ensures { (sheet : Sheet) (text : List ℕ) (paper : Paper) → IsCitable sheet → (paper_in sheet (lines_of text) ≡ read paper) ↔ IsPaperText sheet text paper }
+{}
+
+/// A text is that of one certificate or routing alone.
+pub fn texts_are_of_one()
+    ensures { (sheet : Sheet) (one other : Paper) → IsCitable sheet → FitsPaper sheet one → FitsPaper sheet other → paper_text sheet one ≡ paper_text sheet other → one ≡ other }
 {}

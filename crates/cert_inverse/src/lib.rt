@@ -2,5 +2,9 @@
 #![tactic(auto)]
 
 mod laws;
+mod networks;
 
-pub use laws::read_texts_are_written;
+pub use laws::{
+    read_texts_are_written, texts_are_of_one, texts_read_exactly, written_texts_read_back,
+};
+pub use networks::{is_citable, networks_are_citable};
