@@ -69,7 +69,7 @@ rows_bytes {X} key row spelling sound at (line ∷ lines) y e = by (λ z h. rows
         let rows = text_of (map spelling b.0.0) in
         subst (λ (q : List X × Place). bytes_of (line ∷ lines) ≡ text_of (map spelling q.0) ++ bytes_of q.1.rest) (ok_is {E = CertRefusal} (a.0 ∷ b.0.0, b.0.1) y b.2)
         (first_line line lines m ∙ ap (λ (l : Line). spelled l ++ bytes_of lines) same ∙ ap (λ (l : List ℕ). spelled (spelling a.0) ++ l) (more b.0 b.1)
-            ∙ sym (append_assoc (spelled (spelling a.0)) rows rest) ∙ ap (λ (l : List ℕ). l ++ rest) (sym (flat_map-cons spelled (spelling a.0) (map spelling b.0.0))))
+        ∙ sym (append_assoc (spelled (spelling a.0)) rows rest) ∙ ap (λ (l : List ℕ). l ++ rest) (sym (flat_map-cons spelled (spelling a.0) (map spelling b.0.0))))
     by more true false m h = subst (λ (q : List X × Place). bytes_of (line ∷ lines) ≡ text_of (map spelling q.0) ++ bytes_of q.1.rest) (ok_is {E = CertRefusal} ([], record { at = at; rest = line ∷ lines }) y h) refl
     by more false c m h = subst (λ (q : List X × Place). bytes_of (line ∷ lines) ≡ text_of (map spelling q.0) ++ bytes_of q.1.rest) (ok_is {E = CertRefusal} ([], record { at = at; rest = line ∷ lines }) y h) refl
 

@@ -108,9 +108,34 @@ count_small (n ∷ ns) (suc i) h = count_small ns i h.1
 
 clean_counts : (sheet : Sheet) → IsCitable sheet → IsLine (counts_words sheet)
 clean_counts sheet own =
-    let count = λ (i : ℕ). clean_number (slice_index sheet.counts i) (count_small sheet.counts i own.counts.within) in
-    (clean (codes "net") refl, (clean (codes "nodes") refl, (count 0, (clean (codes "cells") refl, (count 1, (clean (codes "commodities") refl, (count 2, (clean (codes "decimals") refl, (count 3,
-        (clean (codes "skipped") refl, (count 4, (clean (codes "left") refl, (count 5, (clean (codes "hops") refl, (count 6, tt)))))))))))))))
+    let count = λ (i : ℕ). clean_number (slice_index sheet.counts i) (count_small sheet.counts i own.counts.within) in (
+      clean (codes "net") refl,
+      (
+        clean (codes "nodes") refl,
+        (
+          count 0,
+          (
+            clean (codes "cells") refl,
+            (
+              count 1,
+              (
+                clean (codes "commodities") refl,
+                (
+                  count 2,
+                  (
+                    clean (codes "decimals") refl,
+                    (
+                      count 3,
+                      (clean (codes "skipped") refl, (count 4, (clean (codes "left") refl, (count 5, (clean (codes "hops") refl, (count 6, tt)))))),
+                    ),
+                  ),
+                ),
+              ),
+            ),
+          ),
+        ),
+      ),
+    )
 
 -- ---- texts
 
@@ -122,28 +147,56 @@ is_end : AllByRecursion IsLine (end_line ∷ [])
 is_end = ((clean (codes "end") refl, tt), tt)
 
 pub routing_clean : (sheet : Sheet) (r : Routing) → IsCitable sheet → FitsRouting sheet r → AllByRecursion IsLine (routing_lines sheet r)
-routing_clean sheet r own fits =
-    ((clean (codes "mcf-routing") refl, (clean (codes "1") refl, tt)),
-    ((clean (codes "links") refl, (own.clear.clean_modes.0, tt)),
-    ((clean (codes "modules") refl, (own.clear.clean_modes.1, tt)),
-    ((clean (codes "phases") refl, (clean_number r.phases (omega (arith, fits.phases)), tt)),
-    ((clean (codes "scale") refl, (clean_number r.scale_cap (omega (arith, fits.scale_cap)), (clean_number r.scale_load (omega (arith, fits.scale_load)), tt))),
-    rows_are (path_words sheet) (FitsPath sheet) (clean_path sheet own) r.paths (end_line ∷ []) fits.paths is_end)))))
+routing_clean sheet r own fits = (
+  (clean (codes "mcf-routing") refl, (clean (codes "1") refl, tt)),
+  (
+    (clean (codes "links") refl, (own.clear.clean_modes.0, tt)),
+    (
+      (clean (codes "modules") refl, (own.clear.clean_modes.1, tt)),
+      (
+        (clean (codes "phases") refl, (clean_number r.phases (omega (arith, fits.phases)), tt)),
+        (
+          (clean (codes "scale") refl, (clean_number r.scale_cap (omega (arith, fits.scale_cap)), (clean_number r.scale_load (omega (arith, fits.scale_load)), tt))),
+          rows_are (path_words sheet) (FitsPath sheet) (clean_path sheet own) r.paths (end_line ∷ []) fits.paths is_end,
+        ),
+      ),
+    ),
+  ),
+)
 
 pub certificate_clean : (sheet : Sheet) (p : Proof) → IsCitable sheet → FitsProof sheet p → AllByRecursion IsLine (certificate_lines sheet p)
 certificate_clean sheet p own fits =
     let r = p.routing in
     let potentials = rows_are (potential_words sheet) (FitsPotential sheet) (clean_potential sheet own) p.dual.potentials (end_line ∷ []) fits.potentials is_end in
     let lengths = rows_are (length_words sheet) (FitsLength sheet) (clean_length sheet own) p.dual.lengths (map (potential_words sheet) p.dual.potentials ++ end_line ∷ []) fits.lengths potentials in
-    let paths = rows_are (path_words sheet) (FitsPath sheet) (clean_path sheet own) r.paths (map (length_words sheet) p.dual.lengths ++ (map (potential_words sheet) p.dual.potentials ++ end_line ∷ [])) fits.routing.paths lengths in
-    ((clean (codes "mcf-certificate") refl, (clean (codes "1") refl, tt)),
-    (clean_verdict p.closed,
-    ((clean (codes "links") refl, (own.clear.clean_modes.0, tt)),
-    ((clean (codes "modules") refl, (own.clear.clean_modes.1, tt)),
-    (clean_counts sheet own,
-    ((clean (codes "gap") refl, (clean_decimal (p.gap / 1000000) (p.gap % 1000000) (omega (arith, fits.gap)), tt)),
-    ((clean (codes "phases") refl, (clean_number r.phases (omega (arith, fits.routing.phases)), tt)),
-    ((clean (codes "scale") refl, (clean_number r.scale_cap (omega (arith, fits.routing.scale_cap)), (clean_number r.scale_load (omega (arith, fits.routing.scale_load)), tt))),
-    (clean_value (codes "lower") MAX_LENGTH p.lower (clean (codes "lower") refl) (omega arith) fits.lower,
-    (clean_value (codes "upper") MAX_PART p.upper (clean (codes "upper") refl) (omega arith) fits.upper,
-    paths))))))))))
+    let paths = rows_are (path_words sheet) (FitsPath sheet) (clean_path sheet own) r.paths (map (length_words sheet) p.dual.lengths ++ (map (potential_words sheet) p.dual.potentials ++ end_line ∷ [])) fits.routing.paths lengths in (
+      (clean (codes "mcf-certificate") refl, (clean (codes "1") refl, tt)),
+      (
+        clean_verdict p.closed,
+        (
+          (clean (codes "links") refl, (own.clear.clean_modes.0, tt)),
+          (
+            (clean (codes "modules") refl, (own.clear.clean_modes.1, tt)),
+            (
+              clean_counts sheet own,
+              (
+                (clean (codes "gap") refl, (clean_decimal (p.gap / 1000000) (p.gap % 1000000) (omega (arith, fits.gap)), tt)),
+                (
+                  (clean (codes "phases") refl, (clean_number r.phases (omega (arith, fits.routing.phases)), tt)),
+                  (
+                    (clean (codes "scale") refl, (clean_number r.scale_cap (omega (arith, fits.routing.scale_cap)), (clean_number r.scale_load (omega (arith, fits.routing.scale_load)), tt))),
+                    (
+                      clean_value (codes "lower") MAX_LENGTH p.lower (clean (codes "lower") refl) (omega arith) fits.lower,
+                      (
+                        clean_value (codes "upper") MAX_PART p.upper (clean (codes "upper") refl) (omega arith) fits.upper,
+                        paths,
+                      ),
+                    ),
+                  ),
+                ),
+              ),
+            ),
+          ),
+        ),
+      ),
+    )

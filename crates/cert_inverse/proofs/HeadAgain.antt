@@ -82,25 +82,40 @@ first_line a b c d more = codes "nodes" ∷ decimal a ∷ codes "cells" ∷ deci
 first_again : (a b c d : ℕ) (more : Line) → a ≤ MAX_COUNT → b ≤ MAX_COUNT → c ≤ MAX_COUNT → d ≤ MAX_COUNT → first_counts (first_line a b c d more) ≡ Some (decimal a, decimal b, decimal c, decimal d, more)
 unfolding first_counts
 first_again a b c d more p q r s =
-    rw (named_again (codes "nodes") (decimal a) (codes "cells" ∷ decimal b ∷ codes "commodities" ∷ decimal c ∷ codes "decimals" ∷ decimal d ∷ more) (full_count a p),
-        named_again (codes "cells") (decimal b) (codes "commodities" ∷ decimal c ∷ codes "decimals" ∷ decimal d ∷ more) (full_count b q),
-        named_again (codes "commodities") (decimal c) (codes "decimals" ∷ decimal d ∷ more) (full_count c r),
-        named_again (codes "decimals") (decimal d) more (full_count d s)) refl
+    rw (
+      named_again (codes "nodes") (decimal a) (codes "cells" ∷ decimal b ∷ codes "commodities" ∷ decimal c ∷ codes "decimals" ∷ decimal d ∷ more) (full_count a p),
+      named_again (codes "cells") (decimal b) (codes "commodities" ∷ decimal c ∷ codes "decimals" ∷ decimal d ∷ more) (full_count b q),
+      named_again (codes "commodities") (decimal c) (codes "decimals" ∷ decimal d ∷ more) (full_count c r),
+      named_again (codes "decimals") (decimal d) more (full_count d s),
+    ) refl
 
 last_again : (e f g : ℕ) → e ≤ MAX_COUNT → f ≤ MAX_COUNT → g ≤ MAX_COUNT → last_counts (last_line e f g) ≡ Some (decimal e, decimal f, decimal g, [])
 unfolding last_counts
 last_again e f g p q r =
-    rw (named_again (codes "skipped") (decimal e) (codes "left" ∷ decimal f ∷ codes "hops" ∷ decimal g ∷ []) (full_count e p),
-        named_again (codes "left") (decimal f) (codes "hops" ∷ decimal g ∷ []) (full_count f q),
-        named_again (codes "hops") (decimal g) [] (full_count g r)) refl
+    rw (
+      named_again (codes "skipped") (decimal e) (codes "left" ∷ decimal f ∷ codes "hops" ∷ decimal g ∷ []) (full_count e p),
+      named_again (codes "left") (decimal f) (codes "hops" ∷ decimal g ∷ []) (full_count f q),
+      named_again (codes "hops") (decimal g) [] (full_count g r),
+    ) refl
 
 seven_again : (sheet : Sheet) (a b c d e f g : ℕ) → AllByRecursion (λ n. n ≤ MAX_COUNT) (a ∷ b ∷ c ∷ d ∷ e ∷ f ∷ g ∷ []) → counts_line (counted (a ∷ b ∷ c ∷ d ∷ e ∷ f ∷ g ∷ []) sheet) (codes "net" ∷ first_line a b c d (last_line e f g)) ≡ Ok tt
 unfolding counts_line count_words four_counts three_counts
 seven_again sheet a b c d e f g h =
     let first = first_again a b c d (last_line e f g) h.0 h.1.0 h.1.1.0 h.1.1.1.0 in
     let last = last_again e f g h.1.1.1.1.0 h.1.1.1.1.1.0 h.1.1.1.1.1.1.0 in
-    rw (first, last, count_again a h.0, count_again b h.1.0, count_again c h.1.1.0, count_again d h.1.1.1.0, count_again e h.1.1.1.1.0, count_again f h.1.1.1.1.1.0, count_again g h.1.1.1.1.1.1.0,
-        equal_bytes (a ∷ b ∷ c ∷ d ∷ []), equal_bytes (e ∷ f ∷ g ∷ [])) refl
+    rw (
+      first,
+      last,
+      count_again a h.0,
+      count_again b h.1.0,
+      count_again c h.1.1.0,
+      count_again d h.1.1.1.0,
+      count_again e h.1.1.1.1.0,
+      count_again f h.1.1.1.1.1.0,
+      count_again g h.1.1.1.1.1.1.0,
+      equal_bytes (a ∷ b ∷ c ∷ d ∷ []),
+      equal_bytes (e ∷ f ∷ g ∷ []),
+    ) refl
 
 counts_by : (sheet : Sheet) (ns : List ℕ) → length ns ≡ 7 → AllByRecursion (λ n. n ≤ MAX_COUNT) ns → counts_line (counted ns sheet) (counts_words (counted ns sheet)) ≡ Ok tt
 counts_by sheet [] e h = absurd (omega arith)

@@ -5,6 +5,8 @@ pub mod Decimals
 pub mod Exactly
 pub mod HeadAgain
 pub mod HeadTakes
+pub mod HeadsAgain
+pub mod JudgedTexts
 pub mod NetworkWords
 pub mod PlacesAgain
 pub mod RowAgain

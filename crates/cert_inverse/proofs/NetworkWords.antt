@@ -1,5 +1,5 @@
 -- What the text of a network's certificate cites can be told apart in it.
-use Rattle.std.proofs.Common.{◌≡◌, ◌≢◌, ℕ, zero, suc, ◌+◌, ◌≤◌, ◌<◌, Bool, true, false, eqb, List, [], ◌∷◌, length, get_or, map, Option, Some, None, Result, Ok, Err, refl, ap, sym, subst, ◌∙◌, arith, cond}
+use Rattle.std.proofs.Common.{◌≡◌, ◌≢◌, ℕ, zero, suc, ◌+◌, ◌≤◌, ◌<◌, Bool, true, false, eqb, List, [], ◌∷◌, length, get_or, map, Option, Some, None, Ok, refl, ap, sym, subst, ◌∙◌, arith, cond}
 use Rattle.std.specs.Prelude.{All, codes, ◌||◌}
 use Rattle.std.specs.List.{AllByRecursion, list_all}
 use Rattle.std.specs.Str.{bytes_eq}
@@ -44,10 +44,11 @@ others word (w ∷ ws) h = (not_same word w (h 0 (omega arith)), others word ws 
 
 are_names : (words : List (List ℕ)) → AreDistinct words → All IsWord words → AreNames words
 are_names [] d h = tt
-are_names (w ∷ ws) d h =
-    ((All-head IsWord w ws h).some,
-     others w ws (λ j lt. d 0 (suc j) [] (omega arith) (omega arith)),
-     are_names ws (λ i j e lt within. d (suc i) (suc j) e (omega arith) (omega arith)) (All-tail IsWord w ws h))
+are_names (w ∷ ws) d h = (
+  (All-head IsWord w ws h).some,
+  others w ws (λ j lt. d 0 (suc j) [] (omega arith) (omega arith)),
+  are_names ws (λ i j e lt within. d (suc i) (suc j) e (omega arith) (omega arith)) (All-tail IsWord w ws h),
+)
 
 -- ---- words without blanks
 
@@ -85,12 +86,9 @@ kept_rises n (d ∷ ds) =
     let above = kept_above n (n + 1) ds (omega arith) in
     elim (is_left_out d) as (λ (b : Bool). Rises (cond b (kept_from (n + 1) ds) (n ∷ kept_from (n + 1) ds))) [ true ↦ rest | false ↦ (above, rest) ]
 
-abbrev net_or : ScaledNet → Result ScaledNet NetRefusal → ScaledNet
-net_or net (Ok other) = other
-net_or net (Err r) = net
-
-accepted : (a net : ScaledNet) (r : Option NetRefusal) → unless_refused a r ≡ Ok net → a ≡ net
-accepted a net None e = ap (net_or a) e
+-- an answer that is not refused
+pub accepted : (a net : ScaledNet) (r : Option NetRefusal) → unless_refused a r ≡ Ok net → a ≡ net
+accepted a net None e = cc
 accepted a net (Some r) e = absurd cc
 
 pub is_scaled : (rows : NetRows) (net : ScaledNet) (h : IsOf rows net) → scaled_with h.options (decimals_of (sizes h.options.modules rows)) rows ≡ net

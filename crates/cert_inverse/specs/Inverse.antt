@@ -1,10 +1,12 @@
 -- What a text must cite so that it is read as what was written.
-use Rattle.std.specs.Prelude.{◌≡◌, ℕ, ◌≤◌, Bool, true, false, List, length, Result, Ok}
+use Rattle.std.specs.Prelude.{◌≡◌, ℕ, ◌≤◌, Bool, true, false, List, length, Result, Ok, Err}
 use Rattle.std.specs.List.{AllByRecursion}
 use Rattle.cert_names.specs.Sheet.{Sheet}
 use Rattle.cert_lines.specs.declared.net_line.TheConstants.{MAX_COUNT}
 use Rattle.cert_lines.specs.Spelling.{IsClear}
 use Rattle.cert_lines.specs.declared.refusal.CertRefusal.{CertRefusal}
+use Rattle.cert_lines.specs.declared.refusal.CertEnd.{CertEnd}
+use Rattle.cert_lines.specs.declared.refusal.CertEnd.TheVariants.{Refused, Memory}
 use Rattle.cert_text.specs.declared.papers.Paper.{Paper}
 use Rattle.cert_text.specs.declared.papers.Paper.TheVariants.{Routing, Full}
 use Rattle.cert_text.specs.declared.opening.CertHead.{CertHead}
@@ -43,3 +45,9 @@ head_of options paper = record { full = is_certificate paper; links = options.li
 -- what reading the first lines answers where it refuses nothing
 abbrev pub read_head : CertHead → Result CertHead CertRefusal
 read_head head = Ok head
+
+-- the answer is the certificate or routing of which this is the text, and a refusal where it is the text of none; want of memory says nothing
+abbrev pub IsReading : Sheet → List ℕ → Result Paper CertEnd → Type 0
+IsReading sheet text (Ok paper) = IsPaperText sheet text paper
+IsReading sheet text (Err (Refused refusal)) = (paper : Paper) → ¬ (IsPaperText sheet text paper)
+IsReading sheet text (Err Memory) = Unit {0}
