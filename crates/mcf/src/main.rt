@@ -29,6 +29,6 @@ fn main(rt: HostRuntime) -> ExitCode {
     };
     let mut shelf = FileShelf::new(&rt);
     let mut out = OutSink::new(io::writer(&rt));
-    let ended = run(rt.alloc(), &words, &mut shelf, &mut out, &OpenGate);
+    let ended = run(&rt, rt.alloc(), &words, &mut shelf, &mut out, &OpenGate);
     ExitCode::from(ended.status)
 }

@@ -8,6 +8,7 @@ use Rattle.sndlib_grammar.specs.Rows.{NetRows}
 use Rattle.sndlib_grammar.specs.Net.{rows_of}
 use Rattle.cert_judge.specs.declared.judged.Judged.{Judged as Judgement}
 use Rattle.cert_judge.specs.Judgement.{IsJudgement}
+use Rattle.mcf_cli.specs.declared.ended.Ended.{Ended}
 use Rattle.mcf_cli.specs.declared.outcome.Paper.TheVariants.{Network, Certificate}
 use Rattle.mcf_cli.specs.declared.outcome.Outcome.{Outcome}
 use Rattle.mcf_cli.specs.declared.outcome.Outcome.TheVariants.{NetRefused, Judged, Memory}
@@ -32,5 +33,5 @@ abbrev pub Finds : (Answer → Type 0) → Outcome → Type 0
 Finds Of outcome = (outcome ≡ Memory) ⊎ Of (answer_of outcome)
 
 -- such an answer was written, or want of memory
-abbrev pub IsTold : (Answer → Type 0) → Option (List ℕ) → Option (List ℕ) → ℕ → ℕ → ℕ → Type 0
-IsTold Of old new before after status = (answer : Answer) × ((answer ≡ answer_of Memory) ⊎ Of answer) × Writes old new before after status answer
+abbrev pub IsTold : (Answer → Type 0) → Option (List ℕ) → Option (List ℕ) → ℕ → ℕ → Ended → Type 0
+IsTold Of old new before after ended = (answer : Answer) × ((answer ≡ answer_of Memory) ⊎ Of answer) × Writes old new before after ended answer

@@ -5,4 +5,5 @@ pub mod Rows
 pub mod Print
 pub mod PrintRun
 pub mod Check
+pub mod Solve
 pub mod Run

@@ -4,15 +4,17 @@ use Rattle.mcf_limits.specs.declared.TheConstants.{MAX_NET_BYTES}
 use Rattle.mcf_base.specs.Faults.{Faults}
 use Rattle.mcf_base.specs.Shelf.{Holding}
 use Rattle.mcf_words.specs.declared.request.Command.{Command}
-use Rattle.mcf_words.specs.declared.request.Command.TheVariants.{Check, Print}
+use Rattle.mcf_words.specs.declared.request.Command.TheVariants.{Solve, Check, Print}
 use Rattle.mcf_words.specs.declared.request.Request.{Request}
 use Rattle.mcf_words.specs.Request.{request_of}
+use Rattle.mcf_cli.specs.declared.ended.Ended.{Ended}
 use Rattle.mcf_cli.specs.declared.outcome.Paper.TheVariants.{Network}
 use Rattle.mcf_cli.specs.declared.outcome.Outcome.TheVariants.{Usage, Memory}
 use Rattle.mcf_cli.specs.Answer.{Answer, answer_of, Writes}
 use Rattle.mcf_cli.specs.Files.{OfFile}
 use Rattle.mcf_cli.specs.Print.{print_answer}
 use Rattle.mcf_cli.specs.Check.{OfCheck}
+use Rattle.mcf_cli.specs.Solve.{OfSolve}
 
 -- the file of that place among the words
 abbrev pub file_at : Request → ℕ → List ℕ
@@ -23,6 +25,7 @@ OfPrint holds before after request answer = OfFile MAX_NET_BYTES Network holds b
 
 -- the answer of a command
 abbrev pub OfCommand : Command → Option Holding → Faults → Faults → Request → Answer → Type 0
+OfCommand Solve holds before after request answer = OfSolve holds before after (file_at request 0) request answer
 OfCommand Print holds before after request answer = OfPrint holds before after request answer
 OfCommand Check holds before after request answer = OfCheck holds before after (file_at request 0) (file_at request 1) answer
 OfCommand _ holds before after request answer = ⊥
@@ -37,10 +40,10 @@ abbrev pub IsAnswer : Option Holding → Faults → Faults → List (List ℕ) �
 IsAnswer holds before after words answer = (answer ≡ answer_of Memory) ⊎ OfRequest holds before after (request_of words) answer
 
 -- the run wrote an answer of the command, or want of memory, and gave its status; or the output failed
-abbrev pub CommandEnds : Option Holding → Faults → Faults → Request → Option (List ℕ) → Option (List ℕ) → ℕ → ℕ → ℕ → Type 0
-CommandEnds holds first last request old new before after status =
-    (answer : Answer) × ((answer ≡ answer_of Memory) ⊎ OfCommand request.command holds first last request answer) × Writes old new before after status answer
+abbrev pub CommandEnds : Option Holding → Faults → Faults → Request → Option (List ℕ) → Option (List ℕ) → ℕ → ℕ → Ended → Type 0
+CommandEnds holds first last request old new before after ended =
+    (answer : Answer) × ((answer ≡ answer_of Memory) ⊎ OfCommand request.command holds first last request answer) × Writes old new before after ended answer
 
 -- the run wrote an answer to the words and to the contents of the files, and gave its status; or the output failed
-abbrev pub RunEnds : Option Holding → Faults → Faults → List (List ℕ) → Option (List ℕ) → Option (List ℕ) → ℕ → ℕ → ℕ → Type 0
-RunEnds holds first last words old new before after status = (answer : Answer) × IsAnswer holds first last words answer × Writes old new before after status answer
+abbrev pub RunEnds : Option Holding → Faults → Faults → List (List ℕ) → Option (List ℕ) → Option (List ℕ) → ℕ → ℕ → Ended → Type 0
+RunEnds holds first last words old new before after ended = (answer : Answer) × IsAnswer holds first last words answer × Writes old new before after ended answer

@@ -9,7 +9,7 @@ ghost use Rattle.mcf_cli.specs.Check.{OnTexts, OnRows, OfCheck, Finds, IsTold};
 
 use crate::files::{file_text, net_rows};
 use crate::outcome::{Outcome, Paper};
-use crate::run_words::Ended;
+use crate::ended::Ended;
 use crate::tell::tell;
 use cert_judge::judge;
 use mcf_base::{Shelf, Sink};
@@ -75,7 +75,7 @@ pub fn check<F: Shelf, K: Sink>(
     net: &str,
     cert: &str,
 ) -> Ended
-    ensures told { IsTold (OfCheck (F.holds shelf.old) (F.faults shelf.old) (F.faults shelf.new) net.now cert.now) (K.written out.old) (K.written out.new) (K.faults out.old) (K.faults out.new) result.status }
+    ensures told { IsTold (OfCheck (F.holds shelf.old) (F.faults shelf.old) (F.faults shelf.new) net.now cert.now) (K.written out.old) (K.written out.new) (K.faults out.old) (K.faults out.new) result }
     ensures holds { F.holds shelf.new ≡ F.holds shelf.old }
     ensures faults { (F.faults shelf.old).count ≤ (F.faults shelf.new).count }
 {

@@ -2,12 +2,15 @@
 #![tactic(auto)]
 
 mod check;
+mod ended;
 mod files;
 mod outcome;
 mod print;
 mod run_words;
 mod say;
+mod solve;
 mod tell;
 mod tell_judged;
 
-pub use run_words::{Ended, run};
+pub use ended::Ended;
+pub use run_words::run;

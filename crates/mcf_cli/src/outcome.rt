@@ -20,6 +20,8 @@ pub enum Outcome {
     /// The file is over its limit.
     TooLong(Paper),
     NetRefused(NetRefusal),
+    /// There would be so many commodities times phases.
+    TooMuch(u64),
     /// What is said of a certificate.
     Judged(Judged),
 }

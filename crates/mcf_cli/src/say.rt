@@ -7,7 +7,7 @@ ghost use Rattle.mcf_base.specs.Faults.{HasCause};
 ghost use Rattle.mcf_base.specs.Sink.{AppendsFront};
 ghost use Rattle.mcf_cli.specs.Answer.{Writes};
 
-use crate::run_words::Ended;
+use crate::ended::Ended;
 use line_writer::Buffer;
 use mcf_base::{Sink, WriteFault};
 
@@ -27,10 +27,10 @@ fn write_line<K: Sink>(out: &mut K, first: &[u8], words: &[&[u8]]) -> Result<(),
 
 /// Writes a line of words, and ends with the status.
 pub fn say<K: Sink>(out: &mut K, first: &[u8], words: &[&[u8]], status: u8) -> Ended
-    ensures { Writes (K.written out.old) (K.written out.new) (K.faults out.old) (K.faults out.new) result.status (record { status = status; text = spelled (first.now ∷ map (λ w. w.now) words.now) }) }
+    ensures { Writes (K.written out.old) (K.written out.new) (K.faults out.old) (K.faults out.new) result (record { status = status; text = spelled (first.now ∷ map (λ w. w.now) words.now); solved = None }) }
 {
     match write_line(out, first, words) {
-        Ok(()) => Ended { status },
-        Err(_) => Ended { status: 5 },
+        Ok(()) => Ended::told(status),
+        Err(_) => Ended::told(5),
     }
 }

@@ -1,12 +1,14 @@
 //! The line of an outcome.
 
 ghost use Rattle.std.specs.Prelude.{◌≡◌};
+ghost use Rattle.mcf_cli.specs.declared.outcome.Outcome.TheVariants as OutcomeIs;
 ghost use Rattle.mcf_cli.specs.Answer.{answer_of, paper_word as paper_word_lem, Writes};
 
 use crate::outcome::{Outcome, Paper};
-use crate::run_words::Ended;
+use crate::ended::Ended;
 use crate::say::say;
 use crate::tell_judged::{tell_judged, tell_net_refusal};
+use line_writer::Word;
 use mcf_base::Sink;
 
 fn paper_word(paper: Paper) -> &'static [u8]
@@ -18,9 +20,18 @@ fn paper_word(paper: Paper) -> &'static [u8]
     }
 }
 
+// Writes the line of work over its limit.
+fn tell_work<K: Sink>(out: &mut K, work: u64) -> Ended
+    ensures { Writes (K.written out.old) (K.written out.new) (K.faults out.old) (K.faults out.new) result (answer_of (OutcomeIs.TooMuch work)) }
+{
+    let number = Word::number(work as u128);
+    let words: [&[u8]; 2] = [b"work", number.bytes()];
+    say(out, b"refused", &words, 3)
+}
+
 /// Writes the line of the outcome, and ends with its status; where the output fails, with status 5.
 pub fn tell<K: Sink>(out: &mut K, outcome: Outcome) -> Ended
-    ensures { Writes (K.written out.old) (K.written out.new) (K.faults out.old) (K.faults out.new) result.status (answer_of outcome) }
+    ensures { Writes (K.written out.old) (K.written out.new) (K.faults out.old) (K.faults out.new) result (answer_of outcome) }
 {
     match outcome {
         Outcome::Usage => say(out, b"usage", &[], 2),
@@ -28,6 +39,7 @@ pub fn tell<K: Sink>(out: &mut K, outcome: Outcome) -> Ended
         Outcome::Memory => say(out, b"memory", &[], 6),
         Outcome::TooLong(paper) => say(out, b"refused", &[paper_word(paper), b"TooLong"], 3),
         Outcome::NetRefused(refusal) => tell_net_refusal(out, refusal),
+        Outcome::TooMuch(work) => tell_work(out, work),
         Outcome::Judged(judged) => tell_judged(out, judged),
     }
 }

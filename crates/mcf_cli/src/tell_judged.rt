@@ -6,7 +6,7 @@ ghost use Rattle.cert_judge.specs.declared.judged.Judged.TheVariants as JudgedIs
 ghost use Rattle.mcf_cli.specs.Answer.{Writes};
 ghost use Rattle.mcf_cli.specs.Judged.{kind_word as kind_word_lem, cert_kind_word as cert_kind_word_lem, fault_word as fault_word_lem, verdict_word as verdict_word_lem, net_refused, cert_refused, judged_words, judged_status, six_digits};
 
-use crate::run_words::Ended;
+use crate::ended::Ended;
 use crate::say::say;
 use cert_judge::{CertKind, CertRefusal, Fault, Judged};
 use gap_fraction::{Frac, Shown};
@@ -78,7 +78,7 @@ fn digits(shown: Shown) -> Word
 
 /// Writes the line of a network's refusal.
 pub fn tell_net_refusal<K: Sink>(out: &mut K, refusal: NetRefusal) -> Ended
-    ensures { Writes (K.written out.old) (K.written out.new) (K.faults out.old) (K.faults out.new) result.status (record { status = 3; text = spelled (net_refused refusal) }) }
+    ensures { Writes (K.written out.old) (K.written out.new) (K.faults out.old) (K.faults out.new) result (record { status = 3; text = spelled (net_refused refusal); solved = None }) }
 {
     let line = Word::number(refusal.line as u128);
     let words: [&[u8]; 4] = [b"net", kind_word(refusal.kind), b"line", line.bytes()];
@@ -86,7 +86,7 @@ pub fn tell_net_refusal<K: Sink>(out: &mut K, refusal: NetRefusal) -> Ended
 }
 
 fn tell_cert_refusal<K: Sink>(out: &mut K, refusal: CertRefusal) -> Ended
-    ensures { Writes (K.written out.old) (K.written out.new) (K.faults out.old) (K.faults out.new) result.status (record { status = 3; text = spelled (cert_refused refusal) }) }
+    ensures { Writes (K.written out.old) (K.written out.new) (K.faults out.old) (K.faults out.new) result (record { status = 3; text = spelled (cert_refused refusal); solved = None }) }
 {
     let line = Word::number(refusal.line as u128);
     let words: [&[u8]; 4] = [b"cert", cert_kind_word(refusal.kind), b"line", line.bytes()];
@@ -94,7 +94,7 @@ fn tell_cert_refusal<K: Sink>(out: &mut K, refusal: CertRefusal) -> Ended
 }
 
 fn tell_feasible<K: Sink>(out: &mut K, options: NetOptions, value: Frac) -> Ended
-    ensures { Writes (K.written out.old) (K.written out.new) (K.faults out.old) (K.faults out.new) result.status (record { status = 0; text = spelled (judged_words (JudgedIs.Feasible options value)) }) }
+    ensures { Writes (K.written out.old) (K.written out.new) (K.faults out.old) (K.faults out.new) result (record { status = 0; text = spelled (judged_words (JudgedIs.Feasible options value)); solved = None }) }
 {
     let fraction = Word::fraction(value.num(), value.den());
     let decimal = digits(value.digits_down());
@@ -114,7 +114,7 @@ fn tell_valid<K: Sink>(
     lower: Frac,
     upper: Frac,
 ) -> Ended
-    ensures { Writes (K.written out.old) (K.written out.new) (K.faults out.old) (K.faults out.new) result.status (record { status = 0; text = spelled (judged_words (JudgedIs.Valid options closed lower upper)) }) }
+    ensures { Writes (K.written out.old) (K.written out.new) (K.faults out.old) (K.faults out.new) result (record { status = 0; text = spelled (judged_words (JudgedIs.Valid options closed lower upper)); solved = None }) }
 {
     let lower_fraction = Word::fraction(lower.num(), lower.den());
     let lower_decimal = digits(lower.digits_down());
@@ -136,7 +136,7 @@ fn tell_valid<K: Sink>(
 
 /// Writes the line of the judgement, and ends with its status.
 pub fn tell_judged<K: Sink>(out: &mut K, judged: Judged) -> Ended
-    ensures { Writes (K.written out.old) (K.written out.new) (K.faults out.old) (K.faults out.new) result.status (record { status = judged_status judged; text = spelled (judged_words judged) }) }
+    ensures { Writes (K.written out.old) (K.written out.new) (K.faults out.old) (K.faults out.new) result (record { status = judged_status judged; text = spelled (judged_words judged); solved = None }) }
 {
     match judged {
         Judged::NetRefused(refusal) => tell_net_refusal(out, refusal),

@@ -1,9 +1,9 @@
 -- What the words of the command line ask for.
-use Rattle.std.specs.Prelude.{ℕ, ◌^◌, ◌-◌, Bool, true, false, not, List, [], ◌∷◌, length, Option, Some, None, codes, ◌==◌, ◌||◌, if◌then◌else◌}
+use Rattle.std.specs.Prelude.{ℕ, IfSome, ◌≤◌, ◌^◌, ◌-◌, Bool, true, false, not, List, [], ◌∷◌, length, Option, Some, None, codes, ◌==◌, ◌||◌, if◌then◌else◌}
 use Rattle.std.specs.List.{list_all, list_any}
 use Rattle.std.specs.Option.{option_map}
 use Rattle.std.specs.Str.{bytes_eq}
-use Rattle.mcf_limits.specs.declared.TheConstants.{MAX_NODES, MAX_LINKS, MAX_DEMANDS, MAX_PHASES, MAX_WORKERS, MAX_STEP}
+use Rattle.mcf_limits.specs.declared.TheConstants.{MAX_GAP, MAX_NODES, MAX_LINKS, MAX_DEMANDS, MAX_PHASES, MAX_WORKERS, MAX_STEP}
 use Rattle.net_options.specs.declared.modes.LinkMode.TheVariants.{Undirected}
 use Rattle.net_options.specs.declared.modes.ModuleMode.TheVariants.{Largest}
 use Rattle.net_options.specs.declared.options.NetOptions.{NetOptions}
@@ -20,10 +20,28 @@ None >>= f = None
 (Some x) >>= f = f x
 
 abbrev pub command_of : List ℕ → Option Command
-command_of word = if bytes_eq word (codes "check") then Some Check else if bytes_eq word (codes "print") then Some Print else None
+command_of word = if bytes_eq word (codes "solve") then Some Solve else if bytes_eq word (codes "check") then Some Check else if bytes_eq word (codes "print") then Some Print else None
+
+-- the phase budget, where one was given, is within its limits
+abbrev pub IsBudget : Option ℕ → Type 0
+IsBudget phases = IfSome phases (λ p. (1 ≤ p) × (p ≤ MAX_PHASES))
+
+-- gap, phase budget, workers and step are within their limits
+pub record AreWithinLimits (gap : ℕ) (phases : Option ℕ) (workers step : ℕ) : Type 0 where
+  pub gap_limit : gap ≤ MAX_GAP
+  pub budget : IsBudget phases
+  pub some_worker : 1 ≤ workers
+  pub workers_limit : workers ≤ MAX_WORKERS
+  pub some_step : 1 ≤ step
+  pub step_limit : step ≤ MAX_STEP
+
+-- the options of the request are within their limits
+abbrev pub IsWithinLimits : Request → Type 0
+IsWithinLimits r = AreWithinLimits r.gap r.phases r.workers r.step
 
 -- the command is built
 abbrev pub IsBuilt : Command → Type 0
+IsBuilt Solve = Unit {0}
 IsBuilt Check = Unit {0}
 IsBuilt Print = Unit {0}
 IsBuilt _ = ⊥

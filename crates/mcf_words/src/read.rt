@@ -5,7 +5,7 @@ ghost use Rattle.std.specs.List.{list_all, list_any};
 ghost use Rattle.std.specs.Option.{option_map};
 ghost use Rattle.std.specs.Str.{bytes_eq};
 ghost use Rattle.mcf_words.specs.Answers.{Answers};
-ghost use Rattle.mcf_words.specs.Request.{are_known as are_known_lem, choices_of as choices_of_lem, command_of as command_of_lem, file_count as file_count_lem, IsBuilt, four_numbers as four_numbers_lem, numbers_of as numbers_of_lem, files_of as files_of_lem, options_of as options_of_lem, request_from as request_from_lem, request_of};
+ghost use Rattle.mcf_words.specs.Request.{are_known as are_known_lem, choices_of as choices_of_lem, command_of as command_of_lem, file_count as file_count_lem, IsBuilt, IsBudget, AreWithinLimits, IsWithinLimits, four_numbers as four_numbers_lem, numbers_of as numbers_of_lem, files_of as files_of_lem, options_of as options_of_lem, request_from as request_from_lem, request_of};
 ghost use Rattle.mcf_words.specs.Values.{gap_of as gap_of_lem, number_in as number_in_lem, values_of, choice};
 ghost use Rattle.net_options.specs.Modes.{link_mode_of as link_mode_of_lem, module_mode_of as module_mode_of_lem};
 ghost use Rattle.mcf_words.specs.Views.{items_view, setting_view, choices_view};
@@ -15,9 +15,11 @@ ghost use Rattle.net_options.specs.declared.modes.ModuleMode.TheVariants.{Larges
 use crate::items::{Items, Setting, items_of};
 use crate::request::{Command, Names, Request, WordsEnd};
 use crate::values::{gap_of, number_in, value_of};
-use mcf_limits::{MAX_DEMANDS, MAX_LINKS, MAX_NODES, MAX_PHASES, MAX_STEP, MAX_WORKERS};
+use mcf_limits::{MAX_DEMANDS, MAX_GAP, MAX_LINKS, MAX_NODES, MAX_PHASES, MAX_STEP, MAX_WORKERS};
 use net_options::{LinkMode, ModuleMode, NetOptions, link_mode_of, module_mode_of};
 use std::alloc::{AllocError, Global};
+
+const SOLVE: &[u8] = b"solve";
 
 const CHECK: &[u8] = b"check";
 
@@ -56,6 +58,9 @@ fn command_of(word: &[u8]) -> Option<Command>
     ensures value { result ≡ command_of_lem word.now }
     ensures built { IfSome result IsBuilt }
 {
+    if word == SOLVE {
+        return Some(Command::Solve);
+    }
     if word == CHECK {
         return Some(Command::Check);
     }
@@ -126,7 +131,8 @@ fn modules_choice(settings: &[Setting<'_>]) -> Option<ModuleMode>
 }
 
 fn gap_choice(settings: &[Setting<'_>]) -> Option<u64>
-    ensures { result ≡ choice gap_of_lem DEFAULT_GAP (values_of GAP.now (map setting_view settings.now)) }
+    ensures value { result ≡ choice gap_of_lem DEFAULT_GAP (values_of GAP.now (map setting_view settings.now)) }
+    ensures limit { IfSome result (λ n. n ≤ MAX_GAP) }
 {
     match value_of(settings, GAP) {
         Some(Some(value)) => gap_of(value),
@@ -137,9 +143,9 @@ fn gap_choice(settings: &[Setting<'_>]) -> Option<u64>
 
 // The value of an option that is a number from 1 on.
 fn number_choice(settings: &[Setting<'_>], name: &[u8], most: u64, default: u64) -> Option<u64>
-    requires { default ≤ most }
+    requires { (1 ≤ default) × (default ≤ most) }
     ensures value { result ≡ choice (number_in_lem 1 most) default (values_of name.now (map setting_view settings.now)) }
-    ensures limit { IfSome result (λ n. n ≤ most) }
+    ensures limits { IfSome result (λ n. (1 ≤ n) × (n ≤ most)) }
 {
     match value_of(settings, name) {
         Some(Some(value)) => number_in(1, most, value),
@@ -150,7 +156,8 @@ fn number_choice(settings: &[Setting<'_>], name: &[u8], most: u64, default: u64)
 
 // The phase budget, if one is asked.
 fn phases_choice(settings: &[Setting<'_>]) -> Option<Option<u32>>
-    ensures { result ≡ choice (λ w. option_map Some (number_in_lem 1 MAX_PHASES w)) None (values_of PHASES.now (map setting_view settings.now)) }
+    ensures value { result ≡ choice (λ w. option_map Some (number_in_lem 1 MAX_PHASES w)) None (values_of PHASES.now (map setting_view settings.now)) }
+    ensures limits { IfSome result IsBudget }
 {
     match value_of(settings, PHASES) {
         Some(Some(value)) => match number_in(1, MAX_PHASES as u64, value) {
@@ -163,7 +170,8 @@ fn phases_choice(settings: &[Setting<'_>]) -> Option<Option<u32>>
 }
 
 fn workers_choice(settings: &[Setting<'_>]) -> Option<u16>
-    ensures { result ≡ choice (number_in_lem 1 MAX_WORKERS) DEFAULT_WORKERS (values_of WORKERS.now (map setting_view settings.now)) }
+    ensures value { result ≡ choice (number_in_lem 1 MAX_WORKERS) DEFAULT_WORKERS (values_of WORKERS.now (map setting_view settings.now)) }
+    ensures limits { IfSome result (λ n. (1 ≤ n) × (n ≤ MAX_WORKERS)) }
 {
     match number_choice(
         settings,
@@ -177,7 +185,8 @@ fn workers_choice(settings: &[Setting<'_>]) -> Option<u16>
 }
 
 fn step_choice(settings: &[Setting<'_>]) -> Option<u32>
-    ensures { result ≡ choice (number_in_lem 1 MAX_STEP) DEFAULT_STEP (values_of STEP.now (map setting_view settings.now)) }
+    ensures value { result ≡ choice (number_in_lem 1 MAX_STEP) DEFAULT_STEP (values_of STEP.now (map setting_view settings.now)) }
+    ensures limits { IfSome result (λ n. (1 ≤ n) × (n ≤ MAX_STEP)) }
 {
     match number_choice(settings, STEP, MAX_STEP as u64, DEFAULT_STEP as u64) {
         Some(step) => Some(step as u32),
@@ -188,7 +197,8 @@ fn step_choice(settings: &[Setting<'_>]) -> Option<u32>
 // What the options say, or nothing where one of them is out of form.
 #[tactic(auto, unfolding(crate::specs::Request::choices_of))]
 fn choices_of(settings: &[Setting<'_>]) -> Option<Choices>
-    ensures { option_map choices_view result ≡ choices_of_lem (map setting_view settings.now) }
+    ensures value { option_map choices_view result ≡ choices_of_lem (map setting_view settings.now) }
+    ensures limits { IfSome result (λ c. AreWithinLimits c.gap c.phases c.workers c.step) }
 {
     let Some(links) = links_choice(settings) else {
         return None;
@@ -279,6 +289,7 @@ fn files_of(alloc: Global, command: Command, positional: &[&str]) -> Result<Name
 fn request_from(alloc: Global, command: Command, items: &Items<'_>) -> Result<Request, WordsEnd>
     ensures count { IfOk result (λ r. length r.names ≡ file_count_lem r.command) }
     ensures command { IfOk result (λ r. r.command ≡ command) }
+    ensures limits { IfOk result IsWithinLimits }
     ensures value { Answers (λ r. r) result (request_from_lem command (items_view items.now)) }
 {
     if !are_known(command, &items.settings) {
@@ -307,6 +318,7 @@ fn request_from(alloc: Global, command: Command, items: &Items<'_>) -> Result<Re
 pub fn read_words(alloc: Global, words: &[String]) -> Result<Request, WordsEnd>
     ensures files { IfOk result (λ r. length r.names ≡ file_count_lem r.command) }
     ensures built { IfOk result (λ r. IsBuilt r.command) }
+    ensures limits { IfOk result IsWithinLimits }
     ensures value { Answers (λ r. r) result (request_of (map string_bytes words.now)) }
 {
     let Some((first, others)) = words.split_first() else {

@@ -1,6 +1,6 @@
 //! The values of options and of positional words that are numbers.
 
-ghost use Rattle.std.specs.Prelude.{◌≡◌, ◌<◌, ◌^◌, ◌&&◌, ℕ, Some, None, Option, IfSome, if◌then◌else◌, length, map, nat_le};
+ghost use Rattle.std.specs.Prelude.{◌≡◌, ◌<◌, ◌≤◌, ◌^◌, ◌&&◌, ℕ, Some, None, Option, IfSome, if◌then◌else◌, length, map, nat_le};
 ghost use Rattle.std.specs.Option.{option_copied, option_map};
 ghost use Rattle.std.specs.Char.{digit_value, is_ascii_digit};
 ghost use Rattle.std.specs.Str.Parse.{digits_value};
@@ -43,7 +43,8 @@ fn whole_number(word: &[u8]) -> Option<u128>
 
 /// The whole number that the word is, where it is one of these.
 pub fn number_in(least: u64, most: u64, word: &[u8]) -> Option<u64>
-    ensures { result ≡ number_in_lem least most word.now }
+    ensures value { result ≡ number_in_lem least most word.now }
+    ensures limits { IfSome result (λ n. (least ≤ n) × (n ≤ most)) }
 {
     match whole_number(word) {
         Some(value) if value >= least as u128 && value <= most as u128 => Some(value as u64),
@@ -53,7 +54,8 @@ pub fn number_in(least: u64, most: u64, word: &[u8]) -> Option<u64>
 
 /// The gap in millionths, where the word is a whole number of them within the limit.
 pub fn gap_of(word: &[u8]) -> Option<u64>
-    ensures { result ≡ gap_of_lem word.now }
+    ensures value { result ≡ gap_of_lem word.now }
+    ensures limit { IfSome result (λ n. n ≤ MAX_GAP) }
 {
     match read_decimal(word) {
         Some(Decimal::Millionths(gap)) if gap <= MAX_GAP => Some(gap),

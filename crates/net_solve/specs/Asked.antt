@@ -1,5 +1,5 @@
 -- What is asked of a solve.
-use Rattle.std.specs.Prelude.{◌≡◌, ℕ, ◌*◌, ◌/◌, ◌<◌, ◌≤◌, min, length, Option, Some, None, MatchOption}
+use Rattle.std.specs.Prelude.{◌≡◌, ℕ, ◌*◌, ◌/◌, ◌<◌, ◌≤◌, min, length, Option, Some, None, IfSome}
 use Rattle.mcf_limits.specs.declared.TheConstants.{MAX_GAP, MAX_PHASES, MAX_STEP, MAX_WORK, MAX_WORKERS}
 use Rattle.flow_model.specs.Network.{Network}
 use Rattle.solver_run.specs.declared.options.SolveOptions.{SolveOptions}
@@ -8,7 +8,7 @@ use Rattle.net_solve.specs.declared.asked.Asked.{Asked}
 -- within the limits
 pub record IsAsked (a : Asked) : Type 0 where
   pub gap : a.gap ≤ MAX_GAP
-  pub phases : MatchOption a.phases (Unit {0}) (λ p. (1 ≤ p) × (p ≤ MAX_PHASES))
+  pub phases : IfSome a.phases (λ p. (1 ≤ p) × (p ≤ MAX_PHASES))
   pub some_worker : 1 ≤ a.workers
   pub workers : a.workers ≤ MAX_WORKERS
   pub some_step : 1 ≤ a.step
