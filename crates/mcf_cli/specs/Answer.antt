@@ -23,6 +23,10 @@ abbrev pub paper_word : Paper → List ℕ
 paper_word papers.Network = codes "net"
 paper_word papers.Certificate = codes "cert"
 
+-- the line of work over its limit
+abbrev pub work_refused : ℕ → Line
+work_refused work = codes "refused" ∷ codes "work" ∷ decimal work ∷ []
+
 -- the words of the line that tells the outcome
 abbrev pub words_of : Outcome → Line
 words_of outcomes.Usage = codes "usage" ∷ []
@@ -30,7 +34,7 @@ words_of outcomes.ReadFault = codes "read" ∷ codes "fault" ∷ []
 words_of outcomes.Memory = codes "memory" ∷ []
 words_of (outcomes.TooLong paper) = codes "refused" ∷ paper_word paper ∷ codes "TooLong" ∷ []
 words_of (outcomes.NetRefused r) = net_refused r
-words_of (outcomes.TooMuch work) = codes "refused" ∷ codes "work" ∷ decimal work ∷ []
+words_of (outcomes.TooMuch work) = work_refused work
 words_of (outcomes.Judged judged) = judged_words judged
 
 abbrev pub status_of : Outcome → ℕ

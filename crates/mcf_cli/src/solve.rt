@@ -1,6 +1,6 @@
 //! The command `solve`: the certificate of a network.
 
-ghost use Rattle.std.specs.Prelude.{◌≡◌, ◌≤◌, length};
+ghost use Rattle.std.specs.Prelude.{◌≡◌, ◌≤◌, if◌then◌else◌, length};
 ghost use Rattle.sndlib_grammar.specs.Rows.{AreNetRows};
 ghost use Rattle.sndlib_grammar.specs.Net.{rows_of};
 ghost use Rattle.cert_names.specs.Sheet.{IsOf, sheet_of};
@@ -26,13 +26,20 @@ use std::alloc::Global;
 use std::thread::Threads;
 use unit_scale::Scaled;
 
+// The status of a verdict.
+fn verdict_status(closed: bool) -> u8
+    ensures { result ≡ (if closed then 0 else 1) }
+{
+    if closed { 0 } else { 1 }
+}
+
 // Writes the certificate of a solve of the rows.
 fn write_solved<K: Sink>(raw: &RawNet<'_>, net: &Scaled, solved: Solved, out: &mut K) -> Ended
     requires of { IsOf raw.now net.now }
     requires fits { FitsProof (sheet_of raw.now net.now) solved.proof }
     ensures { Writes (K.written out.old) (K.written out.new) (K.faults out.old) (K.faults out.new) result (solve_answer raw.now net.now solved) }
 {
-    let status = if solved.proof().closed { 0 } else { 1 };
+    let status = verdict_status(solved.proof().closed);
     match write_cert(&Names::new(raw, net), solved.proof(), out) {
         Ok(()) => Ended {
             status,

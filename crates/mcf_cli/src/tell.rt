@@ -22,7 +22,7 @@ fn paper_word(paper: Paper) -> &'static [u8]
 
 // Writes the line of work over its limit.
 fn tell_work<K: Sink>(out: &mut K, work: u64) -> Ended
-    ensures { Writes (K.written out.old) (K.written out.new) (K.faults out.old) (K.faults out.new) result (answer_of (OutcomeIs.TooMuch work)) }
+    ensures { Writes (K.written out.old) (K.written out.new) (K.faults out.old) (K.faults out.new) result (record { status = 3; text = spelled (work_refused work); solved = None }) }
 {
     let number = Word::number(work as u128);
     let words: [&[u8]; 2] = [b"work", number.bytes()];

@@ -1,9 +1,8 @@
 //! What is asked of a solve.
 
-ghost use Rattle.std.specs.Prelude.{◌≡◌, ◌<◌, ◌≤◌, ◌*◌, MatchOption, length};
-ghost use Rattle.mcf_limits.specs.declared.TheConstants.{MAX_WORK};
+ghost use Rattle.std.specs.Prelude.{◌≡◌, ◌≤◌, ℕ, IfOk, IfErr, OnOk};
 ghost use Rattle.solver_run.specs.Options.{AreOptions};
-ghost use Rattle.net_solve.specs.Asked.{IsAsked, options_for, IsTooMuch};
+ghost use Rattle.net_solve.specs.Asked.{IsAsked, default_budget, options_for, IsTooMuch};
 
 use flow_model::Net;
 use mcf_limits::MAX_WORK;
