@@ -7,6 +7,7 @@ use crate::ordering::{new_numbers, order_of, stored};
 use crate::places::{name_rows, places_of};
 use flow_model::Net;
 use flow_paths::PathStore;
+use mcf_limits::{MAX_PHASES, MAX_WORK, MAX_WORKERS};
 use phase_engine::Hand;
 use std::alloc::{AllocError, Global};
 use std::marker::Model;
