@@ -1,1 +1,4 @@
 pub mod ByPhase
+pub mod Adds
+pub mod Times
+pub mod OneMore
