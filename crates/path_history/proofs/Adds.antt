@@ -94,12 +94,12 @@ apart_pushed old row none apart = λ i j below within has.
     let old_i : row_at (old ++ row ∷ []) i ≡ row_at old i = get_or_append_left old (row ∷ []) no_row i first in
     elim (cases_lt j (length old)) as (λ _. ⊥) [
       | inl lt ↦
-        let old_j : row_at (old ++ row ∷ []) j ≡ row_at old j = get_or_append_left old (row ∷ []) no_row j lt in
-        apart i j below lt (ap (λ (r : Row). r.commodity) (sym old_j) ∙ has.0 ∙ ap (λ (r : Row). r.commodity) old_i, ap (λ (r : Row). r.walk) (sym old_j) ∙ has.1 ∙ ap (λ (r : Row). r.walk) old_i)
+          let old_j : row_at (old ++ row ∷ []) j ≡ row_at old j = get_or_append_left old (row ∷ []) no_row j lt in
+          apart i j below lt (ap (λ (r : Row). r.commodity) (sym old_j) ∙ has.0 ∙ ap (λ (r : Row). r.commodity) old_i, ap (λ (r : Row). r.walk) (sym old_j) ∙ has.1 ∙ ap (λ (r : Row). r.walk) old_i)
       | inr ge ↦
-        let at : j ≡ length old = omega (arith, long) in
-        let last : row_at (old ++ row ∷ []) j ≡ row = rw at (get_or-append_seam old row [] no_row) in
-        none i first (sym (ap (λ (r : Row). r.commodity) (sym last) ∙ has.0 ∙ ap (λ (r : Row). r.commodity) old_i), sym (ap (λ (r : Row). r.walk) (sym last) ∙ has.1 ∙ ap (λ (r : Row). r.walk) old_i))
+          let at : j ≡ length old = omega (arith, long) in
+          let last : row_at (old ++ row ∷ []) j ≡ row = rw at (get_or-append_seam old row [] no_row) in
+          none i first (sym (ap (λ (r : Row). r.commodity) (sym last) ∙ has.0 ∙ ap (λ (r : Row). r.commodity) old_i), sym (ap (λ (r : Row). r.walk) (sym last) ∙ has.1 ∙ ap (λ (r : Row). r.walk) old_i))
     ]
 
 pub apart_added : (old new : List Row) (k : ℕ) (path : List ℕ) (a n : ℕ) → Adds old new k path a n → AreApart old → AreApart new

@@ -37,7 +37,7 @@ entry_at w n p k es d e l h =
     let fits : p * w + w ≤ n * w = row_fits p w n w l (omega arith) in
     let long : length (take w (drop (p * w) es)) ≡ w = length-take-le w (drop (p * w) es) (rw (length-drop (p * w) es) (omega arith)) in
     rw (phase_at w n p es l)
-        (slice_get-get_or (take w (drop (p * w) es)) k d (omega arith) ∙ ap Some (get_or-take w (drop (p * w) es) k d h ∙ get_or-drop (p * w) es k d))
+    (slice_get-get_or (take w (drop (p * w) es)) k d (omega arith) ∙ ap Some (get_or-take w (drop (p * w) es) k d h ∙ get_or-drop (p * w) es k d))
 
 -- all entries are changed alike
 pub map_by_phase : (f : Entry → Entry) (w n : ℕ) (es : List Entry) → by_phase w n (map f es) ≡ map (map f) (by_phase w n es)

@@ -2,3 +2,4 @@ pub mod ByPhase
 pub mod Adds
 pub mod Times
 pub mod OneMore
+pub mod Placed

@@ -28,10 +28,10 @@ weighed_more : (net : Network) (h g : List (List Entry)) (n : ℕ) (c : Commodit
 weighed_more net h g n c old new at same w t is = record {
   named = omega (arith, t);
   weight = λ k here.
-    let one : c ≡ k = same_Some c k (sym at ∙ ap (slice_get net.commodities) (sym same) ∙ here) in
-    let before = is.weight c at in
-    let after : new.weight ≡ c.amount * (times_named h n + 1) = omega (arith, w, before) in
-    after ∙ ap (λ (x : Commodity). x.amount * (times_named h n + 1)) one ∙ ap (λ x. k.amount * x) (sym t);
+      let one : c ≡ k = same_Some c k (sym at ∙ ap (slice_get net.commodities) (sym same) ∙ here) in
+      let before = is.weight c at in
+      let after : new.weight ≡ c.amount * (times_named h n + 1) = omega (arith, w, before) in
+      after ∙ ap (λ (x : Commodity). x.amount * (times_named h n + 1)) one ∙ ap (λ x. k.amount * x) (sym t);
 }
 
 -- the first time, with the amount
@@ -39,9 +39,9 @@ weighed_first : (net : Network) (g : List (List Entry)) (n : ℕ) (c : Commodity
 weighed_first net g n c new at w t = record {
   named = omega (arith, t);
   weight = λ k here.
-    let one : c ≡ k = same_Some c k (sym at ∙ here) in
-    let after : new.weight ≡ c.amount * 1 = omega (arith, w) in
-    after ∙ ap (λ (x : Commodity). x.amount * 1) one ∙ ap (λ x. k.amount * x) (sym t);
+      let one : c ≡ k = same_Some c k (sym at ∙ here) in
+      let after : new.weight ≡ c.amount * 1 = omega (arith, w) in
+      after ∙ ap (λ (x : Commodity). x.amount * 1) one ∙ ap (λ x. k.amount * x) (sym t);
 }
 
 weighed_grown : (net : Network) (h : List (List Entry)) (es : List Entry) (rows : List Row) (path : List ℕ) (c : Commodity) (k n w : ℕ) → slice_get net.commodities k ≡ Some c → IsFirstRow rows k path n
@@ -53,13 +53,13 @@ weighed_grown net h es rows path c k n w at first old m row is =
     let here : get_or (grown rows n c.amount) m no_row ≡ row = get_or_from_slice_get (grown rows n c.amount) m row no_row is in
     elim (cases_eq n m) as (λ _. IsWeighed net (h ++ (es ++ e ∷ []) ∷ []) m row) [
       | inl one ↦
-        let last : more ≡ row = sym (get_or-set_same rows n more no_row first.within) ∙ ap (λ i. get_or (grown rows n c.amount) i no_row) one ∙ here in
-        let weighs = weighed_more net (h ++ es ∷ []) (h ++ (es ++ e ∷ []) ∷ []) n c (row_at rows n) more (ap (slice_get net.commodities) first.here.0 ∙ at) refl refl (times_of_row h es e n refl) (old n (row_at rows n) (slice_get-get_or rows n no_row first.within)) in
-        subst (λ i. IsWeighed net (h ++ (es ++ e ∷ []) ∷ []) i row) one (subst (λ r. IsWeighed net (h ++ (es ++ e ∷ []) ∷ []) n r) last weighs)
+          let last : more ≡ row = sym (get_or-set_same rows n more no_row first.within) ∙ ap (λ i. get_or (grown rows n c.amount) i no_row) one ∙ here in
+          let weighs = weighed_more net (h ++ es ∷ []) (h ++ (es ++ e ∷ []) ∷ []) n c (row_at rows n) more (ap (slice_get net.commodities) first.here.0 ∙ at) refl refl (times_of_row h es e n refl) (old n (row_at rows n) (slice_get-get_or rows n no_row first.within)) in
+          subst (λ i. IsWeighed net (h ++ (es ++ e ∷ []) ∷ []) i row) one (subst (λ r. IsWeighed net (h ++ (es ++ e ∷ []) ∷ []) n r) last weighs)
       | inr ne ↦
-        let other : get_or rows m no_row ≡ row = sym (get_or-set_other rows n m more no_row (λ q. ne (sym q))) ∙ here in
-        let in' : m < length rows = let l = slice_get_within (grown rows n c.amount) m row is in omega (arith, l, length-set rows n more) in
-        weighed_alike net (h ++ es ∷ []) (h ++ (es ++ e ∷ []) ∷ []) m m row row refl refl (times_of_other h es e m ne) (old m row (slice_get-get_or rows m no_row in' ∙ ap Some other))
+          let other : get_or rows m no_row ≡ row = sym (get_or-set_other rows n m more no_row (λ q. ne (sym q))) ∙ here in
+          let in' : m < length rows = let l = slice_get_within (grown rows n c.amount) m row is in omega (arith, l, length-set rows n more) in
+          weighed_alike net (h ++ es ∷ []) (h ++ (es ++ e ∷ []) ∷ []) m m row row refl refl (times_of_other h es e m ne) (old m row (slice_get-get_or rows m no_row in' ∙ ap Some other))
     ]
 
 weighed_pushed : (net : Network) (h : List (List Entry)) (es : List Entry) (rows : List Row) (path : List ℕ) (c : Commodity) (k w : ℕ) → slice_get net.commodities k ≡ Some c
@@ -70,11 +70,11 @@ weighed_pushed net h es rows path c k w at none old m row is =
     let e : Entry = record { worker = w; row = length rows } in
     let new : Row = record { commodity = k; walk = path; weight = c.amount } in
     pushed_at rows new m row is (λ r i. IsWeighed net (h ++ (es ++ e ∷ []) ∷ []) i r)
-        (λ r here. let l = slice_get_within rows m r here in weighed_alike net (h ++ es ∷ []) (h ++ (es ++ e ∷ []) ∷ []) m m r r refl refl (times_of_other h es e m (λ q. omega (arith, l, q))) (old m r here))
-        (λ last.
-          let t = times_of_row h es e (length rows) refl in
-          let once : times_named (h ++ (es ++ e ∷ []) ∷ []) (length rows) ≡ 1 = omega (arith, t, none) in
-          subst (λ i. IsWeighed net (h ++ (es ++ e ∷ []) ∷ []) i new) (sym last) (weighed_first net (h ++ (es ++ e ∷ []) ∷ []) (length rows) c new at refl once))
+    (λ r here. let l = slice_get_within rows m r here in weighed_alike net (h ++ es ∷ []) (h ++ (es ++ e ∷ []) ∷ []) m m r r refl refl (times_of_other h es e m (λ q. omega (arith, l, q))) (old m r here))
+    (λ last.
+    let t = times_of_row h es e (length rows) refl in
+    let once : times_named (h ++ (es ++ e ∷ []) ∷ []) (length rows) ≡ 1 = omega (arith, t, none) in
+    subst (λ i. IsWeighed net (h ++ (es ++ e ∷ []) ∷ []) i new) (sym last) (weighed_first net (h ++ (es ++ e ∷ []) ∷ []) (length rows) c new at refl once))
 
 weighed_added : (net : Network) (h : List (List Entry)) (es : List Entry) (old new : List Row) (path : List ℕ) (c : Commodity) (k n w : ℕ) → slice_get net.commodities k ≡ Some c → Adds old new k path c.amount n
     → times_named (h ++ es ∷ []) (length old) ≡ 0

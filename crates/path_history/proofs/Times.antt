@@ -22,7 +22,6 @@ use Rattle.path_history.proofs.Adds.{pushed_at}
 abbrev pub names_of : ℕ → List Entry → ℕ
 names_of n entries = count_by (λ (e : Entry). e.row == n) entries
 
-
 pub times_pushed : (h : List (List Entry)) (es : List Entry) (e : Entry) (n : ℕ) → times_named (h ++ (es ++ e ∷ []) ∷ []) n ≡ times_named (h ++ es ∷ []) n + cond (eqb e.row n) 1 0
 times_pushed h es e n =
     let a = sum_by_push (names_of n) h (es ++ e ∷ []) in
@@ -53,14 +52,14 @@ one_names (x ∷ xs) n k j at =
     let s = sum_by-cons (λ (e : Entry). cond (eqb e.row n) 1 0) x xs in
     elim (cases_eq x.row n) as (λ _. names_of n (x ∷ xs) ≤ 1) [
       | inl e ↦
-        let first = at zero x refl e in
-        let rest = none_names xs n (λ i y h is. let later = at (suc i) y h is in omega (arith, first, later)) in
-        let here : cond {A = ℕ} (eqb x.row n) 1 0 ≡ 1 = ap (λ b. cond b 1 0) (eq-eqb x.row n e) in
-        omega (arith, s, rest, here)
+          let first = at zero x refl e in
+          let rest = none_names xs n (λ i y h is. let later = at (suc i) y h is in omega (arith, first, later)) in
+          let here : cond {A = ℕ} (eqb x.row n) 1 0 ≡ 1 = ap (λ b. cond b 1 0) (eq-eqb x.row n e) in
+          omega (arith, s, rest, here)
       | inr ne ↦
-        let rest = one_names xs n k (j + 1) (λ i y h is. let later = at (suc i) y h is in omega (arith, later)) in
-        let here : cond {A = ℕ} (eqb x.row n) 1 0 ≡ 0 = ap (λ b. cond b 1 0) (ne_eqb x.row n ne) in
-        omega (arith, s, rest, here)
+          let rest = one_names xs n k (j + 1) (λ i y h is. let later = at (suc i) y h is in omega (arith, later)) in
+          let here : cond {A = ℕ} (eqb x.row n) 1 0 ≡ 0 = ap (λ b. cond b 1 0) (ne_eqb x.row n ne) in
+          omega (arith, s, rest, here)
     ]
 
 -- of a phase at most one entry names a row: that of the row's commodity

@@ -4,11 +4,12 @@ ghost use Rattle.std.specs.Prelude.{◌≡◌};
 
 use crate::entries::Entries;
 use crate::ordering::{new_numbers, order_of, stored};
-use crate::places::{name_rows, places_of};
+use crate::places::{Place, places_of};
 use flow_model::Net;
 use flow_paths::PathStore;
 use mcf_limits::{MAX_PHASES, MAX_WORK, MAX_WORKERS};
 use phase_engine::Hand;
+use solver_run::Entry;
 use std::alloc::{AllocError, Global};
 use std::marker::Model;
 
@@ -40,12 +41,13 @@ impl Model for PathHistory {
 }
 
 impl PathHistory {
-    ghost use Rattle.std.specs.Prelude.{◌≡◌, ◌+◌, ◌*◌, ◌<◌, ◌≤◌, ◌++◌, ◌∷◌, [], List, OnOk, OnErr, IfOk, length, map};
+    ghost use Rattle.std.specs.Prelude.{◌≡◌, ℕ, ◌+◌, ◌*◌, ◌<◌, ◌≤◌, ◌++◌, ◌∷◌, [], List, OnOk, OnErr, IfOk, length, map, slice_index_or};
     ghost use Rattle.flow_model.specs.Network.{Network};
     ghost use Rattle.flow_core.specs.Phase.{Routed};
     ghost use Rattle.solver_run.specs.History.{routed_in, AreRowsOf};
     ghost use Rattle.path_history.specs.Rows.{phases_kept, AreRowsFor};
     ghost use Rattle.path_history.specs.Routes.{IsRoutedOnce, HaveRouted};
+    ghost use Rattle.path_history.specs.Adding.{no_place, IsPlaceOf, KeepsRows, AreBegun, AreNamed};
 
     /// No phase and no row, for the commodities of the network.
     pub fn new(alloc: Global, net: &Net) -> Self
@@ -65,6 +67,41 @@ impl PathHistory {
         self.entries.phases()
     }
 
+    /// Adds the route of each commodity to the rows, and answers the entries.
+    fn name_rows(
+        &mut self,
+        alloc: Global,
+        net: &Net,
+        hands: &[Hand],
+        places: &[Place],
+    ) -> Result<Vec<Entry>, AllocError>
+        requires rows { AreRowsFor net.now self.old.history self.old.rows }
+        requires phases { length self.old.history < MAX_PHASES }
+        requires work { length net.now.commodities * (length self.old.history + 1) ≤ MAX_WORK }
+        requires count { length places.now ≡ length net.now.commodities }
+        requires places { (k : ℕ) → k < length net.now.commodities → IsPlaceOf hands.now k (slice_index_or places.now k no_place) }
+        ensures commodities { self.new.commodities ≡ self.old.commodities }
+        ensures history { self.new.history ≡ self.old.history }
+        ensures keeps { KeepsRows self.old.rows self.new.rows }
+        ensures count { IfOk result (λ v. length v.items ≡ length net.now.commodities) }
+        ensures begun { IfOk result (λ v. AreBegun net.now self.old.history v.items self.new.rows) }
+        ensures named { IfOk result (λ v. AreNamed hands.now self.new.rows v.items) }
+    {
+        let commodities = net.commodities();
+        let mut entries = Vec::with_capacity(alloc, commodities.len())?;
+        for k in 0..commodities.len() {
+            let place = places[k];
+            let hand = &hands[place.hand as usize];
+            let path = hand.routes.path(place.route);
+            let row = self.paths.add(k as u32, path, commodities[k].amount)?;
+            entries.push(Entry {
+                worker: place.hand,
+                row,
+            })?;
+        }
+        Ok(entries)
+    }
+
     /// Appends the phase that the hands have routed: each path is found among the rows, which grow by the
     /// commodity's amount, or appended. `Err` is for want of memory: the phases are as before, but weights may have
     /// grown, so nothing more can be added.
@@ -81,7 +118,7 @@ impl PathHistory {
         ensures err { OnErr result (phases_kept self.new ≡ phases_kept self.old) }
     {
         let places = places_of(alloc, net, hands)?;
-        let entries = name_rows(alloc, &mut self.paths, net, hands, &places)?;
+        let entries = self.name_rows(alloc, net, hands, &places)?;
         self.entries.push(&entries)
     }
 

@@ -22,4 +22,4 @@ returns c =
     let n : c.self.inside.phases ≡ length c.args.self.now.phases = sym (count_by_phase c.self.inside.commodities c.self.inside.phases c.self.inside.flat.items) ∙ ap (λ (v : EntriesView). length v.phases) c.self.view_is in
     let w : c.self.inside.commodities ≡ c.args.self.now.commodities = ap (λ (v : EntriesView). v.commodities) c.self.view_is in
     rw (← c.self.view_is, c.as_slice.ensures.value)
-        (entry_at c.self.inside.commodities c.self.inside.phases c.args.phase c.args.k c.self.inside.flat.items (record { worker = 0; row = 0 }) c.self.invariant (omega arith) (omega arith))
+    (entry_at c.self.inside.commodities c.self.inside.phases c.args.phase c.args.k c.self.inside.flat.items (record { worker = 0; row = 0 }) c.self.invariant (omega arith) (omega arith))

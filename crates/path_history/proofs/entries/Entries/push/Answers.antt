@@ -13,4 +13,4 @@ pub returns-clause-ok : goal.returns-clause-ok
 returns-clause-ok c =
     let n : length c.args.entries.now ≡ c.self.inside.commodities = c.requires.count ∙ sym (ap (λ (v : EntriesView). v.commodities) c.self.view_is) in
     rw (c.in_ok-extend_from_slice.ensures.items, ← c.self.view_is)
-        (one_phase_more c.self.inside.commodities c.self.inside.phases c.self.inside.flat.items c.args.entries.now c.self.invariant n)
+    (one_phase_more c.self.inside.commodities c.self.inside.phases c.self.inside.flat.items c.args.entries.now c.self.invariant n)

@@ -21,7 +21,7 @@ bounds-numbers-entry c =
     let xs = c.deref_mut-entry-items.result.now in
     let l : c.loop-entry.entry-index < length xs = omega arith in
     rw (not_yet f xs c.loop-entry.entry-items c.loop-entry.entry-index (record { worker = 0; row = 0 }) l c.loop-entry.invariant.done)
-        (All-get_or (λ (x : Entry). x.row < length c.args.numbers.now) xs c.loop-entry.entry-index (record { worker = 0; row = 0 }) l c.loop-entry.invariant.all)
+    (All-get_or (λ (x : Entry). x.row < length c.args.numbers.now) xs c.loop-entry.entry-index (record { worker = 0; row = 0 }) l c.loop-entry.invariant.all)
 
 pub loop-entry-preserved : goal.loop-entry-preserved
 loop-entry-preserved c =
@@ -42,5 +42,5 @@ returns-clause-phases c =
     let same : c.loop-entry.entry-items ≡ map f c.self.inside.flat.items = all_changed f xs c.loop-entry.entry-items c.loop-entry.entry-index c.loop-entry-test.false c.loop-entry.invariant.done ∙ ap (map f) v in
     let long : length c.loop-entry.entry-items ≡ c.self.inside.flat.len = c.loop-entry.auto.entry-items ∙ ap (λ (t : List Entry). length t) v ∙ sym c.self.inside.flat.ok.0 in
     ap (by_phase c.self.inside.commodities c.self.inside.phases) (with_items_is c.self.inside.flat c.loop-entry.entry-items long ∙ same)
-        ∙ map_by_phase f c.self.inside.commodities c.self.inside.phases c.self.inside.flat.items
-        ∙ ap (λ (t : EntriesView). map (map f) t.phases) c.self.view_is
+    ∙ map_by_phase f c.self.inside.commodities c.self.inside.phases c.self.inside.flat.items
+    ∙ ap (λ (t : EntriesView). map (map f) t.phases) c.self.view_is
