@@ -3,3 +3,4 @@ pub mod Adds
 pub mod Times
 pub mod OneMore
 pub mod Placed
+pub mod Named

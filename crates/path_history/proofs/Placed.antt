@@ -73,8 +73,8 @@ place_of hands w k hand p found at = record {
 pub routes_inside : (net : Network) (hands : List Hand) (w : ℕ) (hand : Hand) → HaveRouted net hands → slice_get hands w ≡ Some hand → All (λ (r : Route). r.commodity < length net.commodities) hand.routes
 routes_inside net hands w hand (entries, once) found =
     All-weaker (Contains hand.routes) (λ (r : Route). r.commodity < length net.commodities)
-        (λ r in'. let l = slice_get_within entries r.commodity (record { worker = w; path = r.path }) ((once.routes r.commodity w r.path).1 (hand, found, in')) in let n = once.count in omega (arith, l, n))
-        hand.routes (All-contains_itself hand.routes)
+    (λ r in'. let l = slice_get_within entries r.commodity (record { worker = w; path = r.path }) ((once.routes r.commodity w r.path).1 (hand, found, in')) in let n = once.count in omega (arith, l, n))
+    hand.routes (All-contains_itself hand.routes)
 
 -- the routes of the first hands are all noted
 pub record ArePlaced (hands : List Hand) (places : List Place) (n : ℕ) : Type 0 where
@@ -89,18 +89,18 @@ pub placed_more : (net : Network) (hands : List Hand) (n : ℕ) (hand : Hand) (o
 placed_more net hands n hand old new routed found long kept noted placed = record {
   each = λ w other below there. elim (cases_lt w n) [
     | inl lt ↦
-      let inside = routes_inside net hands w other routed there in
-      All-both (λ (r : Route). r.commodity < length net.commodities) (λ (r : Route). IsPlaceOf hands r.commodity (get_or old r.commodity no_place)) (λ (r : Route). IsPlaceOf hands r.commodity (get_or new r.commodity no_place))
-          (λ r l is. elim (kept r.commodity (omega (arith, l, long))) [
-            | inl same ↦ subst (IsPlaceOf hands r.commodity) (sym same) is
-            | inr at ↦ place_of hands n r.commodity hand (get_or new r.commodity no_place) found at
-          ])
-          other.routes inside (placed.each w other lt there)
+        let inside = routes_inside net hands w other routed there in
+        All-both (λ (r : Route). r.commodity < length net.commodities) (λ (r : Route). IsPlaceOf hands r.commodity (get_or old r.commodity no_place)) (λ (r : Route). IsPlaceOf hands r.commodity (get_or new r.commodity no_place))
+        (λ r l is. elim (kept r.commodity (omega (arith, l, long))) [
+          | inl same ↦ subst (IsPlaceOf hands r.commodity) (sym same) is
+          | inr at ↦ place_of hands n r.commodity hand (get_or new r.commodity no_place) found at
+        ])
+        other.routes inside (placed.each w other lt there)
     | inr ge ↦
-      let at : w ≡ n = omega arith in
-      let same : other ≡ hand = same_Some other hand (sym there ∙ ap (slice_get hands) at ∙ found) in
-      subst (λ (h : Hand). All (λ (r : Route). IsPlaceOf hands r.commodity (get_or new r.commodity no_place)) h.routes) (sym same)
-          (All-weaker (IsNoted n hand new) (λ (r : Route). IsPlaceOf hands r.commodity (get_or new r.commodity no_place)) (λ r is. place_of hands n r.commodity hand (get_or new r.commodity no_place) found is) hand.routes noted)
+        let at : w ≡ n = omega arith in
+        let same : other ≡ hand = same_Some other hand (sym there ∙ ap (slice_get hands) at ∙ found) in
+        subst (λ (h : Hand). All (λ (r : Route). IsPlaceOf hands r.commodity (get_or new r.commodity no_place)) h.routes) (sym same)
+        (All-weaker (IsNoted n hand new) (λ (r : Route). IsPlaceOf hands r.commodity (get_or new r.commodity no_place)) (λ r is. place_of hands n r.commodity hand (get_or new r.commodity no_place) found is) hand.routes noted)
   ];
 }
 

@@ -7,7 +7,7 @@ use crate::ordering::{new_numbers, order_of, stored};
 use crate::places::{Place, places_of};
 use flow_model::Net;
 use flow_paths::PathStore;
-use mcf_limits::{MAX_PHASES, MAX_WORK, MAX_WORKERS};
+use mcf_limits::{MAX_LENGTH, MAX_PHASES, MAX_WORK, MAX_WORKERS};
 use phase_engine::Hand;
 use solver_run::Entry;
 use std::alloc::{AllocError, Global};
@@ -43,6 +43,7 @@ impl Model for PathHistory {
 impl PathHistory {
     ghost use Rattle.std.specs.Prelude.{◌≡◌, ℕ, ◌+◌, ◌*◌, ◌<◌, ◌≤◌, ◌++◌, ◌∷◌, [], List, OnOk, OnErr, IfOk, length, map, slice_index_or};
     ghost use Rattle.flow_model.specs.Network.{Network};
+    ghost use Rattle.flow_paths.specs.PathRows.{row_at, IsFirstRow, Adds};
     ghost use Rattle.flow_core.specs.Phase.{Routed};
     ghost use Rattle.solver_run.specs.History.{routed_in, AreRowsOf};
     ghost use Rattle.path_history.specs.Rows.{phases_kept, AreRowsFor};
@@ -65,6 +66,19 @@ impl PathHistory {
         ensures { result ≡ length self.now.history }
     {
         self.entries.phases()
+    }
+
+    /// Adds a path to the rows.
+    fn add_path(&mut self, k: u32, path: &[u16], amount: u64) -> Result<u32, AllocError>
+        requires room { length self.old.rows < 4294967295 }
+        requires amount { amount ≤ MAX_LENGTH }
+        requires weight { (n : ℕ) → IsFirstRow self.old.rows k path.now n → (row_at self.old.rows n).weight + amount ≤ MAX_LENGTH }
+        ensures commodities { self.new.commodities ≡ self.old.commodities }
+        ensures history { self.new.history ≡ self.old.history }
+        ensures ok { IfOk result (Adds self.old.rows self.new.rows k path.now amount) }
+        ensures err { OnErr result (self.new.rows ≡ self.old.rows) }
+    {
+        self.paths.add(k, path, amount)
     }
 
     /// Adds the route of each commodity to the rows, and answers the entries.
@@ -93,7 +107,7 @@ impl PathHistory {
             let place = places[k];
             let hand = &hands[place.hand as usize];
             let path = hand.routes.path(place.route);
-            let row = self.paths.add(k as u32, path, commodities[k].amount)?;
+            let row = self.add_path(k as u32, path, commodities[k].amount)?;
             entries.push(Entry {
                 worker: place.hand,
                 row,
