@@ -1,7 +1,7 @@
 -- A phase that is added: its begin, its entries' paths, and its end.
 use Rattle.std.proofs.Common.{◌≡◌, ℕ, zero, suc, ◌+◌, ◌*◌, ◌<◌, ◌≤◌, List, [], ◌∷◌, ◌++◌, length, get_or, map, refl, sym, ap, ◌∙◌, subst, arith, length-append, Some, inl, inr}
 use Rattle.std.specs.Prelude.{All, Contains, slice_get}
-use Rattle.std.proofs.lemmas.List.{same_lists, length-map, get_or-map, get_or_default}
+use Rattle.std.proofs.lemmas.List.{same_lists, length-map, get_or-map, map-append}
 use Rattle.std.proofs.lemmas.List.Elements.{All-push, All-head, All-tail, All-weaker, Contains-get_or}
 use Rattle.std.proofs.lemmas.List.Sums.{sum_by_push}
 use Rattle.std.proofs.lemmas.Option.{slice_get-get_or, slice_get_within, get_or_from_slice_get}
@@ -114,3 +114,15 @@ adds_named net h hands es old new path k n w a is b adds named has =
 
 pub adds_keep : (first old new : List Row) (path : List ℕ) (k n a : ℕ) → KeepsRows first old → Adds old new k path a n → KeepsRows first new
 adds_keep first old new path k n a keeps adds = keeps_both first old new keeps (added old new k path a n adds).keeps
+
+-- entries that name rows of their commodity name rows
+pub names_below : (net : Network) (rows : List Row) (h : List (List Entry)) → All (NamesRows net rows) h → All (NamesBelow (length rows)) h
+names_below net rows h all = All-weaker (NamesRows net rows) (NamesBelow (length rows)) (λ es n k d l. (n.each k (get_or es k d) (slice_get-get_or es k d l)).0) h all
+
+-- the phases before, and the one that the hands have routed
+pub phase_added : (net : Network) (hands : List Hand) (old new : List Row) (h : List (List Entry)) (es : List Entry) (entries : List Routed) → KeepsRows old new → All (NamesRows net old) h → length es ≡ length net.commodities → AreNamed hands new es
+    → IsRoutedOnce net hands entries → map (routed_in new) (h ++ es ∷ []) ≡ map (routed_in old) h ++ entries ∷ []
+phase_added net hands old new h es entries keeps all count named once =
+    let same = same_phases old new h keeps (names_below net old h all) in
+    let last = routed_is net hands new es entries count named once in
+    map-append (routed_in new) h (es ∷ []) ∙ ap (λ (t : List (List Routed)). t ++ routed_in new es ∷ []) same ∙ ap (λ (t : List Routed). map (routed_in old) h ++ t ∷ []) last

@@ -133,7 +133,8 @@ impl PathHistory {
     {
         let places = places_of(alloc, net, hands)?;
         let entries = self.name_rows(alloc, net, hands, &places)?;
-        self.entries.push(&entries)
+        self.entries.push(&entries)?;
+        Ok(())
     }
 
     /// The same phases, with the rows in ascending order of commodity and then cells.
