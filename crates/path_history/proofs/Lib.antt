@@ -4,3 +4,4 @@ pub mod Times
 pub mod OneMore
 pub mod Placed
 pub mod Named
+pub mod Ascending

@@ -2,3 +2,5 @@ pub mod Phases
 pub mod Rows
 pub mod Routes
 pub mod Adding
+pub mod Ordering
+pub mod Sorted
