@@ -5,3 +5,4 @@ pub mod OneMore
 pub mod Placed
 pub mod Named
 pub mod Ascending
+pub mod Numbers

@@ -18,7 +18,8 @@ pub struct OrderedRow<'a> {
 
 /// The rows in ascending order of commodity and then cells.
 fn sorted<'a>(alloc: Global, paths: &'a PathStore) -> Result<Vec<OrderedRow<'a>>, AllocError>
-    ensures { IfOk result (λ v. IsOrderOf paths.now (numbers_of v.items)) }
+    ensures order { IfOk result (λ v. IsOrderOf paths.now (numbers_of v.items)) }
+    ensures few { IfOk result (λ v. length v.items ≤ 4294967295) }
 {
     let mut rows = Vec::with_capacity(alloc, paths.rows() as usize)?;
     for row in 0..paths.rows() {
@@ -34,7 +35,8 @@ fn sorted<'a>(alloc: Global, paths: &'a PathStore) -> Result<Vec<OrderedRow<'a>>
 
 /// The numbers of the rows in ascending order of commodity and then cells.
 pub(crate) fn order_of(alloc: Global, paths: &PathStore) -> Result<Vec<u32>, AllocError>
-    ensures { IfOk result (λ v. IsOrderOf paths.now v.items) }
+    ensures order { IfOk result (λ v. IsOrderOf paths.now v.items) }
+    ensures few { IfOk result (λ v. length v.items ≤ 4294967295) }
 {
     let rows = sorted(alloc, paths)?;
     let mut order = Vec::with_capacity(alloc, rows.len())?;
@@ -64,7 +66,7 @@ pub(crate) fn stored(
     order: &[u32],
 ) -> Result<PathStore, AllocError>
     requires all { All (λ n. n < length paths.now) order.now }
-    requires few { length order.now ≤ length paths.now }
+    requires few { length order.now ≤ 4294967295 }
     ensures { IfOk result (λ v. v ≡ map (row_at paths.now) order.now) }
 {
     let mut stored = PathStore::new(alloc);

@@ -1,6 +1,7 @@
-use Rattle.std.proofs.Common.{◌≡◌, ◌+◌, ◌<◌, ◌++◌, ◌∷◌, [], List, length, refl, sym, ap, ◌∙◌, subst, arith}
+use Rattle.std.proofs.Common.{◌≡◌, ◌+◌, ◌<◌, ◌≤◌, ◌++◌, ◌∷◌, [], List, length, refl, sym, ap, ◌∙◌, subst, arith}
 use Rattle.std.specs.Prelude.{All}
 use Rattle.std.specs.List.{range_with_len}
+use Rattle.std.proofs.lemmas.List.{length-map}
 use Rattle.std.proofs.lemmas.List.Elements.{All-push}
 use Rattle.path_history.specs.declared.ordering.OrderedRow.{OrderedRow}
 use Rattle.path_history.specs.Sorted.{IsOrderedRow, numbers_of}
@@ -17,7 +18,16 @@ loop-row-preserved c =
       numbered = ap numbers_of is ∙ numbered_more c.loop-row.rows.items r c.loop-row.row c.loop-row.invariant.numbered refl;
     }
 
-pub returns : goal.returns
-returns c =
+pub returns-clause-order : goal.returns-clause-order
+returns-clause-order c =
     let end : c.loop-row.row ≡ length c.args.paths.now = omega arith in
     order_from c.args.paths.now c.loop-row.rows.items c.sort_unstable.new.self.items (c.loop-row.invariant.numbered ∙ ap (range_with_len 0) end) c.loop-row.invariant.all c.sort_unstable.ensures.permutation c.sort_unstable.ensures.sorted
+
+pub returns-clause-few : goal.returns-clause-few
+returns-clause-few c =
+    let order = returns-clause-order c in
+    let long = order.count in
+    let same = length-map c.sort_unstable.new.self.items (λ (r : OrderedRow). r.row) in
+    let fits = c.rows-row-end.type_inv in
+    let is = c.rows-row-end.ensures in
+    omega (arith, long, same, fits, is)
