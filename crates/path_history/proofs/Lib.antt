@@ -1,0 +1,8 @@
+pub mod ByPhase
+pub mod Adds
+pub mod Times
+pub mod OneMore
+pub mod Placed
+pub mod Named
+pub mod Ascending
+pub mod Numbers

@@ -1,0 +1,25 @@
+use Rattle.std.proofs.Common.{◌≡◌, ◌<◌, ℕ, length, get_or, sym, ap, ◌∙◌, subst, arith}
+use Rattle.std.specs.Prelude.{All}
+use Rattle.std.proofs.lemmas.List.{take_all}
+use Rattle.std.proofs.lemmas.List.Elements.{All-get_or}
+use Rattle.commodity_claims.specs.Routes.{Route}
+use Rattle.path_history.specs.Adding.{no_route, no_place, IsPlaceAt}
+use Rattle.path_history.proofs.Placed.{AreKept, IsNoted, kept_more, noted_more}
+use Rattle.path_history.proofs.places.note_routes.Goals as goal
+
+pub loop-route-preserved : goal.loop-route-preserved
+loop-route-preserved c =
+    let hand = c.args.hand.now in
+    let i = c.loop-route.route in
+    let k = c.commodity-k.result in
+    let in' : i < length hand.routes = omega arith in
+    let is : (get_or hand.routes i no_route).commodity ≡ k = sym c.commodity-k.ensures in
+    let all : (get_or hand.routes i no_route).commodity < length c.args.places.now = All-get_or (λ (r : Route). r.commodity < length c.args.places.now) hand.routes i no_route in' c.requires in
+    let l : k < length c.loop-route.places = omega (arith, is, all) in
+    record {
+      kept = kept_more c.args.w i k hand c.args.places.now c.loop-route.places l in' is c.loop-route.invariant.kept;
+      noted = noted_more c.args.w i k hand c.loop-route.places l in' is c.loop-route.invariant.noted;
+    }
+
+pub returns-clause-noted : goal.returns-clause-noted
+returns-clause-noted c = subst (All (IsNoted c.args.w c.args.hand.now c.loop-route.places)) (take_all c.loop-route.route c.args.hand.now.routes (omega arith)) c.loop-route.invariant.noted

@@ -1,0 +1,48 @@
+-- A phase that is being added: its first entries, with their rows.
+use Rattle.std.specs.Prelude.{◌≡◌, ℕ, ◌+◌, ◌*◌, ◌<◌, ◌≤◌, List, [], ◌∷◌, ◌++◌, All, length, Some, slice_get, slice_index_or}
+use Rattle.flow_model.specs.Network.{Network}
+use Rattle.flow_model.specs.Routing.{Row}
+use Rattle.flow_paths.specs.PathRows.{row_at}
+use Rattle.commodity_claims.specs.Routes.{Route}
+use Rattle.phase_engine.specs.declared.hand.Hand.{Hand}
+use Rattle.phase_engine.specs.Routing.{HasRouted}
+use Rattle.solver_run.specs.declared.options.Entry.{Entry}
+use Rattle.solver_run.specs.History.{path_named, IsWeighed, NamesRows}
+use Rattle.path_history.specs.declared.places.Place.{Place}
+use Rattle.path_history.specs.Rows.{AreApart}
+
+abbrev pub no_route : Route
+no_route = record { commodity = 0; path = [] }
+
+abbrev pub no_place : Place
+no_place = record { hand = 0; route = 0 }
+
+-- the place is of a route of this hand, whose number is w, and the route is of the commodity
+pub record IsPlaceAt (w : ℕ) (hand : Hand) (k : ℕ) (p : Place) : Type 0 where
+  pub hand_is : p.hand ≡ w
+  pub within : p.route < length hand.routes
+  pub commodity : (slice_index_or hand.routes p.route no_route).commodity ≡ k
+
+-- the place is of a route of some hand, and the route is of the commodity
+pub record IsPlaceOf (hands : List Hand) (k : ℕ) (p : Place) : Type 0 where
+  pub hand : Hand
+  pub found : slice_get hands p.hand ≡ Some hand
+  pub at : IsPlaceAt p.hand hand k p
+
+-- rows are appended, and the old ones keep their commodity and path
+pub record KeepsRows (old new : List Row) : Type 0 where
+  pub more : length old ≤ length new
+  pub commodity : (n : ℕ) → n < length old → (row_at new n).commodity ≡ (row_at old n).commodity
+  pub walk : (n : ℕ) → n < length old → (row_at new n).walk ≡ (row_at old n).walk
+
+-- the phases and the first entries of one more have these rows
+pub record AreBegun (net : Network) (history : List (List Entry)) (entries : List Entry) (rows : List Row) : Type 0 where
+  pub apart : AreApart rows
+  pub before : All (NamesRows net rows) history
+  pub begun : (k : ℕ) (e : Entry) → slice_get entries k ≡ Some e → (e.row < length rows) × ((row_at rows e.row).commodity ≡ k)
+  pub weighed : (n : ℕ) (row : Row) → slice_get rows n ≡ Some row → IsWeighed net (history ++ entries ∷ []) n row
+  pub few : length rows ≤ length net.commodities * length history + length entries
+
+-- each entry is a hand's route for its commodity
+pub record AreNamed (hands : List Hand) (rows : List Row) (entries : List Entry) : Type 0 where
+  pub each : (k : ℕ) (e : Entry) → slice_get entries k ≡ Some e → HasRouted hands e.worker k (path_named rows e)
