@@ -1,0 +1,4 @@
+pub mod Fills
+pub mod Leasts
+pub mod Loads
+pub mod Nexts
