@@ -1,0 +1,102 @@
+//! The paths and entries of a run.
+
+ghost use Rattle.std.specs.Prelude.{◌≡◌};
+
+use crate::entries::Entries;
+use crate::ordering::{new_numbers, order_of, stored};
+use crate::places::{name_rows, places_of};
+use flow_model::Net;
+use flow_paths::PathStore;
+use mcf_limits::{MAX_PHASES, MAX_WORK, MAX_WORKERS};
+use phase_engine::Hand;
+use std::alloc::{AllocError, Global};
+use std::marker::Model;
+
+/// Path rows with weights, and for each phase an entry for each commodity, which names a row. Contracts see how
+/// many commodities there are, the rows, and a list of phases.
+#[derive(Drop)]
+pub struct PathHistory {
+    paths: PathStore,
+    entries: Entries,
+}
+
+/// The rows in ascending order of commodity and then cells, and the entries, which name them by their new numbers.
+#[derive(Drop)]
+pub struct OrderedHistory {
+    pub paths: PathStore,
+    pub entries: Entries,
+}
+
+impl Model for PathHistory {
+    ghost use Rattle.std.specs.Prelude.{All, length};
+    ghost use Rattle.path_history.specs.Phases.{NamesBelow};
+    ghost use Rattle.path_history.specs.Rows.{HistoryView};
+
+    ghost Value = { HistoryView };
+
+    ghost view = { λ h. record { commodities = h.entries.commodities; rows = h.paths; history = h.entries.phases } };
+
+    ghost invariant = { λ h. All (NamesBelow (length h.paths)) h.entries.phases };
+}
+
+impl PathHistory {
+    ghost use Rattle.std.specs.Prelude.{◌≡◌, ◌+◌, ◌*◌, ◌<◌, ◌≤◌, ◌++◌, ◌∷◌, [], List, OnOk, OnErr, IfOk, length, map};
+    ghost use Rattle.flow_model.specs.Network.{Network};
+    ghost use Rattle.flow_core.specs.Phase.{Routed};
+    ghost use Rattle.solver_run.specs.History.{routed_in, AreRowsOf};
+    ghost use Rattle.path_history.specs.Rows.{phases_kept, AreRowsFor};
+    ghost use Rattle.path_history.specs.Routes.{IsRoutedOnce, HaveRouted};
+
+    /// No phase and no row, for the commodities of the network.
+    pub fn new(alloc: Global, net: &Net) -> Self
+        ensures value { result ≡ record { commodities = length net.now.commodities; rows = []; history = [] } }
+        ensures rows { AreRowsFor net.now [] [] }
+    {
+        PathHistory {
+            paths: PathStore::new(alloc),
+            entries: Entries::new(alloc, net.commodities().len() as u32),
+        }
+    }
+
+    /// How many phases there are.
+    pub fn phases(&self) -> u32
+        ensures { result ≡ length self.now.history }
+    {
+        self.entries.phases()
+    }
+
+    /// Appends the phase that the hands have routed: each path is found among the rows, which grow by the
+    /// commodity's amount, or appended. `Err` is for want of memory: the phases are as before, but weights may have
+    /// grown, so nothing more can be added.
+    pub fn add_phase(&mut self, alloc: Global, net: &Net, hands: &[Hand]) -> Result<(), AllocError>
+        requires commodities { self.old.commodities ≡ length net.now.commodities }
+        requires rows { AreRowsFor net.now self.old.history self.old.rows }
+        requires phases { length self.old.history < MAX_PHASES }
+        requires work { self.old.commodities * (length self.old.history + 1) ≤ MAX_WORK }
+        requires hands { length hands.now ≤ MAX_WORKERS }
+        requires routes { HaveRouted net.now hands.now }
+        ensures commodities { self.new.commodities ≡ self.old.commodities }
+        ensures rows { OnOk result (AreRowsFor net.now self.new.history self.new.rows) }
+        ensures phases { OnOk result ((entries : List Routed) → IsRoutedOnce net.now hands.now entries → phases_kept self.new ≡ phases_kept self.old ++ entries ∷ []) }
+        ensures err { OnErr result (phases_kept self.new ≡ phases_kept self.old) }
+    {
+        let places = places_of(alloc, net, hands)?;
+        let entries = name_rows(alloc, &mut self.paths, net, hands, &places)?;
+        self.entries.push(&entries)
+    }
+
+    /// The same phases, with the rows in ascending order of commodity and then cells.
+    pub fn ordered(self, alloc: Global) -> Result<OrderedHistory, AllocError>
+        ensures commodities { IfOk result (λ r. r.entries.commodities ≡ self.commodities) }
+        ensures phases { IfOk result (λ r. map (routed_in r.paths) r.entries.phases ≡ phases_kept self) }
+        ensures rows { IfOk result (λ r. (net : Network) → AreRowsFor net self.history self.rows → AreRowsOf net r.entries.phases r.paths) }
+    {
+        let PathHistory { paths, entries } = self;
+        let mut entries = entries;
+        let order = order_of(alloc, &paths)?;
+        let numbers = new_numbers(alloc, &order)?;
+        let paths = stored(alloc, &paths, &order)?;
+        entries.renumber(&numbers);
+        Ok(OrderedHistory { paths, entries })
+    }
+}

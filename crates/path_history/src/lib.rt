@@ -1,0 +1,10 @@
+//! The paths of all phases so far: path rows, and who routed each commodity along which of them.
+#![tactic(auto)]
+
+mod entries;
+mod history;
+mod ordering;
+mod places;
+
+pub use entries::Entries;
+pub use history::{OrderedHistory, PathHistory};

@@ -1,0 +1,58 @@
+//! The ascending order of path rows.
+
+use flow_paths::PathStore;
+use std::alloc::{AllocError, Global};
+
+/// A row with what it is ordered by.
+#[derive(Clone, Copy, PartialEq, Eq, PartialOrd, Ord)]
+struct OrderedRow<'a> {
+    commodity: u32,
+    path: &'a [u16],
+    row: u32,
+}
+
+/// The rows in ascending order of commodity and then cells.
+fn sorted<'a>(alloc: Global, paths: &'a PathStore) -> Result<Vec<OrderedRow<'a>>, AllocError> {
+    let mut rows = Vec::with_capacity(alloc, paths.rows() as usize)?;
+    for row in 0..paths.rows() {
+        rows.push(OrderedRow {
+            commodity: paths.commodity(row),
+            path: paths.path(row),
+            row,
+        })?;
+    }
+    rows.sort_unstable();
+    Ok(rows)
+}
+
+/// The numbers of the rows in ascending order of commodity and then cells.
+pub(crate) fn order_of(alloc: Global, paths: &PathStore) -> Result<Vec<u32>, AllocError> {
+    let rows = sorted(alloc, paths)?;
+    let mut order = Vec::with_capacity(alloc, rows.len())?;
+    for row in &rows {
+        order.push(row.row)?;
+    }
+    Ok(order)
+}
+
+/// At each row's number its place in the order.
+pub(crate) fn new_numbers(alloc: Global, order: &[u32]) -> Result<Vec<u32>, AllocError> {
+    let mut numbers = vec![in alloc; 0u32; order.len()]?;
+    for (place, row) in order.iter().enumerate() {
+        numbers[*row as usize] = place as u32;
+    }
+    Ok(numbers)
+}
+
+/// The rows in that order.
+pub(crate) fn stored(
+    alloc: Global,
+    paths: &PathStore,
+    order: &[u32],
+) -> Result<PathStore, AllocError> {
+    let mut stored = PathStore::new(alloc);
+    for row in order {
+        stored.push(paths.commodity(*row), paths.path(*row), paths.weight(*row))?;
+    }
+    Ok(stored)
+}
