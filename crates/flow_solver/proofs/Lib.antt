@@ -2,3 +2,4 @@ pub mod Fills
 pub mod Leasts
 pub mod Loads
 pub mod Nexts
+pub mod Routing

@@ -1,1 +1,2 @@
 pub mod Fullness
+pub mod Search

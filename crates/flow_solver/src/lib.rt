@@ -2,7 +2,9 @@
 #![tactic(auto)]
 
 mod fill;
+mod hands;
 mod kept;
 mod printing;
+mod search;
 
 pub use fill::{Fill, fullest};
