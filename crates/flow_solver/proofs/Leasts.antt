@@ -88,3 +88,8 @@ least-more net d (e ∷ ds) new h some =
     ∙ pick-assoc (le_in net) d (least_dual net (e ∷ ds)) new
     (λ a b. fraction-le (upper_of net d) (upper_of net (least_dual net (e ∷ ds))) (upper_of net new) low a b)
     (λ b a. fraction-gt (upper_of net d) (upper_of net (least_dual net (e ∷ ds))) (upper_of net new) some b a)
+
+pub least-push : (net : Network) (ds : List DualRows) (new : DualRows) → 1 ≤ length ds → All (λ (x : DualRows). 1 ≤ (upper_of net x).den) ds → 1 ≤ (upper_of net new).den
+    → least_dual net (ds ++ new ∷ []) ≡ cond (fraction_le (upper_of net (least_dual net ds)) (upper_of net new)) (least_dual net ds) new
+least-push net [] new some h fits = absurd (omega arith)
+least-push net (d ∷ ds) new some h fits = least-more net d ds new h fits

@@ -3,3 +3,4 @@ pub mod Leasts
 pub mod Loads
 pub mod Nexts
 pub mod Routing
+pub mod Reaching

@@ -17,7 +17,7 @@ use Rattle.solver_run.specs.History.{loads_after, fill_after, lower_after, first
 use Rattle.solver_run.specs.Run.{no_dual, least_dual, IsClosedAfter, IsNext, ArePhases}
 use Rattle.flow_solver.proofs.Loads.{loads-kept}
 
-fill-kept : (net : Network) (phases : List (List Routed)) (e : List Routed) (p : ℕ) → p ≤ length phases → fill_after net (phases ++ e ∷ []) p ≡ fill_after net phases p
+pub fill-kept : (net : Network) (phases : List (List Routed)) (e : List Routed) (p : ℕ) → p ≤ length phases → fill_after net (phases ++ e ∷ []) p ≡ fill_after net phases p
 fill-kept net phases e p h = ap (fill net.cells) (loads-kept net phases e p h)
 
 -- the reference stays
@@ -67,3 +67,28 @@ phases-more net o phases e duals d are unmet next =
       goes_on = λ p some l closed. below-more (λ (p : ℕ). 1 ≤ p → IsClosedAfter net o phases duals p → ⊥) (length phases) (λ p l some c. are.goes_on p some l c) unmet p (omega arith) some
           (closed-kept net o phases e duals d p count (omega arith) closed);
     }
+
+-- what makes the phase after those
+pub next-of : (net : Network) (o : SolveOptions) (phases : List (List Routed)) (e : List Routed) (setting reference : Setting) (old new : List ℕ) (d : DualRows) → setting ≡ setting_after net o (phases ++ e ∷ []) (length phases)
+    → reference ≡ later_setting net o (phases ++ e ∷ []) → old ≡ loads_after net phases (length phases) → new ≡ loads_after net (phases ++ e ∷ []) (length phases + 1) → IsPhase net setting old new e
+    → IsBoundOf net (lengths_of net reference new) d → IsNext net o (phases ++ e ∷ []) (length phases) d
+next-of net o phases e setting reference old new d is later before after phase bound =
+    let n = length phases in
+    let more = phases ++ e ∷ [] in
+    let base : old ≡ loads_after net more n = before ∙ sym (loads-kept net phases e n (omega arith)) in
+    record {
+      phase = subst (λ (s : Setting). IsPhase net s (loads_after net more n) (loads_after net more (n + 1)) (get_or more n [])) is
+          (subst (λ (b : List ℕ). IsPhase net setting b (loads_after net more (n + 1)) (get_or more n [])) base
+          (subst (λ (b : List ℕ). IsPhase net setting old b (get_or more n [])) after
+          (subst (λ (r : List Routed). IsPhase net setting old new r) (sym (get_or-append_seam phases e [] [])) phase)));
+      bound = subst (λ (s : Setting). IsBoundOf net (lengths_of net s (loads_after net more (n + 1))) d) later
+          (subst (λ (b : List ℕ). IsBoundOf net (lengths_of net reference b) d) after bound);
+    }
+
+-- no phase
+pub no-phases : (net : Network) (o : SolveOptions) → ArePhases net o [] []
+no-phases net o = record {
+  count = refl;
+  each = λ p l. absurd (omega arith);
+  goes_on = λ p some l. absurd (omega arith);
+}

@@ -5,6 +5,7 @@ mod fill;
 mod hands;
 mod kept;
 mod printing;
+mod reached;
 mod search;
 
 pub use fill::{Fill, fullest};
