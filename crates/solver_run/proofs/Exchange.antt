@@ -105,5 +105,8 @@ pub load-phases : (c : ℕ) (cs : List Commodity) (rows : List Row) (history : L
 load-phases c cs rows [] = refl
 load-phases c cs rows (es ∷ hs) =
     let rest = load-phases c cs rows hs in
-    omega (arith, sum_by-cons (λ (ys : List Entry). load_of (amounts_along 0 cs (routed_in rows ys)) c) es hs,
-    sum_by-append (λ (r : Row). r.weight * times c r.walk) (amounts_along 0 cs (routed_in rows es)) (flat_map (amounts_along 0 cs) (map (routed_in rows) hs)))
+    omega (
+      arith,
+      sum_by-cons (λ (ys : List Entry). load_of (amounts_along 0 cs (routed_in rows ys)) c) es hs,
+      sum_by-append (λ (r : Row). r.weight * times c r.walk) (amounts_along 0 cs (routed_in rows es)) (flat_map (amounts_along 0 cs) (map (routed_in rows) hs)),
+    )

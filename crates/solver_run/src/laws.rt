@@ -1,16 +1,17 @@
 //! What the definitions give at once, and what they say of a small network.
 
-ghost use Rattle.std.specs.Prelude.{◌≡◌, ℕ, List, [], ◌∷◌, true, false};
+ghost use Rattle.std.specs.Prelude.{◌≡◌, ℕ, ◌<◌, List, [], ◌∷◌, true, false};
 ghost use Rattle.flow_model.specs.declared.setting.Setting.{Setting};
 ghost use Rattle.flow_model.specs.Network.{Network, IsNetwork};
 ghost use Rattle.flow_model.specs.Routing.{Row};
 ghost use Rattle.flow_model.specs.Groups.{group_sources, members_of};
 ghost use Rattle.flow_paths.specs.DualRows.{DualRows};
-ghost use Rattle.flow_paths.specs.Certificate.{upper_of, IsCertified};
+ghost use Rattle.flow_paths.specs.Certificate.{upper_of, FractionsArePrinted, IsCertified};
 ghost use Rattle.flow_paths.specs.Evaluation.{fill, edited, evaluation};
 ghost use Rattle.flow_core.specs.Phase.{Routed, IsPhase};
 ghost use Rattle.solver_run.specs.declared.options.SolveOptions.{SolveOptions};
 ghost use Rattle.solver_run.specs.History.{SolvedView, loads_after, list_lt};
+ghost use Rattle.solver_run.specs.Options.{AreOptions};
 ghost use Rattle.solver_run.specs.Paths.{HavePaths};
 ghost use Rattle.solver_run.specs.Run.{IsSolverRun};
 ghost use Rattle.solver_run.specs.Headline.{IsSolved};
@@ -56,4 +57,10 @@ pub fn run_keeps_the_gap()
 /// Each entry of a phase has a path of its commodity: a walk that comes to no node twice.
 pub fn phases_have_paths()
     ensures { (net : Network) (setting : Setting) (base loads : List ℕ) (entries : List Routed) → IsNetwork net → IsPhase net setting base loads entries → HavePaths net entries }
+{}
+
+/// A run is solved where its fractions are printed as they are: feasible, bounded, tight, with open only after the
+/// whole budget, and its certificate is valid and can be written.
+pub fn runs_are_solved()
+    ensures { (net : Network) (o : SolveOptions) (s : SolvedView) → IsNetwork net → AreOptions net o → IsSolverRun net o s → FractionsArePrinted net s.proof → s.proof.lower.micro < 1000000 → s.proof.upper.micro < 1000000 → IsSolved net o s }
 {}

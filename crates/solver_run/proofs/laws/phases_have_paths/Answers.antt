@@ -1,4 +1,3 @@
-use Rattle.solver_run.proofs.Carried.{run-limits}
 use Rattle.solver_run.proofs.Paths.{phase-paths}
 use Rattle.solver_run.proofs.laws.phases_have_paths.Goals as goal
 
