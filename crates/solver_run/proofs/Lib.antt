@@ -6,5 +6,6 @@ pub mod Members
 pub mod Paths
 pub mod Rows
 pub mod Short
+pub mod SmallCut
 pub mod Solved
 pub mod Weights

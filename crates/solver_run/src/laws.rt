@@ -15,7 +15,7 @@ ghost use Rattle.solver_run.specs.Options.{AreOptions};
 ghost use Rattle.solver_run.specs.Paths.{HavePaths};
 ghost use Rattle.solver_run.specs.Run.{IsSolverRun};
 ghost use Rattle.solver_run.specs.Headline.{IsSolved};
-ghost use Rattle.solver_run.specs.Small.{small, small_phases};
+ghost use Rattle.solver_run.specs.Small.{small, small_phases, small_options, cut_link, cut_solved};
 
 /// The sources ascend, and so do the members of a group.
 #[tactic(auto, unfolding(flow_model::specs::Groups::group_in))]
@@ -63,4 +63,12 @@ pub fn phases_have_paths()
 /// whole budget, and its certificate is valid and can be written.
 pub fn runs_are_solved()
     ensures { (net : Network) (o : SolveOptions) (s : SolvedView) → IsNetwork net → AreOptions net o → IsSolverRun net o s → FractionsArePrinted net s.proof → s.proof.lower.micro < 1000000 → s.proof.upper.micro < 1000000 → IsSolved net o s }
+{}
+
+/// What is solved of a network with a cut is a run, and is solved.
+pub fn a_cut_is_solved()
+    ensures network { IsNetwork cut_link }
+    ensures options { AreOptions cut_link small_options }
+    ensures run { IsSolverRun cut_link small_options cut_solved }
+    ensures solved { IsSolved cut_link small_options cut_solved }
 {}
