@@ -7,5 +7,6 @@ pub mod Paths
 pub mod Rows
 pub mod Short
 pub mod SmallCut
+pub mod SmallLink
 pub mod Solved
 pub mod Weights
