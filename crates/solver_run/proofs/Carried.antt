@@ -1,13 +1,13 @@
 -- The routing of a run: walks that carry every phase, scaled by the fullest cell.
-use Rattle.std.proofs.Common.{◌≡◌, ◌≢◌, ◌↔◌, ℕ, zero, suc, ◌+◌, ◌*◌, ◌<◌, ◌≤◌, List, [], Some, length, get_or, map, take, flat_map, refl, sym, ap, subst, ◌∙◌, arith}
-use Rattle.std.specs.Prelude.{All, slice_get, IsTrue}
+use Rattle.std.proofs.Common.{◌≡◌, ◌↔◌, ℕ, ◌*◌, ◌<◌, ◌≤◌, List, [], Some, length, get_or, map, take, flat_map, sym, ap, subst, ◌∙◌, arith}
+use Rattle.std.specs.Prelude.{slice_get, IsTrue}
 use Rattle.std.specs.List.{sum_by, range_with_len}
 use Rattle.std.proofs.Math.Nat.{mul-le-mul}
 use Rattle.std.proofs.lemmas.List.{get_or-map, length-map, take_all}
 use Rattle.std.proofs.lemmas.List.FromFn.{length-map-range_with_len, get_or-map-range_with_len}
 use Rattle.std.proofs.lemmas.List.Elements.{All-from_get_or}
 use Rattle.std.proofs.lemmas.Option.{slice_get-get_or, get_or_from_slice_get, slice_get_within}
-use Rattle.mcf_limits.specs.declared.TheConstants.{MAX_LENGTH, MAX_PHASES, MAX_TOTAL, MAX_UNITS}
+use Rattle.mcf_limits.specs.declared.TheConstants.{MAX_PHASES, MAX_TOTAL}
 use Rattle.flow_model.specs.declared.net.Cell.{Cell}
 use Rattle.flow_model.specs.declared.net.Commodity.{Commodity}
 use Rattle.flow_model.specs.Network.{Network, IsNetwork, IsCell}
@@ -22,7 +22,7 @@ use Rattle.flow_core.specs.Phase.{Routed, amounts_along}
 use Rattle.solver_run.specs.declared.options.SolveOptions.{SolveOptions}
 use Rattle.solver_run.specs.Options.{AreOptions}
 use Rattle.solver_run.specs.Paths.{HavePaths, IsPathOf}
-use Rattle.solver_run.specs.History.{SolvedView, routed_in, phases_of, loads_after, fill_after, lower_after}
+use Rattle.solver_run.specs.History.{SolvedView, routed_in, phases_of, loads_after, lower_after}
 use Rattle.solver_run.specs.Run.{IsPhasedRun, least_dual}
 use Rattle.solver_run.specs.Headline.{IsTight}
 use Rattle.solver_run.proofs.Fill.{IsFullest, fullest}

@@ -1,5 +1,5 @@
 -- A dual with least lengths, or with the marks of a cut, shows its bound.
-use Rattle.std.proofs.Common.{◌≡◌, inl, inr, ℕ, zero, suc, ◌+◌, ◌*◌, ◌^◌, ◌<◌, ◌≤◌, List, [], ◌∷◌, Bool, true, false, Option, Some, None, cond, eqb, length, get_or, map, refl, sym, ap, subst, ◌∙◌, arith}
+use Rattle.std.proofs.Common.{◌≡◌, ℕ, ◌+◌, ◌*◌, ◌^◌, ◌<◌, ◌≤◌, List, [], ◌∷◌, Bool, true, Option, Some, None, cond, eqb, length, get_or, map, refl, sym, ap, subst, ◌∙◌, arith}
 use Rattle.std.specs.Prelude.{All, count_by, find}
 use Rattle.std.specs.List.{range_with_len}
 use Rattle.std.proofs.Math.Nat.{mul-le-mul_right}
@@ -20,7 +20,7 @@ use Rattle.flow_model.specs.Bound.{IsPotential, walk_length, weighted_distance}
 use Rattle.flow_model.proofs.Duality.{no_commodity}
 use Rattle.fixed_exp.specs.Far.{EmptyAreFar}
 use Rattle.flow_paths.specs.DualRows.{Length, Potential, DualRows}
-use Rattle.flow_paths.specs.Certificate.{IsPotentialOf, distances_in, lengths_in}
+use Rattle.flow_paths.specs.Certificate.{distances_in, lengths_in}
 use Rattle.dual_bound.specs.Bounds.{length_rows, IsRowWith, IsDualWith, IsDistance, IsBoundOf, IsCutPotential, IsCutDual, ShowsBound, cut_lengths}
 use Rattle.dual_bound.proofs.DualRows.{source-count, cells-have, lengths-found, row-found}
 use Rattle.dual_bound.proofs.Distances.{distances-are, marks-are, distance-positive, cut-positive, distance-by, weighted-positive}

@@ -1,5 +1,5 @@
 -- Sums over weighted rows, exchanged for sums over the entries that name them.
-use Rattle.std.proofs.Common.{◌≡◌, inl, inr, ℕ, zero, suc, ◌+◌, ◌*◌, ◌<◌, ◌≤◌, List, [], ◌∷◌, ◌++◌, cond, eqb, length, get_or, map, flat_map, refl, sym, ap, ◌∙◌, arith}
+use Rattle.std.proofs.Common.{◌≡◌, inl, inr, ℕ, zero, suc, ◌+◌, ◌*◌, ◌<◌, ◌≤◌, List, [], ◌∷◌, cond, eqb, length, get_or, map, flat_map, refl, sym, ap, ◌∙◌, arith}
 use Rattle.std.specs.Prelude.{All, count_by}
 use Rattle.std.specs.List.{sum_by}
 use Rattle.std.proofs.lemmas.Bool.{cases_eq, eq-eqb, ne_eqb}
@@ -10,7 +10,7 @@ use Rattle.flow_model.specs.Walk.{times}
 use Rattle.flow_model.specs.Routing.{Row, load_of}
 use Rattle.flow_model.proofs.Duality.{no_commodity}
 use Rattle.flow_core.specs.Laws.{below}
-use Rattle.flow_core.specs.Phase.{Routed, amounts_along}
+use Rattle.flow_core.specs.Phase.{amounts_along}
 use Rattle.flow_core.proofs.Sums.{point, lift-nil, lift-cons}
 use Rattle.solver_run.specs.declared.options.Entry.{Entry}
 use Rattle.solver_run.specs.History.{times_named, path_named, routed_in}

@@ -1,13 +1,10 @@
 -- The run of a network whose one cell has no capacity.
-use Rattle.std.proofs.Common.{◌≡◌, inl, inr, ℕ, zero, suc, ◌<◌, ◌≤◌, List, [], ◌∷◌, Some, length, get_or, refl, arith}
-use Rattle.std.specs.Prelude.{All, slice_get}
+use Rattle.std.proofs.Common.{◌≡◌, inl, inr, ℕ, zero, suc, ◌<◌, [], ◌∷◌, Some, get_or, refl, arith}
+use Rattle.std.specs.Prelude.{slice_get}
 use Rattle.std.proofs.lemmas.List.Elements.{All-nil, All-cons}
 use Rattle.flow_model.specs.declared.net.Cell.{Cell}
-use Rattle.flow_model.specs.declared.net.Commodity.{Commodity}
 use Rattle.flow_model.specs.Network.{IsNetwork, IsCell, IsCommodity}
-use Rattle.flow_model.specs.Walk.{PositiveWalk}
 use Rattle.flow_model.specs.Least.{HasCut, IsCutOff}
-use Rattle.flow_paths.specs.DualRows.{Potential}
 use Rattle.flow_paths.specs.Certificate.{FractionsArePrinted}
 use Rattle.dual_bound.specs.Bounds.{IsRowWith, IsCutPotential, IsCutDual}
 use Rattle.solver_run.specs.Options.{AreOptions}

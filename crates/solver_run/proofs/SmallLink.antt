@@ -1,5 +1,5 @@
 -- The run of a network of one cell: one phase of one worker.
-use Rattle.std.proofs.Common.{◌≡◌, ◌≢◌, inl, inr, ℕ, zero, suc, ◌+◌, ◌-◌, ◌*◌, ◌/◌, ◌<◌, ◌≤◌, List, [], ◌∷◌, Some, true, length, get_or, refl, sym, ap, subst, ◌∙◌, arith}
+use Rattle.std.proofs.Common.{◌≡◌, inl, inr, ℕ, zero, suc, ◌+◌, ◌-◌, ◌*◌, ◌/◌, ◌<◌, ◌≤◌, List, [], ◌∷◌, Some, true, length, get_or, refl, sym, ap, subst, ◌∙◌, arith}
 use Rattle.std.specs.Prelude.{All, slice_get}
 use Rattle.std.proofs.lemmas.Nat.{div-mul-add}
 use Rattle.std.proofs.lemmas.List.Elements.{All-nil, All-cons}
@@ -15,7 +15,6 @@ use Rattle.fixed_exp.proofs.Passes.{lengths-fit}
 use Rattle.dijkstra_paths.proofs.Least.{length-first}
 use Rattle.gap_fraction.specs.Fraction.{Fraction, IsWithinGap}
 use Rattle.flow_model.specs.Routing.{Row}
-use Rattle.flow_paths.specs.DualRows.{Potential}
 use Rattle.flow_paths.specs.PathRows.{row_at}
 use Rattle.flow_paths.specs.Certificate.{FractionsArePrinted, lower_of, upper_of}
 use Rattle.dual_bound.specs.Bounds.{IsRowWith, IsDistance, IsBoundOf}
@@ -26,8 +25,8 @@ use Rattle.flow_core.specs.Phase.{Routed, IsPhase, EachIsComplete, HasStopped, I
 use Rattle.flow_core.proofs.Whole.{whole}
 use Rattle.solver_run.specs.declared.options.Entry as options
 use Rattle.solver_run.specs.Options.{AreOptions}
-use Rattle.solver_run.specs.History.{AreRowsOf, NamesRows, IsWeighed, first_setting, later_setting, loads_after, phases_of}
-use Rattle.solver_run.specs.Run.{IsSolverRun, IsPhasedRun, IsNext, no_dual}
+use Rattle.solver_run.specs.History.{AreRowsOf, NamesRows, IsWeighed, first_setting, later_setting, phases_of}
+use Rattle.solver_run.specs.Run.{IsSolverRun, IsNext, no_dual}
 use Rattle.solver_run.specs.Headline.{IsSolved}
 use Rattle.solver_run.specs.Small.{small_options, one_link, link_phase, link_lengths, dual_over, link_solved}
 use Rattle.solver_run.proofs.Solved.{run-solved}

@@ -1,12 +1,12 @@
 -- What is a run of the solver is solved.
-use Rattle.std.proofs.Common.{◌≡◌, ◌≢◌, ◌↔◌, inl, inr, ℕ, zero, suc, ◌+◌, ◌*◌, ◌<◌, ◌≤◌, Bool, true, false, List, [], ◌∷◌, Some, cond, length, get_or, refl, sym, ap, subst, ◌∙◌, arith}
-use Rattle.std.specs.Prelude.{All, IsTrue}
+use Rattle.std.proofs.Common.{◌≡◌, ◌↔◌, inl, inr, ℕ, suc, ◌+◌, ◌*◌, ◌<◌, ◌≤◌, Bool, true, false, List, [], ◌∷◌, cond, length, get_or, refl, sym, ap, subst, ◌∙◌, arith}
+use Rattle.std.specs.Prelude.{IsTrue}
 use Rattle.std.proofs.lemmas.List.{length-map}
 use Rattle.std.proofs.lemmas.List.FromFn.{length-map-range_with_len}
 use Rattle.std.proofs.lemmas.List.Elements.{All-nil}
 use Rattle.flow_model.specs.Network.{Network, IsNetwork}
 use Rattle.flow_model.specs.Lengths.{greatest_exponent, least_capacity, lengths_of}
-use Rattle.flow_model.specs.Routing.{Joins, load_of}
+use Rattle.flow_model.specs.Routing.{Joins}
 use Rattle.flow_model.specs.Bound.{volume}
 use Rattle.flow_model.specs.Least.{HasCut}
 use Rattle.fixed_exp.proofs.Passes.{lengths-fit, empty-far}
@@ -14,7 +14,7 @@ use Rattle.gap_fraction.specs.Fraction.{IsWithinGap}
 use Rattle.flow_paths.specs.DualRows.{DualRows}
 use Rattle.flow_paths.specs.declared.certificate.Proof.{Proof}
 use Rattle.flow_paths.specs.declared.certificate.Routing.{Routing}
-use Rattle.flow_paths.specs.Certificate.{FractionsArePrinted, IsValid, IsValidRouting, IsRoutingOf, IsRowOf, IsProofOf, IsCertified, lengths_in, lower_of, upper_of}
+use Rattle.flow_paths.specs.Certificate.{FractionsArePrinted, IsValid, IsValidRouting, IsRoutingOf, IsRowOf, IsCertified, lengths_in, lower_of, upper_of}
 use Rattle.flow_paths.specs.Evaluation.{fraction_le}
 use Rattle.dual_bound.specs.Bounds.{ShowsBound, cut_lengths}
 use Rattle.dual_bound.proofs.Distances.{cut-volume}
@@ -23,7 +23,7 @@ use Rattle.solver_run.specs.declared.options.SolveOptions.{SolveOptions}
 use Rattle.solver_run.specs.Options.{AreOptions}
 use Rattle.solver_run.specs.History.{SolvedView, phases_of, loads_after, later_setting}
 use Rattle.solver_run.specs.Run.{IsSolverRun, IsPhasedRun, IsCutProof, no_dual, least_dual}
-use Rattle.solver_run.specs.Headline.{IsSolved, IsTight, IsPrintedFor}
+use Rattle.solver_run.specs.Headline.{IsSolved, IsTight}
 use Rattle.solver_run.proofs.Carried.{run-valid, run-limits, run-tight, run-closed}
 use Rattle.solver_run.proofs.Duals.{bound-shows, cut-shows}
 

@@ -1,6 +1,5 @@
 -- Bounds on weights and loads of rows that are paths.
-use Rattle.std.proofs.Common.{◌≡◌, ◌≢◌, inl, inr, ℕ, zero, suc, ◌+◌, ◌*◌, ◌<◌, ◌≤◌, List, [], ◌∷◌, Some, cond, eqb, length, get_or, refl, sym, ap, subst, ◌∙◌, arith}
-use Rattle.std.specs.Prelude.{All, slice_get}
+use Rattle.std.proofs.Common.{◌≡◌, ◌≢◌, inl, inr, ℕ, suc, ◌+◌, ◌*◌, ◌<◌, ◌≤◌, List, [], ◌∷◌, cond, eqb, length, get_or, refl, sym, subst, ◌∙◌, arith}
 use Rattle.std.specs.List.{sum_by}
 use Rattle.std.proofs.Math.Nat.{mul-le-mul, mul-le-mul_left}
 use Rattle.std.proofs.lemmas.Bool.{cases_eq, eq-eqb, ne_eqb}
@@ -15,7 +14,6 @@ use Rattle.flow_model.proofs.Duality.{no_commodity}
 use Rattle.flow_paths.specs.PathRows.{row_at, no_row}
 use Rattle.solver_run.specs.declared.options.Entry.{Entry}
 use Rattle.solver_run.specs.History.{times_named, AreRowsOf, NamesRows, IsWeighed}
-use Rattle.solver_run.specs.Paths.{IsPathOf}
 use Rattle.solver_run.proofs.Exchange.{no_entry}
 use Rattle.solver_run.proofs.Rows.{PhasesHavePaths, amount_at, path-inside, rows-paths, rows-weigh, weight-is}
 
