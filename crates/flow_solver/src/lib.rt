@@ -7,5 +7,9 @@ mod kept;
 mod printing;
 mod reached;
 mod search;
+mod solved;
+mod solving;
 
 pub use fill::{Fill, fullest};
+pub use solved::Solved;
+pub use solving::solve;

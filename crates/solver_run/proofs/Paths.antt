@@ -1,10 +1,9 @@
 -- The entries of a phase have short paths.
-use Rattle.std.proofs.Common.{◌≡◌, ◌≢◌, ℕ, zero, suc, ◌<◌, List, [], ◌∷◌, Some, length, get_or, sym, subst, ap, ◌∙◌, arith}
+use Rattle.std.proofs.Common.{◌≡◌, ◌≢◌, ℕ, ◌<◌, List, [], ◌∷◌, Some, length, get_or, sym, subst, ◌∙◌}
 use Rattle.std.specs.Prelude.{All, slice_get}
 use Rattle.std.proofs.lemmas.List.Elements.{All-nil, All-cons}
 use Rattle.std.proofs.lemmas.Option.{slice_get-get_or}
 use Rattle.flow_model.specs.declared.net.Cell.{Cell}
-use Rattle.flow_model.specs.declared.net.Commodity.{Commodity}
 use Rattle.flow_model.specs.declared.setting.Setting.{Setting}
 use Rattle.flow_model.specs.Network.{Network, IsNetwork}
 use Rattle.flow_model.specs.Walk.{IsWalk, PositiveWalk}
@@ -15,7 +14,7 @@ use Rattle.dijkstra_paths.proofs.Relaxed.{pass-inside}
 use Rattle.flow_core.specs.declared.state.Entry.{Entry}
 use Rattle.flow_core.specs.Core.{Terms, State, start, after_schedule, worker_at, idle, path_of, commodity_count, group_of, IsComplete, IsRouted}
 use Rattle.flow_core.specs.Laws.{MembersOnly}
-use Rattle.flow_core.specs.Phase.{Routed, IsPhase, IsWhole, HasAdded, EachIsComplete, terms_of}
+use Rattle.flow_core.specs.Phase.{Routed, IsPhase, HasAdded, EachIsComplete, terms_of}
 use Rattle.flow_core.proofs.Whole.{log-inside, contained, path-member, no_entry}
 use Rattle.solver_run.specs.Paths.{IsPathOf, HavePaths}
 use Rattle.solver_run.proofs.Short.{least-short}
