@@ -4,3 +4,4 @@ pub mod Loads
 pub mod Nexts
 pub mod Routing
 pub mod Reaching
+pub mod Ending
