@@ -1,29 +1,25 @@
 -- The search with one phase more.
-use Rattle.std.proofs.Common.{◌≡◌, ◌≢◌, ℕ, zero, suc, ◌+◌, ◌*◌, ◌<◌, ◌≤◌, Bool, true, false, nat_lt, List, [], ◌∷◌, ◌++◌, length, get_or, Some, None, refl, sym, ap, ◌∙◌, subst, arith}
-use Rattle.std.specs.Prelude.{All, map, flat_map, take, replicate, slice_get, slice_index_or}
-use Rattle.std.specs.List.{sum_by, range_with_len}
+use Rattle.std.proofs.Common.{◌≡◌, ℕ, ◌+◌, ◌*◌, ◌<◌, ◌≤◌, Bool, true, false, nat_lt, List, [], ◌∷◌, ◌++◌, length, get_or, None, refl, sym, ap, ◌∙◌, subst, arith}
+use Rattle.std.specs.Prelude.{All, flat_map, take, replicate}
 use Rattle.std.proofs.lemmas.Bool.Decides.{nat_tests}
 use Rattle.std.proofs.lemmas.List.{length-map, length-append, length-replicate, get_or-replicate, get_or_append_left}
 use Rattle.std.proofs.lemmas.List.FromFn.{fill_by_all, length-map-range_with_len}
 use Rattle.std.proofs.Math.Seq.{get_or-append_seam}
-use Rattle.flow_model.specs.declared.net.Commodity.{Commodity}
 use Rattle.flow_model.specs.declared.setting.Setting.{Setting}
 use Rattle.flow_model.specs.Network.{Network, IsNetwork}
-use Rattle.flow_model.specs.Walk.{times}
 use Rattle.flow_model.specs.Routing.{load_of}
 use Rattle.flow_core.specs.Core.{IsStart}
-use Rattle.flow_core.specs.Phase.{Routed, IsPhase, amounts_along}
+use Rattle.flow_core.specs.Phase.{Routed, amounts_along}
 use Rattle.mcf_limits.specs.declared.TheConstants.{MAX_LENGTH, MAX_PHASES, MAX_TOTAL}
 use Rattle.phase_engine.specs.declared.hand.Hand.{Hand}
 use Rattle.phase_engine.specs.Hands.{IsFresh, IsSameWorker}
 use Rattle.phase_engine.specs.Routing.{IsRoutedPhase}
-use Rattle.path_history.specs.Rows.{phases_kept, AreRowsFor}
-use Rattle.solver_run.specs.declared.options.Entry.{Entry}
+use Rattle.path_history.specs.Rows.{AreRowsFor}
 use Rattle.solver_run.specs.Paths.{IsPathOf, HavePaths}
 use Rattle.solver_run.specs.History.{routed_in, loads_after}
 use Rattle.solver_run.proofs.Paths.{phase-paths}
 use Rattle.flow_solver.specs.declared.search.Search.{Search}
-use Rattle.flow_solver.specs.Search.{IsIdle, AreIdle, phases_in, phase_count, IsSearch, HasRouted}
+use Rattle.flow_solver.specs.Search.{AreIdle, phases_in, phase_count, IsSearch, HasRouted}
 use Rattle.flow_solver.proofs.Loads.{loads-more, loads-small, once, phase-adds, phase-loads, total-amounts, room-above}
 
 -- hands

@@ -176,6 +176,26 @@ fn uncut<G: Gate, R: Threads + Sync>(
     finished(alloc, net, options, ended)
 }
 
+/// A cut's proof, or that of all phases.
+fn proved<G: Gate, R: Threads + Sync>(
+    rt: &R,
+    alloc: Global,
+    net: &Net,
+    options: &SolveOptions,
+    gate: &G,
+) -> Result<Solved, AllocError>
+    requires { AreOptions net.now options.now }
+    ensures run { IfOk result (λ s. IsSolverRun net.now options.now s) }
+    ensures printed { IfOk result (λ s. FractionsArePrinted net.now s.proof) }
+    ensures micro { IfOk result (λ s. (s.proof.lower.micro < 1000000) × (s.proof.upper.micro < 1000000)) }
+{
+    let graph = Graph::new(alloc, net)?;
+    match graph.first_cut(alloc, net)? {
+        Some(_) => cut_off(alloc, net, &graph, options),
+        None => uncut(rt, alloc, net, &graph, options, gate),
+    }
+}
+
 /// A certificate of the network, and its history. Paths carry one fraction of every amount within every capacity, and
 /// lengths bound the fraction of every feasible routing. It is closed exactly where the two lie within the asked gap,
 /// and open only after the whole phase budget. `Err` is for want of memory. It may wait for its workers.
@@ -192,10 +212,6 @@ pub fn solve<G: Gate, R: Threads + Sync>(
     ensures solved { IfOk result (λ s. IsSolved net.now options.now s) }
 {
     let _cells = net.cells();
-    let graph = Graph::new(alloc, net)?;
-    let solved = match graph.first_cut(alloc, net)? {
-        Some(_) => cut_off(alloc, net, &graph, options)?,
-        None => uncut(rt, alloc, net, &graph, options, gate)?,
-    };
+    let solved = proved(rt, alloc, net, options, gate)?;
     Ok(solved)
 }

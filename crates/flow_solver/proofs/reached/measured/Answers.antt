@@ -1,4 +1,4 @@
-use Rattle.std.proofs.Common.{◌≡◌, ℕ, List, length, sym, ap, ◌∙◌}
+use Rattle.std.proofs.Common.{ℕ, List, length, sym, ap, ◌∙◌}
 use Rattle.flow_model.specs.declared.net.Cell.{Cell}
 use Rattle.flow_paths.specs.Evaluation.{fill}
 use Rattle.flow_solver.proofs.Routing.{loads-size}

@@ -1,4 +1,4 @@
-use Rattle.std.proofs.Common.{◌≡◌, ℕ, ◌≤◌, List, length, sym, ap, ◌∙◌, subst, arith, true, false}
+use Rattle.std.proofs.Common.{◌≡◌, ℕ, ◌≤◌, List, length, sym, ap, ◌∙◌, subst, arith, false}
 use Rattle.std.specs.Prelude.{All}
 use Rattle.std.specs.Vec.{with_items}
 use Rattle.std.proofs.lemmas.List.{with_items_is}
@@ -8,7 +8,7 @@ use Rattle.flow_model.specs.Lengths.{lengths_of}
 use Rattle.dual_bound.specs.Bounds.{IsBoundOf}
 use Rattle.flow_solver.specs.declared.search.Search.{Search}
 use Rattle.flow_solver.specs.Search.{phase_count, IsSearch, HasRouted}
-use Rattle.flow_solver.proofs.Routing.{count-of, loads-size}
+use Rattle.flow_solver.proofs.Routing.{loads-size}
 use Rattle.flow_solver.proofs.Reaching.{count-more, loads-limit, next-reached, other-lengths, routed-other}
 use Rattle.flow_solver.proofs.reached.next.Goals as goal
 

@@ -1,4 +1,4 @@
-use Rattle.std.proofs.Common.{ℕ, ◌-◌, ◌≤◌}
+use Rattle.std.proofs.Common.{◌-◌, ◌≤◌}
 use Rattle.flow_solver.specs.Reached.{IsReached}
 use Rattle.flow_solver.specs.Search.{phase_count}
 use Rattle.flow_solver.proofs.solving.all_phases.Given as goal

@@ -1,4 +1,4 @@
-use Rattle.std.proofs.Common.{◌≡◌, ◌∙◌, refl, sym, ap, subst, inl}
+use Rattle.std.proofs.Common.{refl, sym, ap, subst, inl}
 use Rattle.path_history.specs.Phases.{EntriesView}
 use Rattle.solver_run.specs.History.{SolvedView}
 use Rattle.solver_run.specs.Run.{IsSolverRun}

@@ -1,5 +1,5 @@
-use Rattle.std.proofs.Common.{◌≡◌, ◌∙◌, refl, sym, subst, inr}
-use Rattle.solver_run.specs.History.{SolvedView, AreRowsOf}
+use Rattle.std.proofs.Common.{◌∙◌, refl, sym, subst, inr}
+use Rattle.solver_run.specs.History.{SolvedView}
 use Rattle.solver_run.specs.Run.{IsSolverRun}
 use Rattle.flow_solver.proofs.Ending.{phased-run}
 use Rattle.flow_solver.proofs.solving.finished.Goals as goal
