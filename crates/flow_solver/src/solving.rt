@@ -177,7 +177,7 @@ fn uncut<G: Gate, R: Threads + Sync>(
 }
 
 /// A cut's proof, or that of all phases.
-fn proved<G: Gate, R: Threads + Sync>(
+fn certified<G: Gate, R: Threads + Sync>(
     rt: &R,
     alloc: Global,
     net: &Net,
@@ -212,6 +212,6 @@ pub fn solve<G: Gate, R: Threads + Sync>(
     ensures solved { IfOk result (λ s. IsSolved net.now options.now s) }
 {
     let _cells = net.cells();
-    let solved = proved(rt, alloc, net, options, gate)?;
+    let solved = certified(rt, alloc, net, options, gate)?;
     Ok(solved)
 }
