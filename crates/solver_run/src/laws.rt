@@ -1,51 +1,56 @@
-//! What the definitions give at once, and what they say of a small network.
+//! What follows from the definitions, for all networks.
 
-ghost use Rattle.std.specs.Prelude.{◌≡◌, ℕ, List, [], ◌∷◌, true, false};
-ghost use Rattle.flow_model.specs.Network.{Network};
-ghost use Rattle.flow_model.specs.Routing.{Row};
-ghost use Rattle.flow_model.specs.Groups.{group_sources, members_of};
+ghost use Rattle.std.specs.Prelude.{◌≡◌, ℕ, ◌<◌, List, length};
+ghost use Rattle.flow_model.specs.declared.setting.Setting.{Setting};
+ghost use Rattle.flow_model.specs.Network.{Network, IsNetwork};
+ghost use Rattle.flow_model.specs.Lengths.{AreLengths};
+ghost use Rattle.flow_model.specs.Least.{IsLeastWalk, HasCut};
+ghost use Rattle.fixed_exp.specs.Far.{EmptyAreFar};
 ghost use Rattle.flow_paths.specs.DualRows.{DualRows};
-ghost use Rattle.flow_paths.specs.Certificate.{upper_of, IsCertified};
-ghost use Rattle.flow_paths.specs.Evaluation.{fill, edited, evaluation};
+ghost use Rattle.flow_paths.specs.Certificate.{FractionsArePrinted, IsCertified};
+ghost use Rattle.flow_paths.specs.Evaluation.{loads_of};
+ghost use Rattle.flow_core.specs.Phase.{Routed, IsPhase};
+ghost use Rattle.dual_bound.specs.Bounds.{IsBoundOf, IsCutDual, ShowsBound, cut_lengths};
 ghost use Rattle.solver_run.specs.declared.options.SolveOptions.{SolveOptions};
-ghost use Rattle.solver_run.specs.History.{SolvedView, loads_after, list_lt};
-ghost use Rattle.solver_run.specs.Run.{IsSolverRun};
+ghost use Rattle.solver_run.specs.Options.{AreOptions};
+ghost use Rattle.solver_run.specs.Paths.{HavePaths};
+ghost use Rattle.solver_run.specs.History.{SolvedView, phases_of, loads_after};
+ghost use Rattle.solver_run.specs.Run.{IsPhasedRun, IsSolverRun};
 ghost use Rattle.solver_run.specs.Headline.{IsSolved};
-ghost use Rattle.solver_run.specs.Small.{small, small_phases};
 
-/// The sources ascend, and so do the members of a group.
-#[tactic(auto, unfolding(flow_model::specs::Groups::group_in))]
-pub fn small_has_groups()
-    ensures sources { group_sources small ≡ 0 ∷ 1 ∷ [] }
-    ensures first { members_of small 0 ≡ 1 ∷ [] }
-    ensures second { members_of small 1 ≡ 0 ∷ 2 ∷ [] }
+/// A least walk over positive cells comes to no node twice, so it has fewer cells than there are nodes.
+pub fn least_walks_are_short()
+    ensures { (net : Network) (lengths : List ℕ) (u v : ℕ) (walk : List ℕ) → IsNetwork net → AreLengths net.cells lengths → u < net.nodes → IsLeastWalk net.cells lengths u v walk → length walk < net.nodes }
 {}
 
-/// Of two cells that are as full the first is the fullest, and a cell without load is none.
-pub fn small_has_a_fullest_cell()
-    ensures { fill small.cells (4 ∷ 2 ∷ 0 ∷ []) ≡ record { num = 10; den = 4 } }
+/// Each entry of a phase has a path of its commodity.
+pub fn phases_have_paths()
+    ensures { (net : Network) (setting : Setting) (base loads : List ℕ) (entries : List Routed) → IsNetwork net → IsPhase net setting base loads entries → HavePaths net entries }
 {}
 
-/// Each phase loads a cell by the amounts of the paths over it.
-pub fn small_phases_load()
-    ensures none { loads_after small small_phases 0 ≡ 0 ∷ 0 ∷ 0 ∷ [] }
-    ensures one { loads_after small small_phases 1 ≡ 4 ∷ 3 ∷ 1 ∷ [] }
-    ensures two { loads_after small small_phases 2 ≡ 8 ∷ 6 ∷ 2 ∷ [] }
+/// The rows of a run load each cell as its phases do.
+pub fn rows_load_what_phases_load()
+    ensures { (net : Network) (o : SolveOptions) (s : SolvedView) → IsNetwork net → IsPhasedRun net o s → loads_of net s.proof.routing.paths ≡ loads_after net (phases_of s) (length (phases_of s)) }
 {}
 
-/// A path comes before those that go on from it, and the first cell that differs decides.
-pub fn paths_are_in_order()
-    ensures part { list_lt (1 ∷ []) (1 ∷ 2 ∷ []) ≡ true }
-    ensures first { list_lt (1 ∷ 9 ∷ []) (2 ∷ []) ≡ true }
-    ensures same { list_lt (1 ∷ 2 ∷ []) (1 ∷ 2 ∷ []) ≡ false }
-{}
-
-/// What is solved is certified, at the asked gap.
-pub fn solved_is_certified()
-    ensures { (net : Network) (o : SolveOptions) (s : SolvedView) → IsSolved net o s → s.proof.gap ≡ o.gap → IsCertified net s.proof }
+/// A dual of least lengths, or of a cut, meets the conditions of a certificate.
+pub fn duals_show_their_bounds()
+    ensures bound { (net : Network) (lengths : List ℕ) (dual : DualRows) → IsNetwork net → AreLengths net.cells lengths → EmptyAreFar net.cells lengths → IsBoundOf net lengths dual → ShowsBound net lengths dual }
+    ensures cut { (net : Network) (dual : DualRows) → IsNetwork net → HasCut net → IsCutDual net dual → ShowsBound net (cut_lengths net.cells) dual }
 {}
 
 /// A run keeps the asked gap.
 pub fn run_keeps_the_gap()
     ensures { (net : Network) (o : SolveOptions) (s : SolvedView) → IsSolverRun net o s → s.proof.gap ≡ o.gap }
+{}
+
+/// A run is solved where its fractions are printed as they are: feasible, bounded, tight, with open only after the
+/// whole budget, and its certificate is valid and can be written.
+pub fn runs_are_solved()
+    ensures { (net : Network) (o : SolveOptions) (s : SolvedView) → IsNetwork net → AreOptions net o → IsSolverRun net o s → FractionsArePrinted net s.proof → s.proof.lower.micro < 1000000 → s.proof.upper.micro < 1000000 → IsSolved net o s }
+{}
+
+/// What is solved is certified, at the asked gap.
+pub fn solved_is_certified()
+    ensures { (net : Network) (o : SolveOptions) (s : SolvedView) → IsSolved net o s → s.proof.gap ≡ o.gap → IsCertified net s.proof }
 {}

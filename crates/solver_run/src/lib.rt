@@ -3,9 +3,14 @@
 
 mod laws;
 mod options;
+mod small;
 
 pub use laws::{
-    paths_are_in_order, run_keeps_the_gap, small_has_a_fullest_cell, small_has_groups,
-    small_phases_load, solved_is_certified,
+    duals_show_their_bounds, least_walks_are_short, phases_have_paths, rows_load_what_phases_load,
+    run_keeps_the_gap, runs_are_solved, solved_is_certified,
 };
 pub use options::{Entry, SolveOptions};
+pub use small::{
+    a_cut_is_solved, a_phase_is_solved, paths_are_in_order, small_has_a_fullest_cell,
+    small_has_groups, small_phases_load,
+};

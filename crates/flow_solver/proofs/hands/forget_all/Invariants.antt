@@ -1,0 +1,11 @@
+use Rattle.std.proofs.Common.{◌≡◌, ℕ, ◌<◌, ◌≤◌, [], slice_index_or}
+use Rattle.phase_engine.specs.declared.hand.Hand.{Hand}
+use Rattle.phase_engine.specs.Hands.{IsSameWorker}
+use Rattle.flow_solver.proofs.hands.forget_all.Given as goal
+
+abbrev pub invariant-loop-hand : goal.invariant-loop-hand
+invariant-loop-hand l = record {
+  cleared : (k : ℕ) (d : Hand) → k < l.hand-index → (slice_index_or l.hands k d).routes ≡ [];
+  back : (k : ℕ) (d : Hand) → k < l.hand-index → IsSameWorker (slice_index_or l.initial.hands k d) (slice_index_or l.hands k d) × ((slice_index_or l.hands k d).turn ≡ (slice_index_or l.initial.hands k d).turn);
+  rest : (k : ℕ) (d : Hand) → l.hand-index ≤ k → slice_index_or l.hands k d ≡ slice_index_or l.initial.hands k d;
+}

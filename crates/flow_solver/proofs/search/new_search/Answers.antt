@@ -1,0 +1,25 @@
+use Rattle.std.proofs.Common.{◌≡◌, ℕ, ◌*◌, List, length, sym, ap, ◌∙◌, subst, arith}
+use Rattle.std.proofs.lemmas.List.{length-replicate}
+use Rattle.flow_model.specs.declared.net.Cell.{Cell}
+use Rattle.path_history.specs.Rows.{HistoryView, phases_kept, AreRowsFor}
+use Rattle.solver_run.specs.History.{loads_after}
+use Rattle.mcf_limits.specs.declared.TheConstants.{MAX_TOTAL}
+use Rattle.flow_solver.proofs.Routing.{no-loads, none-above, idle-hands}
+use Rattle.flow_solver.proofs.search.new_search.Goals as goal
+
+pub returns-clause-search : goal.returns-clause-search
+returns-clause-search c =
+    let net = c.args.net.now in
+    let value = c.new.ensures.value in
+    let items = c.in_ok-zeros.field-0.items in
+    let zeros = c.in_ok-zeros.ensures in
+    let cells = ap (λ (xs : List Cell). length xs) c.cells-cells.ensures.value in
+    let count : length c.in_ok-new_hands.field-0.items ≡ c.args.workers = c.in_ok-new_hands.ensures.count in
+    record {
+      loads = subst (λ (h : HistoryView). items ≡ loads_after net (phases_kept h) (length h.history)) (sym value) (zeros ∙ no-loads net (length c.cells-cells.result.now) cells);
+      small = none-above items (length c.cells-cells.result.now) (length c.new.result.history * MAX_TOTAL) zeros;
+      lengths = ap (λ (xs : List ℕ). length xs) c.in_ok-zeros-2.ensures ∙ length-replicate (length c.cells-cells.result.now) 0 ∙ cells;
+      hands = idle-hands net.nodes c.in_ok-new_hands.field-0.items (omega (arith, count)) (omega (arith, count)) (λ k d l. c.in_ok-new_hands.ensures.fresh k d (omega (arith, count)));
+      commodities = ap (λ (h : HistoryView). h.commodities) value;
+      rows = subst (λ (h : HistoryView). AreRowsFor net h.history h.rows) (sym value) c.new.ensures.rows;
+    }

@@ -1,0 +1,3 @@
+pub mod Fullness
+pub mod Search
+pub mod Reached

@@ -1,0 +1,44 @@
+-- What a solve keeps from phase to phase.
+use Rattle.std.specs.Prelude.{◌≡◌, ℕ, ◌*◌, ◌<◌, ◌≤◌, List, [], ◌∷◌, ◌++◌, All, None, length, slice_index, slice_index_or}
+use Rattle.flow_model.specs.declared.setting.Setting.{Setting}
+use Rattle.flow_model.specs.Network.{Network}
+use Rattle.flow_core.specs.Phase.{Routed, IsPhase}
+use Rattle.phase_engine.specs.declared.hand.Hand.{Hand}
+use Rattle.path_history.specs.Rows.{phases_kept, AreRowsFor}
+use Rattle.solver_run.specs.History.{loads_after}
+use Rattle.mcf_limits.specs.declared.TheConstants.{MAX_TOTAL, MAX_WORKERS}
+use Rattle.flow_solver.specs.declared.search.Search.{Search}
+
+-- hand k between two phases: its number, no turn, and a scratch for so many nodes
+abbrev pub IsIdle : ℕ → ℕ → Hand → Type 0
+IsIdle nodes k h = (h.worker ≡ k) × (h.turn ≡ None) × (h.scratch.nodes ≡ nodes)
+
+-- one to sixteen hands between two phases
+pub record AreIdle (nodes : ℕ) (hands : List Hand) : Type 0 where
+  pub some : 1 ≤ length hands
+  pub few : length hands ≤ MAX_WORKERS
+  pub each : (k : ℕ) (d : Hand) → k < length hands → IsIdle nodes k (slice_index_or hands k d)
+
+-- the phases that are kept
+abbrev pub phases_in : Search → List (List Routed)
+phases_in s = phases_kept s.history
+
+-- how many they are
+abbrev pub phase_count : Search → ℕ
+phase_count s = length s.history.history
+
+-- the loads are those after the phases that are kept, with room for a length a cell, and rows and entries belong together
+pub record IsSearch (net : Network) (s : Search) : Type 0 where
+  pub loads : s.loads.items ≡ loads_after net (phases_in s) (phase_count s)
+  pub small : All (λ (x : ℕ). x ≤ phase_count s * MAX_TOTAL) s.loads.items
+  pub lengths : length s.lengths.items ≡ length net.cells
+  pub hands : AreIdle net.nodes s.hands.items
+  pub commodities : s.history.commodities ≡ length net.commodities
+  pub rows : AreRowsFor net s.history.history s.history.rows
+
+-- one phase more under the setting, which has loaded some cell
+pub record HasRouted (net : Network) (setting : Setting) (old new : Search) : Type 0 where
+  pub entries : List Routed
+  pub phases : phases_in new ≡ phases_in old ++ entries ∷ []
+  pub phase : IsPhase net setting old.loads.items new.loads.items entries
+  pub loaded : (c : ℕ) × (c < length net.cells) × (1 ≤ slice_index new.loads.items c)

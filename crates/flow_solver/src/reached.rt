@@ -1,0 +1,205 @@
+//! What a solve has reached after some phases.
+
+ghost use Rattle.std.specs.Prelude.{◌≡◌, ℕ, ◌+◌, ◌*◌, ◌<◌, ◌≤◌, ◌↔◌, true, false, IsTrue, IfOk, length, slice_index};
+ghost use Rattle.flow_model.specs.Lengths.{IsSetting};
+ghost use Rattle.flow_model.specs.Least.{HasNoCut};
+ghost use Rattle.solver_run.specs.History.{fill_after, first_setting};
+ghost use Rattle.solver_run.specs.Options.{AreOptions};
+ghost use Rattle.flow_solver.specs.Fullness.{IsFill, fullness};
+ghost use Rattle.flow_solver.specs.Reached.{IsMet, IsReached};
+ghost use Rattle.flow_solver.specs.Search.{IsSearch, phase_count, phases_in};
+
+use crate::fill::{Fill, fullest};
+use crate::kept::lesser;
+use crate::search::{Search, bound_of, new_search, route};
+use dual_bound::Bounded;
+use fixed_exp::Powers;
+use flow_model::{Groups, Net, Setting};
+use gap_fraction::Frac;
+use mcf_base::Gate;
+use mcf_limits::{MAX_GAP, MAX_LENGTH, MAX_PHASES};
+use net_graph::Graph;
+use solver_run::SolveOptions;
+use std::alloc::{AllocError, Global};
+use std::thread::Threads;
+
+/// After one phase or more: the search, the fullest cell of the first phase and that of all, and the least bound.
+#[derive(Drop)]
+pub struct Reached {
+    pub search: Search,
+    pub reference: Fill,
+    pub fill: Fill,
+    pub kept: Bounded,
+}
+
+/// The fullest cell, where some cell has a load.
+fn measured(net: &Net, search: &Search) -> Fill
+    requires search { IsSearch net.now search.now }
+    requires loaded { (c : ℕ) × (c < length net.now.cells) × (1 ≤ slice_index search.now.loads.items c) }
+    requires few { phase_count search.now ≤ MAX_PHASES }
+    ensures value { fullness result ≡ fill_after net.now (phases_in search.now) (phase_count search.now) }
+    ensures fits { IsFill result }
+{
+    fullest(net.cells(), &search.loads)
+}
+
+/// The setting of the first phase, in which loads have no effect.
+fn setting_at_first(step: u32) -> Setting
+    ensures { result ≡ record { first = true; ref_cap = 0; ref_load = 1; step = step } }
+{
+    Setting {
+        first: true,
+        ref_cap: 0,
+        ref_load: 1,
+        step,
+    }
+}
+
+/// The setting of every other phase, with the fullest cell of the first as the reference.
+fn setting_after_first(reference: Fill, step: u32) -> Setting
+    ensures { result ≡ record { first = false; ref_cap = reference.cap; ref_load = reference.load; step = step } }
+{
+    Setting {
+        first: false,
+        ref_cap: reference.cap,
+        ref_load: reference.load,
+        step,
+    }
+}
+
+/// The first phase, and the bound after it.
+pub fn first<G: Gate, R: Threads + Sync>(
+    rt: &R,
+    alloc: Global,
+    net: &Net,
+    groups: &Groups,
+    graph: &Graph,
+    powers: &Powers,
+    options: &SolveOptions,
+    gate: &G,
+) -> Result<Reached, AllocError>
+    requires groups { groups.now ≡ net.now }
+    requires graph { graph.now ≡ net.now }
+    requires no_cut { HasNoCut net.now }
+    requires options { AreOptions net.now options.now }
+    ensures reached { IfOk result (λ r. IsReached net.now options.now r) }
+    ensures count { IfOk result (λ r. phase_count r.search ≡ 1) }
+{
+    let mut search = new_search(alloc, net, options.workers)?;
+    let setting = setting_at_first(options.step);
+    route(
+        rt,
+        alloc,
+        net,
+        groups,
+        graph,
+        powers,
+        setting,
+        gate,
+        &mut search,
+    )?;
+    let fill = measured(net, &search);
+    let later = setting_after_first(fill, options.step);
+    let kept = bound_of(
+        rt,
+        alloc,
+        net,
+        graph,
+        powers,
+        &later,
+        &search.loads,
+        &mut search.lengths,
+    )?;
+    Ok(Reached {
+        search,
+        reference: fill,
+        fill,
+        kept,
+    })
+}
+
+/// One phase more, and the lesser of the least bound and the bound after it.
+pub fn next<G: Gate, R: Threads + Sync>(
+    rt: &R,
+    alloc: Global,
+    net: &Net,
+    groups: &Groups,
+    graph: &Graph,
+    powers: &Powers,
+    options: &SolveOptions,
+    gate: &G,
+    reached: Reached,
+) -> Result<Reached, AllocError>
+    requires groups { groups.now ≡ net.now }
+    requires graph { graph.now ≡ net.now }
+    requires no_cut { HasNoCut net.now }
+    requires options { AreOptions net.now options.now }
+    requires reached { IsReached net.now options.now reached }
+    requires unmet { ¬ (IsMet net.now options.now reached) }
+    requires budget { phase_count reached.search < options.now.phases }
+    ensures reached { IfOk result (λ r. IsReached net.now options.now r) }
+    ensures count { IfOk result (λ r. phase_count r.search ≡ phase_count reached.search + 1) }
+{
+    let Reached {
+        search,
+        reference,
+        fill: _,
+        kept,
+    } = reached;
+    let mut search = search;
+    let setting = setting_after_first(reference, options.step);
+    route(
+        rt,
+        alloc,
+        net,
+        groups,
+        graph,
+        powers,
+        setting,
+        gate,
+        &mut search,
+    )?;
+    let fill = measured(net, &search);
+    let later = bound_of(
+        rt,
+        alloc,
+        net,
+        graph,
+        powers,
+        &setting,
+        &search.loads,
+        &mut search.lengths,
+    )?;
+    Ok(Reached {
+        search,
+        reference,
+        fill,
+        kept: lesser(kept, later),
+    })
+}
+
+/// So many phases, as a fraction of every amount, where the fullest cell has this capacity and load.
+pub fn lower(phases: u32, fill: Fill) -> Frac
+    requires phases { phases ≤ MAX_PHASES }
+    requires fill { IsFill fill }
+    ensures value { result ≡ record { num = phases * fill.cap; den = fill.load } }
+    ensures num { result.num ≤ MAX_LENGTH }
+    ensures den { result.den ≤ MAX_LENGTH }
+{
+    Frac::new(
+        u128::from(phases) * u128::from(fill.cap),
+        u128::from(fill.load),
+    )
+}
+
+/// Whether the carried fraction and the least bound lie within the gap.
+pub fn is_met(net: &Net, options: &SolveOptions, reached: &Reached) -> bool
+    requires options { AreOptions net.now options.now }
+    requires reached { IsReached net.now options.now reached.now }
+    requires budget { phase_count reached.now.search ≤ options.now.phases }
+    ensures { IsTrue result ↔ IsMet net.now options.now reached.now }
+{
+    let _cells = net.cells();
+    let carried = lower(reached.search.history.phases(), reached.fill);
+    Frac::within(&carried, &reached.kept.value, options.gap)
+}

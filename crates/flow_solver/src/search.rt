@@ -1,0 +1,117 @@
+//! Loads, hands and history, from phase to phase.
+
+ghost use Rattle.std.specs.Prelude.{◌≡◌, ℕ, ◌+◌, ◌*◌, ◌<◌, ◌≤◌, [], IfOk, OnOk, All, length, replicate};
+ghost use Rattle.flow_model.specs.Least.{HasNoCut};
+ghost use Rattle.flow_model.specs.Lengths.{IsSetting, lengths_of};
+ghost use Rattle.flow_paths.specs.Certificate.{upper_of};
+ghost use Rattle.dual_bound.specs.Bounds.{IsBoundOf, ShowsBound};
+ghost use Rattle.flow_solver.specs.Search.{HasRouted, IsSearch, phase_count};
+
+use crate::hands::{forget_all, new_hands};
+use dual_bound::{Bounded, bound};
+use fixed_exp::Powers;
+use flow_model::{Groups, Net, Setting};
+use mcf_base::Gate;
+use mcf_limits::{MAX_LENGTH, MAX_PHASES, MAX_WORK, MAX_WORKERS};
+use net_graph::Graph;
+use path_history::PathHistory;
+use phase_engine::{Hand, phase};
+use std::alloc::{AllocError, Global};
+use std::thread::Threads;
+
+/// What some phases have made: the load of each cell, and who routed what. The lengths are room for those of a bound.
+#[derive(Drop)]
+pub struct Search {
+    pub loads: Vec<u64>,
+    pub lengths: Vec<u64>,
+    pub hands: Vec<Hand>,
+    pub history: PathHistory,
+}
+
+/// So many zeros.
+fn zeros(alloc: Global, count: usize) -> Result<Vec<u64>, AllocError>
+    ensures { IfOk result (λ v. v.items ≡ replicate count 0) }
+{
+    let zeros = vec![in alloc; 0; count]?;
+    Ok(zeros)
+}
+
+/// Before any phase.
+pub fn new_search(alloc: Global, net: &Net, workers: u16) -> Result<Search, AllocError>
+    requires some { 1 ≤ workers }
+    requires few { workers ≤ MAX_WORKERS }
+    ensures search { IfOk result (λ s. IsSearch net.now s) }
+    ensures nothing { IfOk result (λ s. s.history.history ≡ []) }
+{
+    let cells = net.cells().len();
+    Ok(Search {
+        loads: zeros(alloc, cells)?,
+        lengths: zeros(alloc, cells)?,
+        hands: new_hands(alloc, net, workers)?,
+        history: PathHistory::new(alloc, net),
+    })
+}
+
+/// One phase more. `Err` is for want of memory, and then the search can't go on.
+pub fn route<G: Gate, R: Threads + Sync>(
+    rt: &R,
+    alloc: Global,
+    net: &Net,
+    groups: &Groups,
+    graph: &Graph,
+    powers: &Powers,
+    setting: Setting,
+    gate: &G,
+    search: &mut Search,
+) -> Result<(), AllocError>
+    requires groups { groups.now ≡ net.now }
+    requires graph { graph.now ≡ net.now }
+    requires no_cut { HasNoCut net.now }
+    requires setting { IsSetting setting }
+    requires search { IsSearch net.now search.old }
+    requires phases { phase_count search.old < MAX_PHASES }
+    requires work { length net.now.commodities * (phase_count search.old + 1) ≤ MAX_WORK }
+    ensures search { OnOk result (IsSearch net.now search.new) }
+    ensures routed { OnOk result (HasRouted net.now setting search.old search.new) }
+{
+    let _commodities = net.commodities();
+    forget_all(&mut search.hands);
+    phase(
+        rt,
+        alloc,
+        net,
+        groups,
+        graph,
+        powers,
+        setting,
+        &mut search.loads,
+        &mut search.hands,
+        gate,
+    )?;
+    search.history.add_phase(alloc, net, &search.hands)?;
+    Ok(())
+}
+
+/// The bound of the lengths of these loads.
+pub fn bound_of<R: Threads + Sync>(
+    rt: &R,
+    alloc: Global,
+    net: &Net,
+    graph: &Graph,
+    powers: &Powers,
+    setting: &Setting,
+    loads: &[u64],
+    lengths: &mut [u64],
+) -> Result<Bounded, AllocError>
+    requires graph { graph.now ≡ net.now }
+    requires setting { IsSetting setting.now }
+    requires loads { length loads.now ≡ length net.now.cells }
+    requires small { All (λ x. x ≤ MAX_LENGTH) loads.now }
+    requires lengths { length lengths.old ≡ length net.now.cells }
+    ensures dual { IfOk result (λ b. IsBoundOf net.now (lengths_of net.now setting.now loads.now) b.dual) }
+    ensures shows { IfOk result (λ b. ShowsBound net.now (lengths_of net.now setting.now loads.now) b.dual) }
+    ensures value { IfOk result (λ b. b.value ≡ upper_of net.now b.dual) }
+{
+    powers.lengths(net, setting, loads, lengths);
+    bound(rt, alloc, net, graph, lengths)
+}

@@ -1,0 +1,217 @@
+//! From a network to a proof: a cut's, or that of all phases.
+
+ghost use Rattle.std.specs.Prelude.{◌≡◌, ℕ, ◌<◌, ◌≤◌, ◌↔◌, true, false, IsTrue, IfOk, length};
+ghost use Rattle.flow_model.specs.Least.{HasCut, HasNoCut};
+ghost use Rattle.net_graph.specs.Reach.{IsFirstCut};
+ghost use Rattle.flow_paths.specs.Certificate.{FractionsArePrinted};
+ghost use Rattle.solver_run.specs.Headline.{IsSolved};
+ghost use Rattle.solver_run.specs.Options.{AreOptions};
+ghost use Rattle.solver_run.specs.Run.{IsSolverRun};
+ghost use Rattle.flow_solver.specs.Reached.{IsMet, IsReached};
+ghost use Rattle.flow_solver.specs.Search.{phase_count};
+
+use crate::fill::Fill;
+use crate::printing::{printed_down, printed_up};
+use crate::reached::{Reached, first, is_met, lower, next};
+use crate::search::Search;
+use crate::solved::Solved;
+use dual_bound::{Bounded, cut_bound};
+use fixed_exp::Powers;
+use flow_model::{Groups, Net};
+use flow_paths::{PathStore, Proof, Routing};
+use gap_fraction::Frac;
+use mcf_base::Gate;
+use net_graph::Graph;
+use path_history::{Entries, OrderedHistory};
+use solver_run::SolveOptions;
+use std::alloc::{AllocError, Global};
+use std::thread::Threads;
+
+/// The last phase's state, and whether the gap was met.
+#[derive(Drop)]
+struct Ended {
+    reached: Reached,
+    closed: bool,
+}
+
+/// Phase after phase, until the gap is met or the budget is spent.
+fn all_phases<G: Gate, R: Threads + Sync>(
+    rt: &R,
+    alloc: Global,
+    net: &Net,
+    groups: &Groups,
+    graph: &Graph,
+    powers: &Powers,
+    options: &SolveOptions,
+    gate: &G,
+) -> Result<Ended, AllocError>
+    requires groups { groups.now ≡ net.now }
+    requires graph { graph.now ≡ net.now }
+    requires no_cut { HasNoCut net.now }
+    requires options { AreOptions net.now options.now }
+    ensures reached { IfOk result (λ e. IsReached net.now options.now e.reached) }
+    ensures budget { IfOk result (λ e. phase_count e.reached.search ≤ options.now.phases) }
+    ensures closed { IfOk result (λ e. IsTrue e.closed ↔ IsMet net.now options.now e.reached) }
+    ensures spent { IfOk result (λ e. e.closed ≡ false → phase_count e.reached.search ≡ options.now.phases) }
+{
+    let mut reached = first(rt, alloc, net, groups, graph, powers, options, gate)?;
+    'phases: loop {
+        if is_met(net, options, &reached) {
+            return Ok(Ended {
+                reached,
+                closed: true,
+            });
+        }
+        if reached.search.history.phases() >= options.phases {
+            return Ok(Ended {
+                reached,
+                closed: false,
+            });
+        }
+        reached = next(
+            rt, alloc, net, groups, graph, powers, options, gate, reached,
+        )?;
+    }
+}
+
+/// The proof of all phases, with the rows in order.
+fn finished(
+    alloc: Global,
+    net: &Net,
+    options: &SolveOptions,
+    ended: Ended,
+) -> Result<Solved, AllocError>
+    requires no_cut { HasNoCut net.now }
+    requires options { AreOptions net.now options.now }
+    requires reached { IsReached net.now options.now ended.reached }
+    requires budget { phase_count ended.reached.search ≤ options.now.phases }
+    requires closed { IsTrue ended.closed ↔ IsMet net.now options.now ended.reached }
+    requires spent { ended.closed ≡ false → phase_count ended.reached.search ≡ options.now.phases }
+    ensures run { IfOk result (λ s. IsSolverRun net.now options.now s) }
+    ensures printed { IfOk result (λ s. FractionsArePrinted net.now s.proof) }
+    ensures micro { IfOk result (λ s. (s.proof.lower.micro < 1000000) × (s.proof.upper.micro < 1000000)) }
+{
+    let Ended { reached, closed } = ended;
+    let Reached {
+        search,
+        reference: _,
+        fill,
+        kept,
+    } = reached;
+    let Search {
+        loads: _,
+        lengths: _,
+        hands: _,
+        history,
+    } = search;
+    let phases = history.phases();
+    let OrderedHistory { paths, entries } = history.ordered(alloc)?;
+    let Bounded { dual, value } = kept;
+    let proof = Proof {
+        closed,
+        gap: options.gap,
+        routing: Routing {
+            phases,
+            scale_cap: fill.cap,
+            scale_load: fill.load,
+            paths,
+        },
+        lower: printed_down(&lower(phases, fill)),
+        upper: printed_up(&value),
+        dual,
+    };
+    Ok(Solved::new(proof, entries))
+}
+
+/// The proof of a network with a cut.
+fn cut_off(
+    alloc: Global,
+    net: &Net,
+    graph: &Graph,
+    options: &SolveOptions,
+) -> Result<Solved, AllocError>
+    requires graph { graph.now ≡ net.now }
+    requires cut { (k : ℕ) × IsFirstCut net.now k }
+    ensures run { IfOk result (λ s. IsSolverRun net.now options.now s) }
+    ensures printed { IfOk result (λ s. FractionsArePrinted net.now s.proof) }
+    ensures micro { IfOk result (λ s. (s.proof.lower.micro < 1000000) × (s.proof.upper.micro < 1000000)) }
+{
+    let Bounded { dual, value } = cut_bound(alloc, net, graph)?;
+    let proof = Proof {
+        closed: true,
+        gap: options.gap,
+        routing: Routing {
+            phases: 0,
+            scale_cap: 0,
+            scale_load: 1,
+            paths: PathStore::new(alloc),
+        },
+        lower: printed_down(&Frac::new(0, 1)),
+        upper: printed_up(&value),
+        dual,
+    };
+    let entries = Entries::new(alloc, net.commodities().len() as u32);
+    Ok(Solved::new(proof, entries))
+}
+
+/// The proof of a network in which each commodity has a walk over positive cells.
+fn uncut<G: Gate, R: Threads + Sync>(
+    rt: &R,
+    alloc: Global,
+    net: &Net,
+    graph: &Graph,
+    options: &SolveOptions,
+    gate: &G,
+) -> Result<Solved, AllocError>
+    requires graph { graph.now ≡ net.now }
+    requires no_cut { HasNoCut net.now }
+    requires options { AreOptions net.now options.now }
+    ensures run { IfOk result (λ s. IsSolverRun net.now options.now s) }
+    ensures printed { IfOk result (λ s. FractionsArePrinted net.now s.proof) }
+    ensures micro { IfOk result (λ s. (s.proof.lower.micro < 1000000) × (s.proof.upper.micro < 1000000)) }
+{
+    let groups = Groups::new(alloc, net)?;
+    let powers = Powers::new();
+    let ended = all_phases(rt, alloc, net, &groups, graph, &powers, options, gate)?;
+    finished(alloc, net, options, ended)
+}
+
+/// A cut's proof, or that of all phases.
+fn certified<G: Gate, R: Threads + Sync>(
+    rt: &R,
+    alloc: Global,
+    net: &Net,
+    options: &SolveOptions,
+    gate: &G,
+) -> Result<Solved, AllocError>
+    requires { AreOptions net.now options.now }
+    ensures run { IfOk result (λ s. IsSolverRun net.now options.now s) }
+    ensures printed { IfOk result (λ s. FractionsArePrinted net.now s.proof) }
+    ensures micro { IfOk result (λ s. (s.proof.lower.micro < 1000000) × (s.proof.upper.micro < 1000000)) }
+{
+    let graph = Graph::new(alloc, net)?;
+    match graph.first_cut(alloc, net)? {
+        Some(_) => cut_off(alloc, net, &graph, options),
+        None => uncut(rt, alloc, net, &graph, options, gate),
+    }
+}
+
+/// A certificate of the network, and its history. Paths carry one fraction of every amount within every capacity, and
+/// lengths bound the fraction of every feasible routing. It is closed exactly where the two lie within the asked gap,
+/// and open only after the whole phase budget. `Err` is for want of memory. It may wait for its workers.
+pub fn solve<G: Gate, R: Threads + Sync>(
+    rt: &R,
+    alloc: Global,
+    net: &Net,
+    options: &SolveOptions,
+    gate: &G,
+) -> Result<Solved, AllocError>
+    requires { AreOptions net.now options.now }
+    ensures run { IfOk result (λ s. IsSolverRun net.now options.now s) }
+    ensures printed { IfOk result (λ s. FractionsArePrinted net.now s.proof) }
+    ensures solved { IfOk result (λ s. IsSolved net.now options.now s) }
+{
+    let _cells = net.cells();
+    let solved = certified(rt, alloc, net, options, gate)?;
+    Ok(solved)
+}

@@ -1,0 +1,12 @@
+pub mod Carried
+pub mod Duals
+pub mod Exchange
+pub mod Fill
+pub mod Members
+pub mod Paths
+pub mod Rows
+pub mod Short
+pub mod SmallCut
+pub mod SmallLink
+pub mod Solved
+pub mod Weights
