@@ -1,0 +1,158 @@
+-- What is said of texts, from what they are read as.
+use Rattle.std.proofs.Common.{◌≡◌, ℕ, ◌≤◌, Bool, List, Result, Ok, Err, refl, ap, subst}
+use Rattle.text_lines.specs.Lines.{lines_of}
+use Rattle.gap_fraction.specs.Fraction.{Fraction}
+use Rattle.net_options.specs.declared.options.NetOptions.{NetOptions}
+use Rattle.flow_model.specs.Network.{Network}
+use Rattle.flow_paths.specs.declared.certificate.Routing.{Routing}
+use Rattle.flow_paths.specs.declared.certificate.Proof.{Proof}
+use Rattle.flow_model.specs.Routing.{IsFeasible}
+use Rattle.flow_paths.specs.Certificate.{routing_of, IsValid, IsValidRouting}
+use Rattle.sndlib_grammar.specs.Rows.{NetRows}
+use Rattle.sndlib_grammar.specs.declared.refusal.NetRefusal.{NetRefusal}
+use Rattle.unit_scale.specs.Sizes.{decimals_of, sizes}
+use Rattle.unit_scale.specs.Scaling.{ScaledNet, scaled_of, scaled_with, refusal}
+use Rattle.cert_names.specs.Sheet.{IsOf, sheet_of}
+use Rattle.cert_lines.specs.declared.net_line.TheConstants.{MAX_COUNT}
+use Rattle.cert_lines.specs.declared.refusal.CertRefusal.{CertRefusal}
+use Rattle.cert_text.specs.declared.papers.Paper.{Paper}
+use Rattle.cert_text.specs.declared.papers.Paper.TheVariants as papers
+use Rattle.cert_text.specs.declared.opening.CertHead.{CertHead}
+use Rattle.cert_text.specs.Whole.{head_in, paper_in}
+use Rattle.cert_writer.specs.Text.{FitsProof, FitsRouting, certificate_text, routing_text}
+use Rattle.cert_laws.specs.Fits.{FitsPaper}
+use Rattle.cert_check.specs.declared.verdict.Fault.{Fault}
+use Rattle.cert_check.specs.declared.verdict.Fault.TheVariants.{C1, C2, C3, C4, C5, C6, C7, C8, C9, C10}
+use Rattle.cert_check.specs.Verdict.{IsFirstRouteFault, IsFirstFault}
+use Rattle.cert_judge.specs.declared.judged.Judged.{Judged}
+use Rattle.cert_judge.specs.declared.judged.Judged.TheVariants.{NetRefused, CertRefused, Invalid, Feasible, Valid}
+use Rattle.cert_judge.specs.Judgement.{options_of, IsSaidOf, OnPaper, OnNet, OnHead, IsJudgement}
+use Rattle.cert_inverse.specs.Inverse.{paper_text}
+use Rattle.cert_inverse.specs.Judging.{valid_of, feasible_of, IsValidText, IsFeasibleText}
+use Rattle.cert_inverse.proofs.NetworkWords.{accepted, citable, is_scaled}
+use Rattle.cert_inverse.proofs.HeadsAgain.{heads_again}
+use Rattle.cert_inverse.proofs.TextAgain.{reads_back}
+use Rattle.cert_inverse.proofs.Exactly.{text_is}
+
+-- the network was scaled under its options
+under_options : (rows : NetRows) (net : ScaledNet) → IsOf rows net → scaled_of rows net.options ≡ Ok net
+under_options rows net h = subst (λ (o : NetOptions). scaled_of rows o ≡ Ok net) (ap (λ (n : ScaledNet). n.options) (is_scaled rows net h)) h.scaled
+
+-- what is written is judged as what was written
+pub written : (rows : NetRows) (net : ScaledNet) (paper : Paper) (judged : Judged) → IsOf rows net → rows.skipped ≤ MAX_COUNT → FitsPaper (sheet_of rows net) paper → IsJudgement rows (paper_text (sheet_of rows net) paper) judged → IsSaidOf net.options net.net paper judged
+written rows net paper judged h few fits said =
+    let sheet = sheet_of rows net in
+    let lines = lines_of (paper_text sheet paper) in
+    let own = citable rows net h few in
+    let head = heads_again sheet net.options paper own fits (record { links = refl; modules = refl }) in
+    let at_head : OnNet rows lines net.options (scaled_of rows net.options) judged = subst (λ (r : Result CertHead CertRefusal). OnHead rows lines r judged) head said in
+    let at_net : OnPaper net.options net.net (paper_in sheet lines) judged = subst (λ (r : Result ScaledNet NetRefusal). OnNet rows lines net.options r judged) (under_options rows net h) at_head in
+    subst (λ (r : Result Paper CertRefusal). OnPaper net.options net.net r judged) (reads_back sheet paper own fits) at_net
+
+-- no condition of a valid routing or certificate fails
+no_route_fault : (net : Network) (r : Routing) → IsValidRouting net r → (fault : Fault) → IsFirstRouteFault net r fault → ⊥
+no_route_fault net r v C1 h = h v.walks
+no_route_fault net r v C2 h = h.1 v.carried
+no_route_fault net r v C3 h = h.2 v.loads
+no_route_fault net r v C4 h = h.3 v.scale
+no_route_fault net r v C5 h = h
+no_route_fault net r v C6 h = h
+no_route_fault net r v C7 h = h
+no_route_fault net r v C8 h = h
+no_route_fault net r v C9 h = h
+no_route_fault net r v C10 h = h
+
+no_fault : (net : Network) (p : Proof) → IsValid net p → (fault : Fault) → IsFirstFault net p fault → ⊥
+no_fault net p v C1 h = h v.routing.walks
+no_fault net p v C2 h = h.1 v.routing.carried
+no_fault net p v C3 h = h.2 v.routing.loads
+no_fault net p v C4 h = h.3 v.routing.scale
+no_fault net p v C5 h = h.1 v.lengths
+no_fault net p v C6 h = h.2 v.sources
+no_fault net p v C7 h = h.3 v.potentials
+no_fault net p v C8 h = h.4 v.distance
+no_fault net p v C9 h = h.5 v.printed
+no_fault net p v C10 h = h.6 v.verdict
+
+said_valid : (net : ScaledNet) (p : Proof) → IsValid net.net p → (judged : Judged) → IsSaidOf net.options net.net (papers.Full p) judged → judged ≡ valid_of net p
+said_valid net p v (Valid options closed lower upper) h = let o = h.0 in let c = h.1 in let l = h.2 in let u = h.3 in cc
+said_valid net p v (Invalid fault) h = absurd (no_fault net.net p v fault h)
+said_valid net p v (NetRefused r) h = absurd h
+said_valid net p v (CertRefused r) h = absurd h
+said_valid net p v (Feasible options value) h = absurd h
+
+said_feasible : (net : ScaledNet) (r : Routing) → IsValidRouting net.net r → (judged : Judged) → IsSaidOf net.options net.net (papers.Routing r) judged → judged ≡ feasible_of net r
+said_feasible net r v (Feasible options value) h = let o = h.0 in let l = h.1 in cc
+said_feasible net r v (Invalid fault) h = absurd (no_route_fault net.net r v fault h)
+said_feasible net r v (NetRefused f) h = absurd h
+said_feasible net r v (CertRefused f) h = absurd h
+said_feasible net r v (Valid options closed lower upper) h = absurd h
+
+pub valid_certificate : (rows : NetRows) (net : ScaledNet) (p : Proof) (judged : Judged) → IsOf rows net → rows.skipped ≤ MAX_COUNT → FitsProof (sheet_of rows net) p → IsValid net.net p → IsJudgement rows (certificate_text (sheet_of rows net) p) judged → judged ≡ valid_of net p
+valid_certificate rows net p judged h few fits v said = said_valid net p v judged (written rows net (papers.Full p) judged h few fits said)
+
+pub valid_routing : (rows : NetRows) (net : ScaledNet) (r : Routing) (judged : Judged) → IsOf rows net → rows.skipped ≤ MAX_COUNT → FitsRouting (sheet_of rows net) r → IsValidRouting net.net r → IsJudgement rows (routing_text (sheet_of rows net) r) judged → judged ≡ feasible_of net r
+valid_routing rows net r judged h few fits v said = said_feasible net r v judged (written rows net (papers.Routing r) judged h few fits said)
+
+-- ---- from what is said to the text
+
+-- the network that the text's head asks for, and what is read with its names
+record IsReached (rows : NetRows) (text : List ℕ) (judged : Judged) : Type 0 where
+  net : ScaledNet
+  paper : Paper
+  scaled : scaled_of rows net.options ≡ Ok net
+  spelled : text ≡ paper_text (sheet_of rows net) paper
+  said : IsSaidOf net.options net.net paper judged
+
+-- the options of a network are those that it was scaled under
+its_options : (rows : NetRows) (o : NetOptions) (net : ScaledNet) → scaled_of rows o ≡ Ok net → o ≡ net.options
+its_options rows o net e =
+    let s = decimals_of (sizes o.modules rows) in
+    ap (λ (n : ScaledNet). n.options) (accepted (scaled_with o s rows) net (refusal o.modules s rows) e)
+
+-- something is said of what is read, and not of a refusal
+abbrev IsOfPaper : Judged → Type 0
+IsOfPaper (NetRefused r) = ⊥
+IsOfPaper (CertRefused r) = ⊥
+IsOfPaper (Invalid fault) = Unit {0}
+IsOfPaper (Feasible options value) = Unit {0}
+IsOfPaper (Valid options closed lower upper) = Unit {0}
+
+on_paper : (rows : NetRows) (text : List ℕ) (judged : Judged) (net : ScaledNet) → IsOfPaper judged → scaled_of rows net.options ≡ Ok net → (read : Result Paper CertRefusal) → paper_in (sheet_of rows net) (lines_of text) ≡ read → OnPaper net.options net.net read judged → IsReached rows text judged
+on_paper rows text judged net own scaled (Ok paper) e said = record { net = net; paper = paper; scaled = scaled; spelled = text_is (sheet_of rows net) text paper e; said = said }
+on_paper rows text judged net own scaled (Err r) e said = absurd (subst IsOfPaper said own)
+
+on_net : (rows : NetRows) (text : List ℕ) (judged : Judged) (o : NetOptions) → IsOfPaper judged → (read : Result ScaledNet NetRefusal) → scaled_of rows o ≡ read → OnNet rows (lines_of text) o read judged → IsReached rows text judged
+on_net rows text judged o own (Ok net) e said =
+    let is = its_options rows o net e in
+    on_paper rows text judged net own (subst (λ (q : NetOptions). scaled_of rows q ≡ Ok net) is e) (paper_in (sheet_of rows net) (lines_of text)) refl
+    (subst (λ (q : NetOptions). OnPaper q net.net (paper_in (sheet_of rows net) (lines_of text)) judged) is said)
+on_net rows text judged o own (Err r) e said = absurd (subst IsOfPaper said own)
+
+on_head : (rows : NetRows) (text : List ℕ) (judged : Judged) → IsOfPaper judged → (read : Result CertHead CertRefusal) → OnHead rows (lines_of text) read judged → IsReached rows text judged
+on_head rows text judged own (Ok head) said = on_net rows text judged (options_of head) own (scaled_of rows (options_of head)) refl said
+on_head rows text judged own (Err r) said = absurd (subst IsOfPaper said own)
+
+as_certificate : (rows : NetRows) (text : List ℕ) (net : ScaledNet) (options : NetOptions) (closed : Bool) (lower upper : Fraction) → scaled_of rows net.options ≡ Ok net → (paper : Paper) → text ≡ paper_text (sheet_of rows net) paper
+    → IsSaidOf net.options net.net paper (Valid options closed lower upper) → IsValidText rows text (Valid options closed lower upper)
+as_certificate rows text net options closed lower upper scaled (papers.Full p) spelled said =
+    let is : Valid options closed lower upper ≡ valid_of net p = (let o = said.0 in let c = said.1 in let l = said.2 in let u = said.3 in cc) in
+    record { net = net; proof = p; scaled = scaled; spelled = spelled; valid = said.4; certified = said.5; said = is }
+as_certificate rows text net options closed lower upper scaled (papers.Routing r) spelled said = absurd said
+
+pub judged_certificate : (rows : NetRows) (text : List ℕ) (options : NetOptions) (closed : Bool) (lower upper : Fraction) → IsJudgement rows text (Valid options closed lower upper) → IsValidText rows text (Valid options closed lower upper)
+judged_certificate rows text options closed lower upper said =
+    let r = on_head rows text (Valid options closed lower upper) tt (head_in (lines_of text)) said in
+    as_certificate rows text r.net options closed lower upper r.scaled r.paper r.spelled r.said
+
+as_routing : (rows : NetRows) (text : List ℕ) (net : ScaledNet) (options : NetOptions) (value : Fraction) → scaled_of rows net.options ≡ Ok net → (paper : Paper) → text ≡ paper_text (sheet_of rows net) paper
+    → IsSaidOf net.options net.net paper (Feasible options value) → IsFeasibleText rows text (Feasible options value)
+as_routing rows text net options value scaled (papers.Routing r) spelled said =
+    let is : Feasible options value ≡ feasible_of net r = (let o = said.0 in let v = said.1 in cc) in
+    record { net = net; routing = r; scaled = scaled; spelled = spelled; valid = said.2; feasible = subst (λ (f : Fraction). IsFeasible net.net (routing_of r) f.num f.den) said.1 said.3; said = is }
+as_routing rows text net options value scaled (papers.Full p) spelled said = absurd said
+
+pub judged_routing : (rows : NetRows) (text : List ℕ) (options : NetOptions) (value : Fraction) → IsJudgement rows text (Feasible options value) → IsFeasibleText rows text (Feasible options value)
+judged_routing rows text options value said =
+    let r = on_head rows text (Feasible options value) tt (head_in (lines_of text)) said in
+    as_routing rows text r.net options value r.scaled r.paper r.spelled r.said

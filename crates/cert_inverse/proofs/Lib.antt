@@ -1,0 +1,16 @@
+pub mod Between
+pub mod Clean
+pub mod CountTakes
+pub mod Decimals
+pub mod Exactly
+pub mod HeadAgain
+pub mod HeadTakes
+pub mod HeadsAgain
+pub mod JudgedTexts
+pub mod NetworkWords
+pub mod PlacesAgain
+pub mod RowAgain
+pub mod RowTakes
+pub mod TextAgain
+pub mod TextTakes
+pub mod Words

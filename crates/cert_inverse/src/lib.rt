@@ -1,0 +1,16 @@
+//! Texts of certificates and routings both ways: what is written is read and judged as the same, and what is read was
+//! written so.
+#![tactic(auto)]
+
+mod judging;
+mod laws;
+mod networks;
+
+pub use judging::{
+    judged_texts_are_written, valid_texts_are_judged_valid, written_texts_are_judged,
+};
+pub use laws::{
+    heads_read_back, read_texts_are_written, readings_are_exact, texts_are_of_one,
+    texts_read_exactly, written_texts_read_back,
+};
+pub use networks::{is_citable, networks_are_citable};
