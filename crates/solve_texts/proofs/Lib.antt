@@ -1,0 +1,4 @@
+pub mod Figures
+pub mod DualNumbers
+pub mod PathWeights
+pub mod Written
