@@ -1,7 +1,6 @@
 -- The lengths and potentials of what is solved are at most 2 ^ 62.
-use Rattle.std.proofs.Common.{◌≡◌, inl, inr, ℕ, suc, ◌+◌, ◌*◌, ◌^◌, ◌<◌, ◌≤◌, Bool, true, false, cond, eqb, List, [], ◌∷◌, Option, Some, None, length, get_or, map, refl, sym, ap, subst, ◌∙◌, arith}
+use Rattle.std.proofs.Common.{◌≡◌, inl, inr, ℕ, suc, ◌+◌, ◌*◌, ◌^◌, ◌<◌, ◌≤◌, Bool, true, false, cond, eqb, List, [], ◌∷◌, Option, Some, None, length, get_or, refl, sym, subst, ◌∙◌, arith}
 use Rattle.std.specs.Prelude.{All}
-use Rattle.std.specs.Option.{option_map_or}
 use Rattle.std.proofs.Math.Nat.{mul-le-mul_right}
 use Rattle.std.proofs.lemmas.List.{length-map}
 use Rattle.std.proofs.lemmas.List.FromFn.{length-map-range_with_len}
@@ -16,10 +15,10 @@ use Rattle.flow_model.specs.Least.{IsLeast, far_or}
 use Rattle.flow_model.specs.Bound.{walk_length}
 use Rattle.fixed_exp.specs.Far.{EmptyAreFar}
 use Rattle.fixed_exp.proofs.Passes.{lengths-fit, empty-far}
-use Rattle.flow_paths.specs.DualRows.{Length, Potential, DualRows}
+use Rattle.flow_paths.specs.DualRows.{Length, DualRows}
 use Rattle.flow_paths.specs.Certificate.{IsPotentialOf, upper_of}
 use Rattle.flow_paths.specs.Evaluation.{fraction_le}
-use Rattle.dual_bound.specs.Bounds.{length_rows, IsRowWith, IsDualWith, IsDistance, IsBoundOf, IsCutPotential, IsCutDual, cut_lengths}
+use Rattle.dual_bound.specs.Bounds.{length_rows, IsDualWith, IsDistance, IsBoundOf, IsCutPotential, IsCutDual, cut_lengths}
 use Rattle.dual_bound.proofs.Bounding.{lengths-small}
 use Rattle.solver_run.specs.declared.options.SolveOptions.{SolveOptions}
 use Rattle.solver_run.specs.History.{SolvedView, phases_of, loads_after, later_setting}

@@ -1,16 +1,16 @@
 -- The fractions of a certificate, their parts and the whole numbers that are printed of them.
-use Rattle.std.proofs.Common.{◌≡◌, ℕ, zero, suc, ◌+◌, ◌-◌, ◌*◌, ◌/◌, ◌^◌, ◌<◌, ◌≤◌, Bool, true, false, cond, eqb, List, [], ◌∷◌, Option, Some, None, length, get_or, map, refl, sym, ap, subst, ◌∙◌, arith}
+use Rattle.std.proofs.Common.{◌≡◌, ℕ, zero, suc, ◌+◌, ◌-◌, ◌*◌, ◌/◌, ◌<◌, ◌≤◌, Bool, true, false, cond, eqb, List, [], ◌∷◌, Some, length, get_or, ap, arith}
 use Rattle.std.specs.Prelude.{All, find}
 use Rattle.std.specs.List.{sum_by, range_with_len}
 use Rattle.std.specs.Option.{option_map_or}
 use Rattle.std.proofs.Math.Nat.{div-le_self, div-le_of_le-mul, mul-le-mul, mul-le-mul_left, mul-le-mul_right}
 use Rattle.std.proofs.lemmas.List.Sums.{sum_by-cons, sum_by-le}
-use Rattle.std.proofs.lemmas.List.Elements.{All-head, All-tail, All-map, All-weaker, All-from_get_or}
+use Rattle.std.proofs.lemmas.List.Elements.{All-head, All-tail, All-map, All-weaker}
 use Rattle.mcf_limits.specs.declared.TheConstants.{MAX_CELLS, MAX_LENGTH, MAX_PHASES, MAX_TOTAL, MAX_UNITS}
 use Rattle.flow_model.specs.declared.net.Cell.{Cell}
 use Rattle.flow_model.specs.declared.net.Commodity.{Commodity}
 use Rattle.flow_model.specs.Network.{Network, IsNetwork, IsCell}
-use Rattle.flow_model.specs.Bound.{weighted_sum, volume, weighted_distance}
+use Rattle.flow_model.specs.Bound.{weighted_sum}
 use Rattle.gap_fraction.specs.declared.fraction.TheConstants.{MAX_PART}
 use Rattle.gap_fraction.specs.Fraction.{Fraction}
 use Rattle.gap_fraction.specs.Decimals.{millionths_down, millionths_up}
