@@ -1,0 +1,5 @@
+pub mod DualNumbers
+pub mod Figures
+pub mod Judged
+pub mod PathWeights
+pub mod Written
