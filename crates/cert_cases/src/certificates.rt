@@ -100,6 +100,37 @@ const GREAT: Case = Case {
     closed: true,
 };
 
+// A capacity of 7, and a demand of 10 that is carried once: 7/10, and a bound a little above 21/20, which stands one and a half times and a little as high. Of the six decimals it would be a millionth more.
+const NEAR: Case = Case {
+    cap: 7,
+    both: false,
+    amount: 10,
+    phases: 1,
+    scale_cap: 7,
+    scale_load: 10,
+    paths: Paths::Once,
+    weight: 10,
+    length_rows: 1,
+    size: 3000000000000001,
+    rows: Rows::Source,
+    near: 0,
+    far: 2000000000000000,
+    lower: Printed {
+        num: 7,
+        den: 10,
+        whole: 0,
+        micro: 700000,
+    },
+    upper: Printed {
+        num: 21000000000000007,
+        den: 20000000000000000,
+        whole: 1,
+        micro: 50001,
+    },
+    gap: 500001,
+    closed: true,
+};
+
 // One thing wrong.
 fn one_wrong(alloc: Global) -> Result<Vec<Wanted>, AllocError> {
     let no_scale = Case {
@@ -111,6 +142,30 @@ fn one_wrong(alloc: Global) -> Result<Vec<Wanted>, AllocError> {
         (RIGHT, None),
         (CUT, None),
         (GREAT, None),
+        (NEAR, None),
+        (
+            Case {
+                gap: 500000,
+                closed: false,
+                ..NEAR
+            },
+            None,
+        ),
+        (
+            Case {
+                closed: false,
+                ..NEAR
+            },
+            Some(Fault::C10),
+        ),
+        (
+            Case {
+                gap: 500000,
+                ..NEAR
+            },
+            Some(Fault::C10),
+        ),
+        (Case { size: 0, ..CUT }, Some(Fault::C7)),
         (
             Case {
                 paths: Paths::Twice,

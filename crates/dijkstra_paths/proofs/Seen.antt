@@ -3,7 +3,7 @@ use Rattle.std.proofs.Common.{◌≡◌, inl, inr, ℕ, zero, suc, [], ◌∷◌
 use Rattle.std.proofs.lemmas.Bool.{cases_lt, lt-ltb, le-ltb}
 use Rattle.flow_model.specs.Network.{Network}
 use Rattle.dijkstra_paths.specs.declared.search.Step.{Step}
-use Rattle.dijkstra_paths.specs.Searched.{known, IsNear}
+use Rattle.dijkstra_paths.specs.Searched.{known, paths_from, IsNear}
 use Rattle.flow_model.specs.Least.{IsLeast}
 use Rattle.dijkstra_paths.proofs.Least.{IsFound, walk-bound, walk-by, walk-reaches, way-reaches}
 use Rattle.dijkstra_paths.proofs.Relaxed.{pass-inside}
@@ -14,6 +14,24 @@ known-near d h = rw (lt-ltb d MAX_LENGTH h) refl
 
 pub known-far : (d : ℕ) → MAX_LENGTH ≤ d → known d ≡ None
 known-far d h = rw (le-ltb d MAX_LENGTH h) refl
+
+-- without distances there are none to be seen
+blank_dists : (dist : List ℕ) → ((i : ℕ) → i < length dist → get_or dist i 0 ≡ MAX_LENGTH) → (v : ℕ) → get_or (map known dist) v None ≡ None
+blank_dists [] far v = refl
+blank_dists (d ∷ dist) far zero = rw (far zero (omega arith)) (known-far MAX_LENGTH (omega arith))
+blank_dists (d ∷ dist) far (suc v) = blank_dists dist (λ i l. far (suc i) (omega (arith, l))) v
+
+-- nor paths
+blank_paths : (via : List Step) (from nodes u : ℕ) (dist : List ℕ) → ((i : ℕ) → i < length dist → get_or dist i 0 ≡ MAX_LENGTH)
+    → (v : ℕ) → get_or (paths_from via from nodes u dist) v None ≡ None
+blank_paths via from nodes u [] far v = refl
+blank_paths via from nodes u (d ∷ dist) far zero = rw (far zero (omega arith)) refl
+blank_paths via from nodes u (d ∷ dist) far (suc v) = blank_paths via from nodes (suc u) dist (λ i l. far (suc i) (omega (arith, l))) v
+
+-- before a search no node has a distance or a path
+pub blank_view : (via : List Step) (from nodes : ℕ) (dist : List ℕ) → ((i : ℕ) → i < length dist → get_or dist i 0 ≡ MAX_LENGTH)
+    → (v : ℕ) → (get_or (map known dist) v None ≡ None) × (get_or (paths_from via from nodes 0 dist) v None ≡ None)
+blank_view via from nodes dist far v = (blank_dists dist far v, blank_paths via from nodes 0 dist far v)
 
 pub known-at : (dist : List ℕ) (v : ℕ) → v < length dist → get_or (map known dist) v None ≡ known (get_or dist v 0)
 known-at [] v l = absurd (omega arith)

@@ -47,8 +47,17 @@ fn numbers(alloc: Global, n: u16) -> Result<Vec<u16>, AllocError>
     Ok(numbers)
 }
 
+/// So many distances, of nodes that no walk reaches.
+fn unreached(alloc: Global, n: usize) -> Result<Vec<u64>, AllocError>
+    ensures count { IfOk result (λ v. length v.items ≡ n) }
+    ensures each { IfOk result (λ v. (k : ℕ) → k < length v.items → slice_index v.items k ≡ MAX_LENGTH) }
+{
+    let dist = vec![in alloc; MAX_LENGTH; n]?;
+    Ok(dist)
+}
+
 impl Scratch {
-    ghost use Rattle.std.specs.Prelude.{◌≡◌, ℕ, ◌<◌, ◌≤◌, length, IfOk, IfSome};
+    ghost use Rattle.std.specs.Prelude.{◌≡◌, ℕ, ◌<◌, ◌≤◌, None, length, IfOk, IfSome};
     ghost use Rattle.std.specs.Option.{option_map};
     ghost use Rattle.std.specs.Borrow.{sem};
     ghost use Rattle.dijkstra_paths.specs.Lending.{Keeps};
@@ -56,17 +65,19 @@ impl Scratch {
     ghost use Rattle.flow_model.specs.Least.{IsLeast};
     ghost use Rattle.flow_model.specs.Lengths.{AreLengths};
 
+    /// Room for searches over so many nodes. Before the first search no node has a distance or a path.
     pub fn new(alloc: Global, nodes: u16, cells: u16) -> Result<Self, AllocError>
         requires { nodes ≤ MAX_NODES }
         ensures nodes { IfOk result (λ s. s.nodes ≡ nodes) }
         ensures cells { IfOk result (λ s. s.cells ≡ cells) }
+        ensures blank { IfOk result (λ s. (v : ℕ) → (dist_at s v ≡ None) × (path_at s v ≡ None)) }
     {
         let n = nodes as usize;
         Ok(Scratch {
             nodes,
             cells,
             from: 0,
-            dist: vec![in alloc; MAX_LENGTH; n]?,
+            dist: unreached(alloc, n)?,
             steps: vec![in alloc; Step { cell: 0, from: 0 }; n]?,
             order: numbers(alloc, nodes)?,
             place: numbers(alloc, nodes)?,
