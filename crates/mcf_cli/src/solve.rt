@@ -5,6 +5,8 @@ ghost use Rattle.sndlib_grammar.specs.Rows.{AreNetRows};
 ghost use Rattle.sndlib_grammar.specs.Net.{rows_of};
 ghost use Rattle.cert_names.specs.Sheet.{IsOf, sheet_of};
 ghost use Rattle.cert_writer.specs.Text.{FitsProof};
+ghost use Rattle.solver_run.specs.declared.options.SolveOptions.{SolveOptions};
+ghost use Rattle.solver_run.specs.Headline.{IsSolved};
 ghost use Rattle.net_solve.specs.Asked.{IsAsked};
 ghost use Rattle.mcf_cli.specs.Answer.{Writes};
 ghost use Rattle.mcf_cli.specs.Check.{IsTold};
@@ -22,6 +24,7 @@ use mcf_limits::MAX_NET_BYTES;
 use mcf_words::Request;
 use net_solve::{Asked, Solving, solve_rows};
 use sndlib_read::RawNet;
+use solve_texts::solved_can_be_written;
 use std::alloc::Global;
 use std::thread::Threads;
 use unit_scale::Scaled;
@@ -33,7 +36,7 @@ fn verdict_status(closed: bool) -> u8
     if closed { 0 } else { 1 }
 }
 
-// Writes the certificate of a solve of the rows.
+// Writes the certificate, which fits its text.
 fn write_solved<K: Sink>(raw: &RawNet<'_>, net: &Scaled, solved: Solved, out: &mut K) -> Ended
     requires of { IsOf raw.now net.now }
     requires fits { FitsProof (sheet_of raw.now net.now) solved.proof }
@@ -47,6 +50,17 @@ fn write_solved<K: Sink>(raw: &RawNet<'_>, net: &Scaled, solved: Solved, out: &m
         },
         Err(_) => Ended::told(5),
     }
+}
+
+// Writes the certificate of a solve of the rows.
+fn tell_solved<K: Sink>(raw: &RawNet<'_>, net: &Scaled, solved: Solved, out: &mut K) -> Ended
+    requires of { IsOf raw.now net.now }
+    requires solved { (o : SolveOptions) × IsSolved net.now.net o solved }
+    ensures { Writes (K.written out.old) (K.written out.new) (K.faults out.old) (K.faults out.new) result (solve_answer raw.now net.now solved) }
+{
+    solved_can_be_written();
+    let _nodes = net.net().nodes();
+    write_solved(raw, net, solved, out)
 }
 
 // What the words ask of a solve.
@@ -75,7 +89,7 @@ fn solve_and_tell<K: Sink, G: Gate, R: Threads + Sync>(
     ensures { IsTold (SolvesRows request.now raw.now) (K.written out.old) (K.written out.new) (K.faults out.old) (K.faults out.new) result }
 {
     match solve_rows(rt, alloc, raw, request.net, &asked_by(request), gate) {
-        Ok(Solving::Done(net, solved)) => write_solved(raw, &net, solved, out),
+        Ok(Solving::Done(net, solved)) => tell_solved(raw, &net, solved, out),
         Ok(Solving::Refused(refusal)) => tell(out, Outcome::NetRefused(refusal)),
         Ok(Solving::TooMuch(work)) => tell(out, Outcome::TooMuch(work)),
         Err(_) => tell(out, Outcome::Memory),

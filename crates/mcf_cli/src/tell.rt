@@ -1,8 +1,9 @@
 //! The line of an outcome.
 
-ghost use Rattle.std.specs.Prelude.{◌≡◌};
-ghost use Rattle.mcf_cli.specs.declared.outcome.Outcome.TheVariants as OutcomeIs;
-ghost use Rattle.mcf_cli.specs.Answer.{answer_of, paper_word as paper_word_lem, Writes};
+ghost use Rattle.std.specs.Prelude.{◌≡◌, None};
+
+ghost use Rattle.text_lines.specs.Lines.{spelled};
+ghost use Rattle.mcf_cli.specs.Answer.{answer_of, paper_word as paper_word_lem, work_refused, Writes};
 
 use crate::outcome::{Outcome, Paper};
 use crate::ended::Ended;

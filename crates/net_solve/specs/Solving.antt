@@ -5,16 +5,18 @@ use Rattle.flow_paths.specs.declared.certificate.Proof.{Proof}
 use Rattle.sndlib_grammar.specs.Rows.{NetRows}
 use Rattle.unit_scale.specs.Scaling.{ScaledNet, scaled_of}
 use Rattle.solver_run.specs.History.{SolvedView}
+use Rattle.solver_run.specs.Options.{AreOptions}
 use Rattle.solver_run.specs.Headline.{IsSolved}
 use Rattle.net_solve.specs.declared.asked.Asked.{Asked}
 use Rattle.net_solve.specs.Asked.{options_for, IsTooMuch}
 use Rattle.net_solve.specs.declared.solving.Solving.{Solving}
 use Rattle.net_solve.specs.declared.solving.Solving.TheVariants.{Refused, TooMuch, Done}
 
--- the rows stand for this network in units, the work is within its limit, and this is a solve of the network
+-- the rows stand for this network in units, the work is within its limit, and this is a solve of the network under the asked options
 pub record IsDone (rows : NetRows) (o : NetOptions) (asked : Asked) (net : ScaledNet) (s : SolvedView) : Type 0 where
   pub network : scaled_of rows o ≡ Ok net
   pub work : (n : ℕ) → ¬ (IsTooMuch net.net asked n)
+  pub options : AreOptions net.net (options_for net.net asked)
   pub solved : IsSolved net.net (options_for net.net asked) s
 
 -- the first refusal of the rows, or work over its limit, or a solve of the network

@@ -5,6 +5,7 @@ use crate::texts::{CERTIFICATE, FREE_LAYOUT, FREE_LAYOUT_PRINTED, ONE_LINK, ROUT
 use std::alloc::Global;
 use std::process::Abort;
 use std::test::Fail;
+use std::thread::Threads;
 
 /// A run that answers with status 0, and how often it reads and writes.
 struct Run {
@@ -43,34 +44,34 @@ const PRINT: Run = Run {
 };
 
 // Where the read of that number fails, the fault is told; a fault behind the last read changes nothing.
-fn reads_fail(rt: &impl Abort, alloc: Global, case: &Run) -> Result<(), Fail> {
+fn reads_fail(rt: &(impl Abort + Threads + Sync), alloc: Global, case: &Run) -> Result<(), Fail> {
     for number in 1..=case.reads {
         let outside = Outside {
             failing_read: number,
             ..SMALL
         };
-        let given = answer_to(alloc, case.words, case.files, outside)?;
+        let given = answer_to(rt, alloc, case.words, case.files, outside)?;
         assert!(rt; given.is(4, b"read fault\n"), "read {number}");
     }
     let outside = Outside {
         failing_read: case.reads.saturating_add(1),
         ..SMALL
     };
-    let given = answer_to(alloc, case.words, case.files, outside)?;
+    let given = answer_to(rt, alloc, case.words, case.files, outside)?;
     assert!(rt; given.is(0, case.text), "no read fails");
     Ok(())
 }
 
 // Where the write of that number fails, what the writes before it took stands there; a fault behind the last write
 // changes nothing.
-fn writes_fail(rt: &impl Abort, alloc: Global, case: &Run) -> Result<(), Fail> {
+fn writes_fail(rt: &(impl Abort + Threads + Sync), alloc: Global, case: &Run) -> Result<(), Fail> {
     let mut front = 0usize;
     for number in 1..=case.writes {
         let outside = Outside {
             failing_write: number,
             ..SMALL
         };
-        let given = answer_to(alloc, case.words, case.files, outside)?;
+        let given = answer_to(rt, alloc, case.words, case.files, outside)?;
         assert!(rt; front <= case.text.len());
         assert!(rt; given.is(5, &case.text[..front]), "write {number}");
         front = front.saturating_add(WRITTEN);
@@ -79,16 +80,16 @@ fn writes_fail(rt: &impl Abort, alloc: Global, case: &Run) -> Result<(), Fail> {
         failing_write: case.writes.saturating_add(1),
         ..SMALL
     };
-    let given = answer_to(alloc, case.words, case.files, outside)?;
+    let given = answer_to(rt, alloc, case.words, case.files, outside)?;
     assert!(rt; given.is(0, case.text), "no write fails");
     Ok(())
 }
 
 // Where there is room for a front of the text, that front stands there.
-fn rooms_end(rt: &impl Abort, alloc: Global, case: &Run) -> Result<(), Fail> {
+fn rooms_end(rt: &(impl Abort + Threads + Sync), alloc: Global, case: &Run) -> Result<(), Fail> {
     for room in 0..case.text.len() {
         let outside = Outside { room, ..SMALL };
-        let given = answer_to(alloc, case.words, case.files, outside)?;
+        let given = answer_to(rt, alloc, case.words, case.files, outside)?;
         assert!(rt; given.is(5, &case.text[..room]), "room {room}");
     }
     Ok(())
@@ -181,10 +182,10 @@ fn files_that_do_not_stand(rt: HostRuntime) -> Result<(), Fail> {
 #[test]
 fn always_memory(rt: HostRuntime) -> Result<(), Fail> {
     for case in [&CHECK, &PRINT] {
-        let given = answer_to(rt.alloc(), case.words, case.files, AMPLE)?;
+        let given = answer_to(&rt, rt.alloc(), case.words, case.files, AMPLE)?;
         assert!(&rt; given.is(0, case.text));
     }
-    let given = answer_to(rt.alloc(), &["help"], &[], AMPLE)?;
+    let given = answer_to(&rt, rt.alloc(), &["help"], &[], AMPLE)?;
     assert!(&rt; given.is(2, b"usage\n"));
     Ok(())
 }

@@ -7,6 +7,7 @@ use mcf_cli::run;
 use std::alloc::{AllocError, Global};
 use std::process::Abort;
 use std::test::Fail;
+use std::thread::Threads;
 
 /// A name and its bytes.
 pub type File<'a> = (&'a str, &'a [u8]);
@@ -71,7 +72,8 @@ fn only(alloc: Global, number: u64) -> Result<Vec<u64>, AllocError> {
 }
 
 /// The answer to the words, where these files stand.
-pub fn answer_to(
+pub fn answer_to<R: Threads + Sync>(
+    rt: &R,
     alloc: Global,
     words: &[&str],
     files: &[File<'_>],
@@ -85,7 +87,7 @@ pub fn answer_to(
     let mut shelf = MemShelf::new(owned_files(alloc, files)?, outside.most_read, failing);
     let failing = only(alloc, outside.failing_write)?;
     let mut sink = MemSink::new(alloc, outside.room, outside.most_written, failing)?;
-    let ended = run(alloc, &owned, &mut shelf, &mut sink, &OpenGate);
+    let ended = run(rt, alloc, &owned, &mut shelf, &mut sink, &OpenGate);
     Ok(Answer {
         status: ended.status,
         sink,
@@ -94,7 +96,7 @@ pub fn answer_to(
 
 /// The words are answered so.
 pub fn expect(
-    rt: &impl Abort,
+    rt: &(impl Abort + Threads + Sync),
     alloc: Global,
     shows: &str,
     words: &[&str],
@@ -102,7 +104,7 @@ pub fn expect(
     status: u8,
     text: &[u8],
 ) -> Result<(), Fail> {
-    let given = answer_to(alloc, words, files, AMPLE)?;
+    let given = answer_to(rt, alloc, words, files, AMPLE)?;
     assert_eq!(rt; given.status, status, "{shows}");
     assert!(rt; given.sink.written() == text, "{shows}");
     Ok(())

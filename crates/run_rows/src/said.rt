@@ -5,6 +5,7 @@ use crate::texts::edited;
 use std::alloc::Global;
 use std::process::Abort;
 use std::test::Fail;
+use std::thread::Threads;
 
 pub const CHECK: &[&str] = &["check", "net", "cert"];
 
@@ -19,7 +20,7 @@ pub type Row = (
 
 // This is said of the certificate or the routing on the network.
 fn expect_said<'a>(
-    rt: &impl Abort,
+    rt: &(impl Abort + Threads + Sync),
     alloc: Global,
     shows: &str,
     net: &'a [u8],
@@ -33,7 +34,7 @@ fn expect_said<'a>(
 
 /// Each certificate or routing, with its part replaced, is answered so.
 pub fn certs(
-    rt: &impl Abort,
+    rt: &(impl Abort + Threads + Sync),
     alloc: Global,
     net: &[u8],
     cert: &[u8],
@@ -48,7 +49,7 @@ pub fn certs(
 
 /// Each network, with its part replaced, is answered so.
 pub fn nets(
-    rt: &impl Abort,
+    rt: &(impl Abort + Threads + Sync),
     alloc: Global,
     net: &[u8],
     cert: &[u8],

@@ -33,7 +33,7 @@ const USAGES: &[&[&str]] = &[
 fn usage(rt: HostRuntime) -> Result<(), Fail> {
     let files: [(&str, &[u8]); 2] = [("net", ONE_LINK), ("cert", ROUTING)];
     for words in USAGES {
-        let given = answer_to(rt.alloc(), words, &files, AMPLE)?;
+        let given = answer_to(&rt, rt.alloc(), words, &files, AMPLE)?;
         assert!(&rt; given.is(2, b"usage\n"), "{words:?}");
     }
     Ok(())
