@@ -1,21 +1,14 @@
 -- What one more entry makes of the rows.
-use Rattle.std.proofs.Common.{◌≡◌, ◌≢◌, ℕ, zero, suc, ◌+◌, ◌*◌, ◌<◌, ◌≤◌, Bool, true, false, cond, eqb, List, [], ◌∷◌, ◌++◌, length, get_or, set, refl, sym, ap, ◌∙◌, subst, arith, length-append, length-set, Some, None, inl, inr, eq-eqb}
-use Rattle.std.specs.Prelude.{All, slice_get, nat_eq, sum_by, count_by}
-use Rattle.std.proofs.lemmas.Bool.{cases_eq, cases_lt, ne_eqb}
-use Rattle.std.proofs.lemmas.Bool.Decides.{nat_tests}
+use Rattle.std.proofs.Common.{◌≡◌, ℕ, zero, suc, ◌+◌, ◌<◌, ◌≤◌, List, [], ◌∷◌, ◌++◌, length, refl, sym, ap, ◌∙◌, subst, arith, length-append, length-set, Some, inl, inr}
+use Rattle.std.specs.Prelude.{slice_get}
+use Rattle.std.proofs.lemmas.Bool.{cases_eq, cases_lt}
 use Rattle.std.proofs.lemmas.List.{get_or-set_same, get_or-set_other, get_or_append_left}
-use Rattle.std.proofs.lemmas.List.Elements.{All-weaker}
-use Rattle.std.proofs.lemmas.List.Sums.{sum_by-append, sum_by_push, sum_by-cons}
-use Rattle.std.proofs.lemmas.Option.{slice_get-get_or, slice_get_within, get_or_from_slice_get, same_Some}
+use Rattle.std.proofs.lemmas.Option.{same_Some}
 use Rattle.std.proofs.Math.Seq.{get_or-append_seam}
-use Rattle.flow_model.specs.declared.net.Commodity.{Commodity}
-use Rattle.flow_model.specs.Network.{Network}
 use Rattle.flow_model.specs.Routing.{Row}
-use Rattle.flow_paths.specs.PathRows.{row_at, no_row, grown, HasPath, HasNoRow, IsFirstRow, Adds}
-use Rattle.solver_run.specs.declared.options.Entry.{Entry}
-use Rattle.solver_run.specs.History.{times_named, IsWeighed, NamesRows}
+use Rattle.flow_paths.specs.PathRows.{row_at, no_row, grown, HasNoRow, Adds}
 use Rattle.path_history.specs.Rows.{AreApart}
-use Rattle.path_history.specs.Adding.{KeepsRows, AreBegun}
+use Rattle.path_history.specs.Adding.{KeepsRows}
 
 -- an element of a list with one more at its end
 pub pushed_at : {A : Type 0} (xs : List A) (y : A) (k : ℕ) (x : A) → slice_get (xs ++ y ∷ []) k ≡ Some x → (P : A → ℕ → Type 0) → ((z : A) → slice_get xs k ≡ Some z → P z k) → (k ≡ length xs → P y k) → P x k

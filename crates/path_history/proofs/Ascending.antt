@@ -1,5 +1,5 @@
 -- Rows in ascending order.
-use Rattle.std.proofs.Common.{◌≡◌, ℕ, zero, suc, ◌+◌, ◌-◌, ◌<◌, ◌≤◌, Bool, true, false, cond, List, [], ◌∷◌, ◌++◌, length, get_or, map, refl, sym, ap, ◌∙◌, subst, arith, Less, Equal, Greater, Ordering, is_lt, nat_cmp, length-append, add-one}
+use Rattle.std.proofs.Common.{◌≡◌, ℕ, zero, suc, ◌+◌, ◌<◌, ◌≤◌, Bool, true, false, cond, List, [], ◌∷◌, ◌++◌, length, get_or, refl, sym, ap, ◌∙◌, subst, arith, Less, Equal, Greater, Ordering, is_lt, nat_cmp, add-one}
 use Rattle.std.specs.Prelude.{All, ◌||◌, ◌&&◌, ◌==◌, nat_lt}
 use Rattle.std.specs.Ordering.{ordering_then}
 use Rattle.std.specs.Cmp.Lexicographic.{slice_cmp}
@@ -8,15 +8,15 @@ use Rattle.std.specs.List.Sorted.{IsPermutation}
 use Rattle.std.proofs.lemmas.Cmp.{same_from_slice_cmp}
 use Rattle.std.proofs.lemmas.Bool.Decides.{nat_tests}
 use Rattle.std.proofs.lemmas.List.{get_or-map, length-map, map-append}
-use Rattle.std.proofs.lemmas.List.Elements.{All-push, All-get_or}
+use Rattle.std.proofs.lemmas.List.Elements.{All-get_or}
 use Rattle.std.proofs.lemmas.List.Sorted.{IsPermutation-map, length_permutation, All-permutation}
-use Rattle.std.proofs.lemmas.List.FromFn.{length-range_with_len, get_or-range_with_len}
+use Rattle.std.proofs.lemmas.List.FromFn.{length-range_with_len}
 use Rattle.flow_model.specs.Routing.{Row}
 use Rattle.flow_paths.specs.PathRows.{row_at}
 use Rattle.solver_run.specs.History.{list_lt, row_lt}
 use Rattle.path_history.specs.declared.ordering.OrderedRow.{OrderedRow}
 use Rattle.path_history.specs.Sorted.{IsOrderedRow, numbers_of}
-use Rattle.path_history.specs.Ordering.{IsOfAll, IsOrderOf}
+use Rattle.path_history.specs.Ordering.{IsOrderOf}
 
 -- the order of lists is that of their comparison
 list_lt-is : (xs ys : List ℕ) → is_lt (slice_cmp nat_cmp xs ys) ≡ list_lt xs ys
@@ -60,7 +60,7 @@ pub order_from : (rows : List Row) (before after : List OrderedRow) → numbers_
 order_from rows before after are all moved sorted =
     let f : OrderedRow → ℕ = λ r. r.row in
     let long : length (numbers_of after) ≡ length rows =
-        length-map after f ∙ length_permutation before after moved ∙ sym (length-map before f) ∙ ap (λ (t : List ℕ). length t) are ∙ length-range_with_len 0 (length rows) in
+    length-map after f ∙ length_permutation before after moved ∙ sym (length-map before f) ∙ ap (λ (t : List ℕ). length t) are ∙ length-range_with_len 0 (length rows) in
     record {
       count = long;
       all = rw long (subst (λ (t : List ℕ). IsPermutation t (numbers_of after)) are (IsPermutation-map f before after moved));

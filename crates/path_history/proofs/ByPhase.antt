@@ -1,14 +1,14 @@
 -- Entries phase by phase: how many there are, where they stand, one phase more, and all of them changed.
-use Rattle.std.proofs.Common.{◌≡◌, ℕ, zero, suc, ◌+◌, ◌*◌, ◌<◌, ◌≤◌, List, [], ◌∷◌, ◌++◌, length, get_or, take, drop, map, refl, sym, ap, ◌∙◌, subst, arith, length-drop, add-one, ◌-◌, Some}
+use Rattle.std.proofs.Common.{◌≡◌, ℕ, zero, suc, ◌+◌, ◌*◌, ◌<◌, ◌≤◌, List, [], ◌∷◌, ◌++◌, length, get_or, take, drop, map, refl, sym, ap, ◌∙◌, arith, length-drop, add-one, ◌-◌, Some}
 use Rattle.std.specs.Prelude.{All, slice_get}
 use Rattle.std.proofs.lemmas.List.{take-append-le, drop-append-le, drop-drop, get_or-drop, get_or-take, length-take-le, length-map, get_or-append_right, take-map, drop-map, take-append-drop, take_all, drop_all, append-nil}
-use Rattle.std.proofs.lemmas.List.Elements.{All-append, All-head, All-tail, All-same, All-nil, All-get_or}
+use Rattle.std.proofs.lemmas.List.Elements.{All-append, All-head, All-tail, All-same, All-nil}
 use Rattle.std.proofs.lemmas.Option.{slice_get-get_or}
 use Rattle.std.proofs.lemmas.Nat.{row_fits}
 use Rattle.std.proofs.Math.Seq.{take-length}
 use Rattle.std.proofs.Math.Nat.{suc-mul}
 use Rattle.solver_run.specs.declared.options.Entry.{Entry}
-use Rattle.path_history.specs.Phases.{by_phase, NamesBelow, renumbered}
+use Rattle.path_history.specs.Phases.{by_phase, NamesBelow}
 
 pub count_by_phase : (w n : ℕ) (es : List Entry) → length (by_phase w n es) ≡ n
 count_by_phase w zero es = refl

@@ -6,3 +6,5 @@ pub mod Placed
 pub mod Named
 pub mod Ascending
 pub mod Numbers
+pub mod RowOrder
+pub mod Renumbered

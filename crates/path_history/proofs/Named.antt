@@ -1,10 +1,10 @@
 -- A phase that is added: its begin, its entries' paths, and its end.
-use Rattle.std.proofs.Common.{◌≡◌, ℕ, zero, suc, ◌+◌, ◌*◌, ◌<◌, ◌≤◌, List, [], ◌∷◌, ◌++◌, length, get_or, map, refl, sym, ap, ◌∙◌, subst, arith, length-append, Some, inl, inr}
+use Rattle.std.proofs.Common.{◌≡◌, ℕ, ◌+◌, ◌*◌, ◌<◌, ◌≤◌, List, [], ◌∷◌, ◌++◌, length, get_or, map, refl, sym, ap, ◌∙◌, subst, arith, length-append, Some}
 use Rattle.std.specs.Prelude.{All, Contains, slice_get}
 use Rattle.std.proofs.lemmas.List.{same_lists, length-map, get_or-map, map-append}
 use Rattle.std.proofs.lemmas.List.Elements.{All-push, All-head, All-tail, All-weaker, Contains-get_or}
 use Rattle.std.proofs.lemmas.List.Sums.{sum_by_push}
-use Rattle.std.proofs.lemmas.Option.{slice_get-get_or, slice_get_within, get_or_from_slice_get}
+use Rattle.std.proofs.lemmas.Option.{slice_get-get_or, get_or_from_slice_get}
 use Rattle.mcf_limits.specs.declared.TheConstants.{MAX_LENGTH, MAX_PHASES, MAX_UNITS}
 use Rattle.flow_model.specs.declared.net.Commodity.{Commodity}
 use Rattle.flow_model.specs.Network.{Network}
@@ -14,7 +14,7 @@ use Rattle.flow_core.specs.Phase.{Routed}
 use Rattle.phase_engine.specs.declared.hand.Hand.{Hand}
 use Rattle.phase_engine.specs.Routing.{HasRouted}
 use Rattle.solver_run.specs.declared.options.Entry.{Entry}
-use Rattle.solver_run.specs.History.{times_named, path_named, routed_in, IsWeighed, NamesRows}
+use Rattle.solver_run.specs.History.{times_named, path_named, routed_in, NamesRows}
 use Rattle.path_history.specs.declared.places.Place.{Place}
 use Rattle.path_history.specs.Phases.{NamesBelow}
 use Rattle.path_history.specs.Rows.{AreRowsFor}

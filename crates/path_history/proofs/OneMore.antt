@@ -1,18 +1,18 @@
 -- One entry more of a phase that is being added.
-use Rattle.std.proofs.Common.{◌≡◌, ◌≢◌, ℕ, zero, suc, ◌+◌, ◌*◌, ◌<◌, ◌≤◌, List, [], ◌∷◌, ◌++◌, length, get_or, refl, sym, ap, ◌∙◌, subst, arith, length-append, length-set, Some, inl, inr}
-use Rattle.std.specs.Prelude.{All, slice_get}
-use Rattle.std.proofs.lemmas.Bool.{cases_eq, cases_lt}
+use Rattle.std.proofs.Common.{◌≡◌, ℕ, ◌+◌, ◌*◌, ◌<◌, List, [], ◌∷◌, ◌++◌, length, get_or, refl, sym, ap, ◌∙◌, subst, arith, length-append, length-set, Some, inl, inr}
+use Rattle.std.specs.Prelude.{slice_get}
+use Rattle.std.proofs.lemmas.Bool.{cases_eq}
 use Rattle.std.proofs.lemmas.List.{get_or-set_same, get_or-set_other}
 use Rattle.std.proofs.lemmas.List.Elements.{All-weaker}
 use Rattle.std.proofs.lemmas.Option.{slice_get-get_or, slice_get_within, get_or_from_slice_get, same_Some}
 use Rattle.flow_model.specs.declared.net.Commodity.{Commodity}
 use Rattle.flow_model.specs.Network.{Network}
 use Rattle.flow_model.specs.Routing.{Row}
-use Rattle.flow_paths.specs.PathRows.{row_at, no_row, grown, HasPath, HasNoRow, IsFirstRow, Adds}
+use Rattle.flow_paths.specs.PathRows.{row_at, no_row, grown, IsFirstRow, Adds}
 use Rattle.solver_run.specs.declared.options.Entry.{Entry}
 use Rattle.solver_run.specs.History.{times_named, IsWeighed, NamesRows}
 use Rattle.path_history.specs.Adding.{KeepsRows, AreBegun}
-use Rattle.path_history.proofs.Adds.{pushed_at, added, Added, apart_added}
+use Rattle.path_history.proofs.Adds.{pushed_at, added, apart_added}
 use Rattle.path_history.proofs.Times.{times_of_row, times_of_other, unnamed}
 
 -- a row of the same commodity and weight, named as often

@@ -1,22 +1,19 @@
 -- How often rows are named, and so their weights, when one entry more names a row.
-use Rattle.std.proofs.Common.{◌≡◌, ◌≢◌, ℕ, zero, suc, ◌+◌, ◌*◌, ◌<◌, ◌≤◌, ◌^◌, Bool, true, false, cond, eqb, List, [], ◌∷◌, ◌++◌, length, get_or, refl, sym, ap, ◌∙◌, subst, arith, length-append, Some, None, inl, inr, eq-eqb}
-use Rattle.std.specs.Prelude.{All, slice_get, nat_eq, ◌==◌, sum_by, count_by}
-use Rattle.std.proofs.lemmas.Bool.{cases_eq, cases_lt, ne_eqb}
-use Rattle.std.proofs.lemmas.List.{get_or-set_same, get_or-set_other, get_or_append_left}
+use Rattle.std.proofs.Common.{◌≡◌, ◌≢◌, ℕ, zero, suc, ◌+◌, ◌*◌, ◌<◌, ◌≤◌, ◌^◌, cond, eqb, List, [], ◌∷◌, ◌++◌, length, refl, ap, ◌∙◌, arith, Some, inl, inr, eq-eqb}
+use Rattle.std.specs.Prelude.{slice_get, ◌==◌, count_by}
+use Rattle.std.proofs.lemmas.Bool.{cases_eq, ne_eqb}
 use Rattle.std.proofs.lemmas.List.Elements.{All-weaker}
 use Rattle.std.proofs.lemmas.List.Sums.{sum_by_push, sum_by-cons, sum_by-le}
-use Rattle.std.proofs.lemmas.Option.{slice_get-get_or, slice_get_within, get_or_from_slice_get, same_Some}
+use Rattle.std.proofs.lemmas.Option.{slice_get-get_or, slice_get_within}
 use Rattle.std.proofs.lemmas.Nat.{mul-le}
-use Rattle.std.proofs.Math.Seq.{get_or-append_seam}
 use Rattle.mcf_limits.specs.declared.TheConstants.{MAX_LENGTH, MAX_PHASES, MAX_UNITS}
 use Rattle.flow_model.specs.declared.net.Commodity.{Commodity}
 use Rattle.flow_model.specs.Network.{Network}
 use Rattle.flow_model.specs.Routing.{Row}
-use Rattle.flow_paths.specs.PathRows.{row_at, no_row, grown, HasPath, HasNoRow, IsFirstRow, Adds}
+use Rattle.flow_paths.specs.PathRows.{row_at, no_row, IsFirstRow}
 use Rattle.solver_run.specs.declared.options.Entry.{Entry}
-use Rattle.solver_run.specs.History.{times_named, IsWeighed, NamesRows}
-use Rattle.path_history.specs.Adding.{KeepsRows, AreBegun}
-use Rattle.path_history.proofs.Adds.{pushed_at}
+use Rattle.solver_run.specs.History.{times_named, NamesRows}
+use Rattle.path_history.specs.Adding.{AreBegun}
 
 -- how many of the entries name the row
 abbrev pub names_of : ℕ → List Entry → ℕ

@@ -10,7 +10,7 @@ use std::alloc::{AllocError, Global};
 
 /// A row with what it is ordered by.
 #[derive(Clone, Copy, PartialEq, Eq, PartialOrd, Ord)]
-pub struct OrderedRow<'a> {
+struct OrderedRow<'a> {
     commodity: u32,
     path: &'a [u16],
     row: u32,

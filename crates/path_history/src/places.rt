@@ -12,7 +12,7 @@ use std::alloc::{AllocError, Global};
 
 /// The number of a hand, and of a route among the hand's.
 #[derive(Clone, Copy, Debug, PartialEq, Eq)]
-pub struct Place {
+pub(crate) struct Place {
     pub hand: u16,
     pub route: usize,
 }

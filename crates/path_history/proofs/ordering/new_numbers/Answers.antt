@@ -1,5 +1,5 @@
-use Rattle.std.proofs.Common.{◌≡◌, ◌<◌, ◌+◌, length, get_or, set, sym, ap, ◌∙◌, arith, length-set}
-use Rattle.path_history.proofs.Numbers.{below_of_all, back_more, to_place}
+use Rattle.std.proofs.Common.{get_or, ◌∙◌, arith, length-set}
+use Rattle.path_history.proofs.Numbers.{below_of_all, back_more}
 use Rattle.path_history.proofs.ordering.new_numbers.Goals as goal
 
 pub index_mut-requires : goal.index_mut-requires

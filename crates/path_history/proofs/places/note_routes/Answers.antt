@@ -1,10 +1,10 @@
-use Rattle.std.proofs.Common.{◌≡◌, ◌<◌, ℕ, length, get_or, sym, ap, ◌∙◌, subst, arith}
+use Rattle.std.proofs.Common.{◌≡◌, ◌<◌, length, get_or, sym, subst, arith}
 use Rattle.std.specs.Prelude.{All}
 use Rattle.std.proofs.lemmas.List.{take_all}
 use Rattle.std.proofs.lemmas.List.Elements.{All-get_or}
 use Rattle.commodity_claims.specs.Routes.{Route}
-use Rattle.path_history.specs.Adding.{no_route, no_place, IsPlaceAt}
-use Rattle.path_history.proofs.Placed.{AreKept, IsNoted, kept_more, noted_more}
+use Rattle.path_history.specs.Adding.{no_route}
+use Rattle.path_history.proofs.Placed.{IsNoted, kept_more, noted_more}
 use Rattle.path_history.proofs.places.note_routes.Goals as goal
 
 pub loop-route-preserved : goal.loop-route-preserved

@@ -1,10 +1,9 @@
-use Rattle.std.proofs.Common.{◌≡◌, ◌+◌, ◌<◌, ◌≤◌, ℕ, List, length, get_or, refl, sym, ap, ◌∙◌, subst, arith, Some}
+use Rattle.std.proofs.Common.{◌≡◌, ◌+◌, ◌<◌, List, length, refl, sym, ap, ◌∙◌, subst, Some}
 use Rattle.std.specs.Prelude.{All, slice_get}
 use Rattle.std.proofs.lemmas.List.{with_items_is}
 use Rattle.std.proofs.lemmas.Option.{slice_get_read}
 use Rattle.commodity_claims.specs.Routes.{Route}
 use Rattle.path_history.specs.declared.places.Place.{Place}
-use Rattle.path_history.specs.Adding.{no_place, IsPlaceOf}
 use Rattle.path_history.proofs.Placed.{AreKept, ArePlaced, routes_inside, placed_more, placed_all}
 use Rattle.path_history.proofs.places.places_of.Goals as goal
 

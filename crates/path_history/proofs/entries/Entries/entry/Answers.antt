@@ -1,7 +1,5 @@
-use Rattle.std.proofs.Common.{◌≡◌, ◌<◌, ◌+◌, ◌*◌, ◌≤◌, List, [], length, get_or, sym, ap, ◌∙◌, arith, Some}
-use Rattle.std.specs.Prelude.{slice_get}
+use Rattle.std.proofs.Common.{◌≡◌, ◌+◌, ◌*◌, ◌≤◌, length, sym, ap, ◌∙◌, arith}
 use Rattle.std.proofs.lemmas.Nat.{row_fits}
-use Rattle.solver_run.specs.declared.options.Entry.{Entry}
 use Rattle.path_history.specs.Phases.{EntriesView}
 use Rattle.path_history.proofs.ByPhase.{count_by_phase, entry_at}
 use Rattle.path_history.proofs.entries.Entries.entry.Goals as goal

@@ -1,6 +1,5 @@
-use Rattle.std.proofs.Common.{◌≡◌, ◌+◌, ◌<◌, ◌++◌, ◌∷◌, [], List, length, sym, ap, ◌∙◌, arith}
-use Rattle.solver_run.specs.declared.options.Entry.{Entry}
-use Rattle.path_history.specs.Phases.{EntriesView, by_phase}
+use Rattle.std.proofs.Common.{◌≡◌, length, sym, ap, ◌∙◌, arith}
+use Rattle.path_history.specs.Phases.{EntriesView}
 use Rattle.path_history.proofs.ByPhase.{count_by_phase, one_phase_more}
 use Rattle.path_history.proofs.entries.Entries.push.Goals as goal
 

@@ -1,14 +1,10 @@
-use Rattle.std.proofs.Common.{◌≡◌, ◌++◌, ◌∷◌, [], List, length, map, refl, sym, ap, ◌∙◌, subst, arith}
-use Rattle.std.specs.Prelude.{All, Ok, Err, Result, OnErr}
-use Rattle.std.proofs.lemmas.List.Elements.{All-push}
+use Rattle.std.proofs.Common.{◌≡◌, ◌++◌, ◌∷◌, [], List, map, sym, ap, ◌∙◌, subst}
+use Rattle.std.specs.Prelude.{Ok, Err, Result, OnErr}
 use Rattle.flow_model.specs.Routing.{Row}
-use Rattle.flow_core.specs.Phase.{Routed}
 use Rattle.solver_run.specs.declared.options.Entry.{Entry}
 use Rattle.solver_run.specs.History.{routed_in}
-use Rattle.path_history.specs.Phases.{NamesBelow}
-use Rattle.path_history.specs.Rows.{HistoryView, AreRowsFor, phases_kept}
-use Rattle.path_history.specs.Adding.{AreBegun}
-use Rattle.path_history.proofs.Named.{ends, names_below, phase_added, same_phases, still_below}
+use Rattle.path_history.specs.Rows.{HistoryView, AreRowsFor}
+use Rattle.path_history.proofs.Named.{ends, names_below, phase_added, same_phases}
 use Rattle.path_history.proofs.history.PathHistory.add_phase.Goals as goal
 
 -- what holds whatever a call answers
@@ -22,7 +18,7 @@ returns-in_err-entries-clause-err c =
     let new = c.name_rows.new.self.rows in
     let h = c.args.self.now.history in
     on_err c.from_residual-in_err-entries.result
-        (ap (map (routed_in new)) c.name_rows.ensures.history ∙ same_phases old new h c.name_rows.ensures.keeps (names_below c.args.net.now old h c.requires.rows.entries))
+    (ap (map (routed_in new)) c.name_rows.ensures.history ∙ same_phases old new h c.name_rows.ensures.keeps (names_below c.args.net.now old h c.requires.rows.entries))
 
 pub returns-in_err-push-clause-err : goal.returns-in_err-push-clause-err
 returns-in_err-push-clause-err c =
@@ -32,7 +28,7 @@ returns-in_err-push-clause-err c =
     let r : c.self.inside.paths ≡ new = ap (λ (v : HistoryView). v.rows) c.self.view_is in
     let p : c.push.new.self.phases ≡ h = c.in_err-push.ensures.err ∙ ap (λ (v : HistoryView). v.history) c.self.view_is ∙ c.name_rows.ensures.history in
     on_err c.from_residual-in_err-push.result
-        (ap (λ (t : List Row). map (routed_in t) c.push.new.self.phases) r ∙ ap (map (routed_in new)) p ∙ same_phases old new h c.name_rows.ensures.keeps (names_below c.args.net.now old h c.requires.rows.entries))
+    (ap (λ (t : List Row). map (routed_in t) c.push.new.self.phases) r ∙ ap (map (routed_in new)) p ∙ same_phases old new h c.name_rows.ensures.keeps (names_below c.args.net.now old h c.requires.rows.entries))
 
 pub returns-clause-rows : goal.returns-clause-rows
 returns-clause-rows c =

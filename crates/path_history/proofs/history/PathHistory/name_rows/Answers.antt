@@ -1,5 +1,4 @@
-use Rattle.std.proofs.Common.{◌≡◌, ℕ, ◌+◌, ◌<◌, ◌≤◌, List, [], ◌∷◌, ◌++◌, length, get_or, refl, sym, ap, ◌∙◌, subst, arith, Some, length-append}
-use Rattle.std.specs.Prelude.{All, slice_get}
+use Rattle.std.proofs.Common.{◌≡◌, ◌+◌, ◌<◌, ◌≤◌, List, [], ◌∷◌, ◌++◌, length, get_or, ap, ◌∙◌, subst, length-append}
 use Rattle.std.proofs.lemmas.List.Elements.{All-get_or}
 use Rattle.std.proofs.lemmas.Option.{slice_get-get_or}
 use Rattle.mcf_limits.specs.declared.TheConstants.{MAX_UNITS}
@@ -8,7 +7,6 @@ use Rattle.flow_model.specs.Network.{IsCommodity}
 use Rattle.flow_paths.specs.PathRows.{Adds}
 use Rattle.solver_run.specs.declared.options.Entry.{Entry}
 use Rattle.path_history.specs.declared.places.Place.{Place}
-use Rattle.path_history.specs.Adding.{AreBegun, AreNamed}
 use Rattle.path_history.proofs.Named.{can_add, adds_begun, adds_named, adds_keep, routed_from_place}
 use Rattle.path_history.proofs.history.PathHistory.name_rows.Goals as goal
 
