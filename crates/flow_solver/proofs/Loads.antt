@@ -33,10 +33,10 @@ loads-more net phases e old new is size each =
     let all = ap (λ (xs : List (List Routed)). flat_map f xs) whole ∙ rows in
     let before : old ≡ loads_of net (flat_map f phases) = is ∙ ap (λ (xs : List (List Routed)). loads_of net (flat_map f xs)) (take-length phases) in
     let now : new ≡ loads_of net (flat_map f phases ++ f e) = fill_by_all (load_of (flat_map f phases ++ f e)) new n 0 size (λ c inside. (
-      let a = each c inside in
-      let b : get_or old c 0 ≡ load_of (flat_map f phases) c = ap (λ (xs : List ℕ). get_or xs c 0) before ∙ get_or-map-range_with_len (load_of (flat_map f phases)) 0 n c c 0 inside (omega arith) in
-      let s = sum_by-append (λ (r : Row). r.weight * times c r.walk) (flat_map f phases) (f e) in
-      omega arith)) in
+    let a = each c inside in
+    let b : get_or old c 0 ≡ load_of (flat_map f phases) c = ap (λ (xs : List ℕ). get_or xs c 0) before ∙ get_or-map-range_with_len (load_of (flat_map f phases)) 0 n c c 0 inside (omega arith) in
+    let s = sum_by-append (λ (r : Row). r.weight * times c r.walk) (flat_map f phases) (f e) in
+    omega arith)) in
     now ∙ ap (loads_of net) (sym all)
 
 -- loads that have grown by at most t

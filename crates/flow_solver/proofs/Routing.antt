@@ -60,7 +60,7 @@ idle-again nodes old new some few fresh size same over = record {
       let s = same k d (omega arith) in
       let f = fresh k d (omega arith) in
       (s.0 ∙ f.0, over k d (omega arith), s.1 ∙ f.3)
-  );
+      );
 }
 
 -- loads
@@ -81,7 +81,7 @@ start-of net setting s workers n is few some most size = record {
       let all = total-amounts net.commodities in
       let sum = n.total in
       room-above s.loads.items (phase_count s * MAX_TOTAL) _ MAX_LENGTH is.small (omega arith) c
-  );
+      );
   some_worker = omega arith;
   few_workers = most;
 }

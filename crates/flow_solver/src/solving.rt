@@ -10,7 +10,6 @@ ghost use Rattle.solver_run.specs.Run.{IsSolverRun};
 ghost use Rattle.flow_solver.specs.Reached.{IsMet, IsReached};
 ghost use Rattle.flow_solver.specs.Search.{phase_count};
 
-use crate::fill::Fill;
 use crate::printing::{printed_down, printed_up};
 use crate::reached::{Reached, first, is_met, lower, next};
 use crate::search::Search;
@@ -94,16 +93,11 @@ fn finished(
     let Ended { reached, closed } = ended;
     let Reached {
         search,
-        reference: _,
         fill,
         kept,
+        ..
     } = reached;
-    let Search {
-        loads: _,
-        lengths: _,
-        hands: _,
-        history,
-    } = search;
+    let Search { history, .. } = search;
     let phases = history.phases();
     let OrderedHistory { paths, entries } = history.ordered(alloc)?;
     let Bounded { dual, value } = kept;

@@ -11,12 +11,16 @@ returns-clause-run c =
     let o = c.args.options.now in
     let cut = has-cut net c.requires.cut.0 c.requires.cut.1 in
     subst (λ (s : SolvedView). IsSolverRun net o s) (sym c.new-3.ensures)
-    (inl (cut, ap (λ (e : EntriesView). e.phases) c.new-entries.ensures, record {
-      closed = refl;
-      gap = refl;
-      phases = refl;
-      scale_cap = refl;
-      scale_load = refl;
-      paths = c.new.ensures;
-      dual = c.in_ok-dual.ensures.dual;
-    }))
+    (inl (
+      cut,
+      ap (λ (e : EntriesView). e.phases) c.new-entries.ensures,
+      record {
+        closed = refl;
+        gap = refl;
+        phases = refl;
+        scale_cap = refl;
+        scale_load = refl;
+        paths = c.new.ensures;
+        dual = c.in_ok-dual.ensures.dual;
+      },
+    ))
