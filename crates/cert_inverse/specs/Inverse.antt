@@ -1,4 +1,4 @@
--- What a text must cite so that it is read as what was written.
+-- The texts of certificates and routings, and what they must cite so that they are read as what was written.
 use Rattle.std.specs.Prelude.{◌≡◌, ℕ, ◌+◌, ◌≤◌, Bool, true, false, List, length, Result, Ok, Err}
 use Rattle.std.specs.List.{AllByRecursion}
 use Rattle.text_lines.specs.Lines.{Line}
