@@ -3,6 +3,7 @@ pub mod Clean
 pub mod CountTakes
 pub mod Decimals
 pub mod Exactly
+pub mod Fronts
 pub mod HeadAgain
 pub mod HeadTakes
 pub mod HeadsAgain

@@ -1,13 +1,14 @@
 -- Lines and rows at a place of a text: what is spelled there is read, and what follows is left.
-use Rattle.std.proofs.Common.{◌≡◌, ℕ, ◌+◌, Bool, true, false, cond, List, [], ◌∷◌, ◌++◌, length, Result, Ok, refl, ap, ◌∙◌, arith}
+use Rattle.std.proofs.Common.{◌≡◌, ℕ, ◌+◌, Bool, true, false, cond, List, [], ◌∷◌, ◌++◌, length, Result, Ok, Err, refl, ap, ◌∙◌, arith}
 use Rattle.std.specs.Prelude.{map, ◌&&◌}
 use Rattle.std.specs.List.{AllByRecursion}
 use Rattle.text_lines.specs.Lines.{Line}
 use Rattle.text_lines.proofs.Laws.{ended}
 use Rattle.cert_lines.specs.declared.refusal.CertKind.{CertKind}
+use Rattle.cert_lines.specs.declared.refusal.CertKind.TheVariants.{Syntax}
 use Rattle.cert_lines.specs.declared.refusal.CertRefusal.{CertRefusal}
-use Rattle.cert_lines.specs.Forms.{◌>>=◌, begins}
-use Rattle.cert_text.specs.Reading.{Place, at_line, has_more, next_line, rows_from, closing}
+use Rattle.cert_lines.specs.Forms.{◌>>=◌, begins, is_full}
+use Rattle.cert_text.specs.Reading.{Place, at_line, has_more, next_line, rows_from, bytes_of, closing}
 use Rattle.cert_writer.specs.Text.{end_line}
 
 -- the place with that number before these lines
@@ -50,3 +51,8 @@ rows_again {X} key row spelling Fits complete opens at (x ∷ rows) rest fit sto
 pub closing_again : (at : ℕ) → closing (place at (end_line ∷ ended)) ≡ Ok tt
 unfolding closing next_line
 closing_again at = refl
+
+-- behind the end no byte may stand
+pub closing_over : (at : ℕ) (tail : List Line) → has_more tail ≡ true → is_full (bytes_of tail) ≡ true → closing (place at (end_line ∷ tail)) ≡ Err (record { line = at + 1; kind = Syntax })
+unfolding closing next_line
+closing_over at tail more some = rw (more, some) refl

@@ -1,8 +1,8 @@
 -- Whole texts: what is spelled is read.
-use Rattle.std.proofs.Common.{◌≡◌, ℕ, ◌+◌, ◌≤◌, Bool, true, List, [], ◌∷◌, ◌++◌, length, Ok, refl, ap, ◌∙◌, append_assoc, arith}
+use Rattle.std.proofs.Common.{◌≡◌, ℕ, ◌+◌, ◌≤◌, Bool, true, List, [], ◌∷◌, ◌++◌, length, Result, Ok, Err, refl, ap, ◌∙◌, append_assoc, arith}
 use Rattle.std.specs.Prelude.{codes, map}
 use Rattle.std.specs.List.{AllByRecursion}
-use Rattle.text_lines.specs.Lines.{Line, lines_of}
+use Rattle.text_lines.specs.Lines.{Line, IsLine, lines_of, text_of}
 use Rattle.text_lines.proofs.Laws.{ended, lines_of-text}
 use Rattle.flow_model.specs.Routing.{Row}
 use Rattle.flow_paths.specs.DualRows.{DualRows}
@@ -12,21 +12,24 @@ use Rattle.flow_paths.specs.declared.certificate.Proof.{Proof}
 use Rattle.gap_fraction.specs.declared.fraction.TheConstants.{MAX_PART}
 use Rattle.mcf_limits.specs.declared.TheConstants.{MAX_GAP, MAX_LENGTH, MAX_PHASES, MAX_UNITS}
 use Rattle.cert_names.specs.Sheet.{Sheet}
+use Rattle.cert_lines.specs.declared.refusal.CertKind.TheVariants.{Syntax}
+use Rattle.cert_lines.specs.declared.refusal.CertRefusal.{CertRefusal}
+use Rattle.cert_lines.specs.Forms.{◌>>=◌, is_full}
 use Rattle.cert_lines.specs.HeadLines.{verdict_line, counts_line, gap_line, phases_line, scale_line, value_line}
 use Rattle.cert_lines.specs.Rows.{path_row, length_row, potential_row}
 use Rattle.cert_lines.specs.Spelling.{verdict_words, links_words, modules_words, counts_words, gap_words, phases_words, scale_words, value_words, length_words, potential_words, path_words, FitsValue, FitsLength, FitsPotential, FitsPath}
 use Rattle.cert_text.specs.declared.papers.Paper.{Paper}
 use Rattle.cert_text.specs.declared.papers.Paper.TheVariants as papers
-use Rattle.cert_text.specs.Reading.{has_more, mode_line, rows_from}
+use Rattle.cert_text.specs.Reading.{has_more, mode_line, rows_from, bytes_of, closing}
 use Rattle.cert_text.specs.Papers.{modes_at, scale_at, opening_at, values_at, dual_at, routing_at, proof_at, header}
 use Rattle.cert_text.specs.Whole.{paper_at, paper_in}
-use Rattle.cert_writer.specs.Text.{end_line, certificate_lines, routing_lines, FitsRouting, FitsProof}
+use Rattle.cert_writer.specs.Text.{end_line, FitsRouting, FitsProof}
 use Rattle.cert_laws.specs.Fits.{FitsPaper}
-use Rattle.cert_inverse.specs.Inverse.{IsCitable, paper_text}
+use Rattle.cert_inverse.specs.Inverse.{IsCitable, paper_lines, paper_text}
 use Rattle.cert_inverse.proofs.HeadAgain.{verdict_again, mode_again, gap_again, phases_again, scale_again, value_again, counts_again}
 use Rattle.cert_inverse.proofs.RowAgain.{path_again, length_again, potential_again}
 use Rattle.cert_inverse.proofs.Clean.{routing_clean, certificate_clean}
-use Rattle.cert_inverse.proofs.PlacesAgain.{place, Stops, stops_rows, more_rows, next_again, rows_again, closing_again}
+use Rattle.cert_inverse.proofs.PlacesAgain.{place, Stops, stops_rows, more_rows, next_again, rows_again, closing_again, closing_over}
 
 -- ---- parts
 
@@ -69,76 +72,108 @@ paths_again : (sheet : Sheet) (at : ℕ) (rows : List Row) (rest : List Line) �
     → rows_from (codes "path") (path_row sheet) at (map (path_words sheet) rows ++ rest) ≡ Ok (rows, place (at + length rows) rest)
 paths_again sheet at rows rest own fit stop = rows_again (codes "path") (path_row sheet) (path_words sheet) (FitsPath sheet) (λ x h. path_again sheet x own.clear h) (λ x. refl) at rows rest fit stop
 
--- the lines from the length rows on
-abbrev from_lengths : Sheet → DualRows → List Line
-from_lengths sheet d = map (length_words sheet) d.lengths ++ (map (potential_words sheet) d.potentials ++ (end_line ∷ ended))
+-- the lines from the length rows on, and what stands behind the last line
+abbrev from_lengths : Sheet → DualRows → List Line → List Line
+from_lengths sheet d tail = map (length_words sheet) d.lengths ++ (map (potential_words sheet) d.potentials ++ (end_line ∷ tail))
 
-abbrev from_paths : Sheet → Proof → List Line
-from_paths sheet p = map (path_words sheet) p.routing.paths ++ from_lengths sheet p.dual
+abbrev from_paths : Sheet → Proof → List Line → List Line
+from_paths sheet p tail = map (path_words sheet) p.routing.paths ++ from_lengths sheet p.dual tail
 
-dual_again : (sheet : Sheet) (at : ℕ) (d : DualRows) → IsCitable sheet → AllByRecursion (FitsLength sheet) d.lengths → AllByRecursion (FitsPotential sheet) d.potentials
-    → dual_at sheet (place at (from_lengths sheet d)) ≡ Ok (d, place (at + length d.lengths + length d.potentials) (end_line ∷ ended))
+dual_again : (sheet : Sheet) (at : ℕ) (d : DualRows) (tail : List Line) → IsCitable sheet → AllByRecursion (FitsLength sheet) d.lengths → AllByRecursion (FitsPotential sheet) d.potentials
+    → dual_at sheet (place at (from_lengths sheet d tail)) ≡ Ok (d, place (at + length d.lengths + length d.potentials) (end_line ∷ tail))
 unfolding dual_at
-dual_again sheet at d own ls ps =
-    let from_potentials = map (potential_words sheet) d.potentials ++ (end_line ∷ ended) in
-    let lengths = rows_again (codes "length") (length_row sheet) (length_words sheet) (FitsLength sheet) (λ x h. length_again sheet x own.clear h) (λ x. refl) at d.lengths from_potentials ls (stops_rows (codes "length") (potential_words sheet) (λ x. refl) d.potentials (end_line ∷ ended) refl) in
-    let potentials = rows_again (codes "potential") (potential_row sheet) (potential_words sheet) (FitsPotential sheet) (λ x h. potential_again sheet x own.clear h) (λ x. refl) (at + length d.lengths) d.potentials (end_line ∷ ended) ps refl in
+dual_again sheet at d tail own ls ps =
+    let from_potentials = map (potential_words sheet) d.potentials ++ (end_line ∷ tail) in
+    let lengths = rows_again (codes "length") (length_row sheet) (length_words sheet) (FitsLength sheet) (λ x h. length_again sheet x own.clear h) (λ x. refl) at d.lengths from_potentials ls (stops_rows (codes "length") (potential_words sheet) (λ x. refl) d.potentials (end_line ∷ tail) refl) in
+    let potentials = rows_again (codes "potential") (potential_row sheet) (potential_words sheet) (FitsPotential sheet) (λ x h. potential_again sheet x own.clear h) (λ x. refl) (at + length d.lengths) d.potentials (end_line ∷ tail) ps refl in
     rw (lengths, potentials) refl
 
-stops_paths : (sheet : Sheet) (d : DualRows) → Stops (codes "path") (from_lengths sheet d)
-stops_paths sheet d = stops_rows (codes "path") (length_words sheet) (λ x. refl) d.lengths (map (potential_words sheet) d.potentials ++ (end_line ∷ ended)) (stops_rows (codes "path") (potential_words sheet) (λ x. refl) d.potentials (end_line ∷ ended) refl)
+stops_paths : (sheet : Sheet) (d : DualRows) (tail : List Line) → Stops (codes "path") (from_lengths sheet d tail)
+stops_paths sheet d tail = stops_rows (codes "path") (length_words sheet) (λ x. refl) d.lengths (map (potential_words sheet) d.potentials ++ (end_line ∷ tail)) (stops_rows (codes "path") (potential_words sheet) (λ x. refl) d.potentials (end_line ∷ tail) refl)
 
 -- ---- what follows the header
 
-abbrev from_phases : Sheet → Routing → List Line → List Line
-from_phases sheet r rest = phases_words r.phases ∷ scale_words (r.scale_cap, r.scale_load) ∷ rest
+-- what reading the last line gives where the lines of tail stand behind it, by the number of the line
+record Ends (tail : List Line) (ends : ℕ → Result (Unit {0}) CertRefusal) : Type 0 where
+  is : (at : ℕ) → closing (place at (end_line ∷ tail)) ≡ ends at
 
-routing_again : (sheet : Sheet) (at : ℕ) (r : Routing) → IsCitable sheet → FitsRouting sheet r
-    → routing_at sheet (place at (links_words sheet ∷ modules_words sheet ∷ from_phases sheet r (map (path_words sheet) r.paths ++ (end_line ∷ ended)))) ≡ Ok r
+abbrev from_phases : Routing → List Line → List Line
+from_phases r rest = phases_words r.phases ∷ scale_words (r.scale_cap, r.scale_load) ∷ rest
+
+routing_again : (sheet : Sheet) (at : ℕ) (r : Routing) (tail : List Line) (ends : ℕ → Result (Unit {0}) CertRefusal) → IsCitable sheet → FitsRouting sheet r → Ends tail ends
+    → routing_at sheet (place at (links_words sheet ∷ modules_words sheet ∷ from_phases r (map (path_words sheet) r.paths ++ (end_line ∷ tail)))) ≡ (ends (at + 1 + 1 + 1 + 1 + length r.paths) >>= λ last. Ok r)
 unfolding routing_at
-routing_again sheet at r own fits =
-    let rows = map (path_words sheet) r.paths ++ (end_line ∷ ended) in
-    let modes = modes_again sheet at (from_phases sheet r rows) own refl in
-    let scale = scale_at_again r.phases r.scale_cap r.scale_load (at + 1 + 1) rows fits.phases fits.scale_cap fits.scale_load (more_rows (codes "path") (path_words sheet) r.paths (end_line ∷ ended) refl) in
-    let paths = paths_again sheet (at + 1 + 1 + 1 + 1) r.paths (end_line ∷ ended) own fits.paths refl in
-    rw (modes, scale, paths, closing_again (at + 1 + 1 + 1 + 1 + length r.paths)) refl
+routing_again sheet at r tail ends own fits end =
+    let rows = map (path_words sheet) r.paths ++ (end_line ∷ tail) in
+    let modes = modes_again sheet at (from_phases r rows) own refl in
+    let scale = scale_at_again r.phases r.scale_cap r.scale_load (at + 1 + 1) rows fits.phases fits.scale_cap fits.scale_load (more_rows (codes "path") (path_words sheet) r.paths (end_line ∷ tail) refl) in
+    let paths = paths_again sheet (at + 1 + 1 + 1 + 1) r.paths (end_line ∷ tail) own fits.paths refl in
+    rw (modes, scale, paths, end.is (at + 1 + 1 + 1 + 1 + length r.paths)) refl
 
-abbrev behind_proof : Sheet → Proof → List Line
-behind_proof sheet p = verdict_words p.closed ∷ links_words sheet ∷ modules_words sheet ∷ counts_words sheet ∷ gap_words p.gap ∷ from_phases sheet p.routing (value_words (codes "lower") p.lower ∷ value_words (codes "upper") p.upper ∷ from_paths sheet p)
+abbrev behind_proof : Sheet → Proof → List Line → List Line
+behind_proof sheet p rest = verdict_words p.closed ∷ links_words sheet ∷ modules_words sheet ∷ counts_words sheet ∷ gap_words p.gap ∷ from_phases p.routing (value_words (codes "lower") p.lower ∷ value_words (codes "upper") p.upper ∷ rest)
 
-proof_again : (sheet : Sheet) (at : ℕ) (p : Proof) → IsCitable sheet → FitsProof sheet p → proof_at sheet (place at (behind_proof sheet p)) ≡ Ok p
+abbrev proof_end : ℕ → Proof → ℕ
+proof_end at p = at + 1 + 1 + 1 + 1 + 1 + 1 + 1 + 1 + 1 + length p.routing.paths + length p.dual.lengths + length p.dual.potentials
+
+proof_again : (sheet : Sheet) (at : ℕ) (p : Proof) (tail : List Line) (ends : ℕ → Result (Unit {0}) CertRefusal) → IsCitable sheet → FitsProof sheet p → Ends tail ends → proof_at sheet (place at (behind_proof sheet p (from_paths sheet p tail))) ≡ (ends (proof_end at p) >>= λ last. Ok p)
 unfolding proof_at
-proof_again sheet at p own fits =
-    let from_values = value_words (codes "lower") p.lower ∷ value_words (codes "upper") p.upper ∷ from_paths sheet p in
+proof_again sheet at p tail ends own fits end =
+    let from_values = value_words (codes "lower") p.lower ∷ value_words (codes "upper") p.upper ∷ from_paths sheet p tail in
     let r = p.routing in
-    let opening = opening_again sheet p.closed p.gap at (from_phases sheet r from_values) own fits.gap refl in
+    let opening = opening_again sheet p.closed p.gap at (from_phases r from_values) own fits.gap refl in
     let scale = scale_at_again r.phases r.scale_cap r.scale_load (at + 1 + 1 + 1 + 1 + 1) from_values fits.routing.phases fits.routing.scale_cap fits.routing.scale_load refl in
-    let values = values_again p.lower p.upper (at + 1 + 1 + 1 + 1 + 1 + 1 + 1) (from_paths sheet p) fits.lower fits.upper (more_rows (codes "path") (path_words sheet) r.paths (from_lengths sheet p.dual) (stops_paths sheet p.dual)) in
+    let values = values_again p.lower p.upper (at + 1 + 1 + 1 + 1 + 1 + 1 + 1) (from_paths sheet p tail) fits.lower fits.upper (more_rows (codes "path") (path_words sheet) r.paths (from_lengths sheet p.dual tail) (stops_paths sheet p.dual tail)) in
     let from : ℕ = at + 1 + 1 + 1 + 1 + 1 + 1 + 1 + 1 + 1 in
-    let paths = paths_again sheet from r.paths (from_lengths sheet p.dual) own fits.routing.paths (stops_paths sheet p.dual) in
-    let dual = dual_again sheet (from + length r.paths) p.dual own fits.lengths fits.potentials in
-    rw (opening, scale, values, paths, dual, closing_again (from + length r.paths + length p.dual.lengths + length p.dual.potentials)) refl
+    let paths = paths_again sheet from r.paths (from_lengths sheet p.dual tail) own fits.routing.paths (stops_paths sheet p.dual tail) in
+    let dual = dual_again sheet (from + length r.paths) p.dual tail own fits.lengths fits.potentials in
+    rw (opening, scale, values, paths, dual, end.is (proof_end at p)) refl
 
 -- ---- the whole
 
-routing_read : (sheet : Sheet) (r : Routing) → IsCitable sheet → FitsRouting sheet r → paper_in sheet (routing_lines sheet r ++ ended) ≡ Ok (papers.Routing r)
-unfolding paper_in paper_at header
-routing_read sheet r own fits =
-    let rows = map (path_words sheet) r.paths in
-    ap (λ (ls : List Line). paper_in sheet ((codes "mcf-routing" ∷ codes "1" ∷ []) ∷ links_words sheet ∷ modules_words sheet ∷ from_phases sheet r ls)) (append_assoc rows (end_line ∷ []) ended)
-    ∙ rw (routing_again sheet 2 r own fits) refl
+-- the number of the last line
+abbrev pub end_of : Paper → ℕ
+end_of (papers.Routing r) = 6 + length r.paths
+end_of (papers.Full p) = 11 + length p.routing.paths + length p.dual.lengths + length p.dual.potentials
 
-certificate_read : (sheet : Sheet) (p : Proof) → IsCitable sheet → FitsProof sheet p → paper_in sheet (certificate_lines sheet p ++ ended) ≡ Ok (papers.Full p)
+-- lines of these papers, and what stands behind them
+lines_with : (sheet : Sheet) (paper : Paper) (tail : List Line) (ends : ℕ → Result (Unit {0}) CertRefusal) → IsCitable sheet → FitsPaper sheet paper → Ends tail ends → paper_in sheet (paper_lines sheet paper ++ tail) ≡ (ends (end_of paper) >>= λ last. Ok paper)
 unfolding paper_in paper_at header
-certificate_read sheet p own fits =
+lines_with sheet (papers.Routing r) tail ends own fits end =
+    let rows = map (path_words sheet) r.paths in
+    ap (λ (ls : List Line). paper_in sheet ((codes "mcf-routing" ∷ codes "1" ∷ []) ∷ links_words sheet ∷ modules_words sheet ∷ from_phases r ls)) (append_assoc rows (end_line ∷ []) tail)
+    ∙ rw (routing_again sheet 2 r tail ends own fits end) (bound (ends (end_of (papers.Routing r))))
+  where
+    bound : (read : Result (Unit {0}) CertRefusal) → ((read >>= λ last. Ok r) >>= λ q. Ok (papers.Routing q)) ≡ (read >>= λ last. Ok (papers.Routing r))
+    bound (Ok u) = refl
+    bound (Err e) = refl
+lines_with sheet (papers.Full p) tail ends own fits end =
     let paths = map (path_words sheet) p.routing.paths in
     let lengths = map (length_words sheet) p.dual.lengths in
     let potentials = map (potential_words sheet) p.dual.potentials in
-    let last : (paths ++ (lengths ++ (potentials ++ end_line ∷ []))) ++ ended ≡ paths ++ (lengths ++ (potentials ++ (end_line ∷ ended))) = simp append_assoc in
-    ap (λ (ls : List Line). paper_in sheet ((codes "mcf-certificate" ∷ codes "1" ∷ []) ∷ verdict_words p.closed ∷ links_words sheet ∷ modules_words sheet ∷ counts_words sheet ∷ gap_words p.gap ∷ from_phases sheet p.routing (value_words (codes "lower") p.lower ∷ value_words (codes "upper") p.upper ∷ ls))) last
-    ∙ rw (proof_again sheet 2 p own fits) refl
+    let last : (paths ++ (lengths ++ (potentials ++ end_line ∷ []))) ++ tail ≡ paths ++ (lengths ++ (potentials ++ (end_line ∷ tail))) = simp append_assoc in
+    ap (λ (ls : List Line). paper_in sheet ((codes "mcf-certificate" ∷ codes "1" ∷ []) ∷ behind_proof sheet p ls)) last
+    ∙ rw (proof_again sheet 2 p tail ends own fits end) (bound (ends (end_of (papers.Full p))))
+  where
+    bound : (read : Result (Unit {0}) CertRefusal) → ((read >>= λ last. Ok p) >>= λ q. Ok (papers.Full q)) ≡ (read >>= λ last. Ok (papers.Full p))
+    bound (Ok u) = refl
+    bound (Err e) = refl
+
+pub paper_clean : (sheet : Sheet) (paper : Paper) → IsCitable sheet → FitsPaper sheet paper → AllByRecursion IsLine (paper_lines sheet paper)
+paper_clean sheet (papers.Routing r) own fits = routing_clean sheet r own fits
+paper_clean sheet (papers.Full p) own fits = certificate_clean sheet p own fits
+
+pub text_is_of_lines : (sheet : Sheet) (paper : Paper) → paper_text sheet paper ≡ text_of (paper_lines sheet paper)
+text_is_of_lines sheet (papers.Routing r) = refl
+text_is_of_lines sheet (papers.Full p) = refl
 
 -- what is written is read as the same
 pub reads_back : (sheet : Sheet) (paper : Paper) → IsCitable sheet → FitsPaper sheet paper → paper_in sheet (lines_of (paper_text sheet paper)) ≡ Ok paper
-reads_back sheet (papers.Routing r) own fits = ap (paper_in sheet) (lines_of-text (routing_lines sheet r) (routing_clean sheet r own fits)) ∙ routing_read sheet r own fits
-reads_back sheet (papers.Full p) own fits = ap (paper_in sheet) (lines_of-text (certificate_lines sheet p) (certificate_clean sheet p own fits)) ∙ certificate_read sheet p own fits
+reads_back sheet paper own fits =
+    ap (λ (text : List ℕ). paper_in sheet (lines_of text)) (text_is_of_lines sheet paper)
+    ∙ ap (paper_in sheet) (lines_of-text (paper_lines sheet paper) (paper_clean sheet paper own fits))
+    ∙ lines_with sheet paper ended (λ at. Ok tt) own fits (record { is = closing_again })
+
+-- what is written is refused where anything stands behind it
+pub refused_with : (sheet : Sheet) (paper : Paper) (tail : List Line) → IsCitable sheet → FitsPaper sheet paper → has_more tail ≡ true → is_full (bytes_of tail) ≡ true → paper_in sheet (paper_lines sheet paper ++ tail) ≡ Err (record { line = end_of paper + 1; kind = Syntax })
+refused_with sheet paper tail own fits more some = lines_with sheet paper tail (λ at. Err (record { line = at + 1; kind = Syntax })) own fits (record { is = λ at. closing_over at tail more some })

@@ -1,9 +1,11 @@
--- What a text must cite so that it is read as what was written.
-use Rattle.std.specs.Prelude.{◌≡◌, ℕ, ◌≤◌, Bool, true, false, List, length, Result, Ok, Err}
+-- The texts of certificates and routings, and what they must cite so that they are read as what was written.
+use Rattle.std.specs.Prelude.{◌≡◌, ℕ, ◌+◌, ◌≤◌, Bool, true, false, List, length, Result, Ok, Err}
 use Rattle.std.specs.List.{AllByRecursion}
+use Rattle.text_lines.specs.Lines.{Line}
 use Rattle.cert_names.specs.Sheet.{Sheet}
 use Rattle.cert_lines.specs.declared.net_line.TheConstants.{MAX_COUNT}
 use Rattle.cert_lines.specs.Spelling.{IsClear}
+use Rattle.cert_lines.specs.declared.refusal.CertKind.TheVariants.{Syntax}
 use Rattle.cert_lines.specs.declared.refusal.CertRefusal.{CertRefusal}
 use Rattle.cert_lines.specs.declared.refusal.CertEnd.{CertEnd}
 use Rattle.cert_lines.specs.declared.refusal.CertEnd.TheVariants.{Refused, Memory}
@@ -12,12 +14,17 @@ use Rattle.cert_text.specs.declared.papers.Paper.TheVariants.{Routing, Full}
 use Rattle.cert_text.specs.declared.opening.CertHead.{CertHead}
 use Rattle.cert_laws.specs.Fits.{FitsPaper}
 use Rattle.net_options.specs.declared.options.NetOptions.{NetOptions}
-use Rattle.cert_writer.specs.Text.{certificate_text, routing_text}
+use Rattle.cert_writer.specs.Text.{certificate_lines, certificate_text, routing_lines, routing_text}
 
 -- the text of a certificate or of a routing
 abbrev pub paper_text : Sheet → Paper → List ℕ
 paper_text sheet (Routing r) = routing_text sheet r
 paper_text sheet (Full p) = certificate_text sheet p
+
+-- its lines
+abbrev pub paper_lines : Sheet → Paper → List Line
+paper_lines sheet (Routing r) = routing_lines sheet r
+paper_lines sheet (Full p) = certificate_lines sheet p
 
 -- there are seven counts, each within the limit of a count
 pub record AreCounts (counts : List ℕ) : Type 0 where
@@ -51,3 +58,7 @@ abbrev pub IsReading : Sheet → List ℕ → Result Paper CertEnd → Type 0
 IsReading sheet text (Ok paper) = IsPaperText sheet text paper
 IsReading sheet text (Err (Refused refusal)) = (paper : Paper) → ¬ (IsPaperText sheet text paper)
 IsReading sheet text (Err Memory) = Unit {0}
+
+-- the refusal of a line behind its last one
+abbrev pub refused_behind : Sheet → Paper → Result Paper CertRefusal
+refused_behind sheet paper = Err (record { line = length (paper_lines sheet paper) + 1; kind = Syntax })

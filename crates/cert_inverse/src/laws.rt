@@ -1,6 +1,6 @@
 //! Laws, each proved for all names, all texts and all certificates.
 
-ghost use Rattle.std.specs.Prelude.{◌≡◌, ◌↔◌, ℕ, List, Result};
+ghost use Rattle.std.specs.Prelude.{◌≡◌, ◌<◌, ◌↔◌, ◌++◌, ℕ, List, Result, length};
 ghost use Rattle.text_lines.specs.Lines.{Line, lines_of};
 ghost use Rattle.net_options.specs.Modes.{link_word, module_word};
 ghost use Rattle.net_options.specs.declared.options.NetOptions.{NetOptions};
@@ -10,7 +10,7 @@ ghost use Rattle.cert_text.specs.declared.papers.Paper.{Paper};
 ghost use Rattle.cert_text.specs.Reading.{bytes_of, Gives};
 ghost use Rattle.cert_text.specs.Whole.{head_in, paper_in};
 ghost use Rattle.cert_laws.specs.Fits.{FitsPaper, read};
-ghost use Rattle.cert_inverse.specs.Inverse.{IsCitable, IsPaperText, IsReading, head_of, paper_text, read_head};
+ghost use Rattle.cert_inverse.specs.Inverse.{IsCitable, IsPaperText, IsReading, head_of, paper_text, read_head, refused_behind};
 
 /// What is written is read as the same: the text of a certificate or a routing that is within its limits.
 pub fn written_texts_read_back()
@@ -42,4 +42,14 @@ pub fn heads_read_back()
 /// it is the text of none.
 pub fn readings_are_exact()
     ensures { (sheet : Sheet) (text : List ℕ) (answer : Result Paper CertEnd) → IsCitable sheet → Gives (λ x. x) answer (paper_in sheet (lines_of text)) → IsReading sheet text answer }
+{}
+
+/// Nothing may stand behind such a text: the line behind its last one is refused.
+pub fn longer_texts_are_refused()
+    ensures { (sheet : Sheet) (paper : Paper) (back : List ℕ) → IsCitable sheet → FitsPaper sheet paper → 0 < length back → paper_in sheet (lines_of (paper_text sheet paper ++ back)) ≡ refused_behind sheet paper }
+{}
+
+/// A front of such a text, without its last bytes, is read as none.
+pub fn fronts_are_refused()
+    ensures { (sheet : Sheet) (paper other : Paper) (front back : List ℕ) → IsCitable sheet → FitsPaper sheet paper → 0 < length back → paper_text sheet paper ≡ front ++ back → ¬ (paper_in sheet (lines_of front) ≡ read other) }
 {}

@@ -10,7 +10,7 @@ pub use judging::{
     judged_texts_are_written, valid_texts_are_judged_valid, written_texts_are_judged,
 };
 pub use laws::{
-    heads_read_back, read_texts_are_written, readings_are_exact, texts_are_of_one,
-    texts_read_exactly, written_texts_read_back,
+    fronts_are_refused, heads_read_back, longer_texts_are_refused, read_texts_are_written,
+    readings_are_exact, texts_are_of_one, texts_read_exactly, written_texts_read_back,
 };
-pub use networks::{is_citable, networks_are_citable};
+pub use networks::{networks_are_citable, read_network_is_citable};

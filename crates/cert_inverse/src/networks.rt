@@ -16,7 +16,7 @@ pub fn networks_are_citable()
 {}
 
 /// The same of a network text that was read, of which the skipped sections are counted.
-pub fn is_citable(rows: &RawNet<'_>, net: &Scaled)
+pub fn read_network_is_citable(rows: &RawNet<'_>, net: &Scaled)
     requires { IsOf rows.now net.now }
     ensures { IsCitable (sheet_of rows.now net.now) }
 {
