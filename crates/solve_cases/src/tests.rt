@@ -172,7 +172,8 @@ fn hold(flag: &AtomicBool) {
     }
 }
 
-/// Holds the worker of one call until a worker of another number has called with a ticket past the groups' count.
+/// Holds the worker of one call until a worker of another number has called with a ticket that is not below the least.
+#[derive(Drop)]
 struct Meeting {
     calls: AtomicU64,
     held_call: u64,
