@@ -192,6 +192,18 @@ impl Meeting {
             met: AtomicBool::new(false),
         }
     }
+
+    /// The worker of the call that is held, once it is known.
+    fn held_worker(&self) -> u64 {
+        for _ in 0..TURNS {
+            let worker = self.held.load(Ordering::SeqCst);
+            if worker != u64::MAX {
+                return worker;
+            }
+            thread::yield_now();
+        }
+        u64::MAX
+    }
 }
 
 impl Gate for Meeting {
@@ -201,10 +213,8 @@ impl Gate for Meeting {
         if call == self.held_call {
             self.held.store(worker, Ordering::SeqCst);
             hold(&self.met);
-            return;
         }
-        let held = self.held.load(Ordering::SeqCst);
-        if held != u64::MAX && held != worker && ticket >= self.least_ticket {
+        if call > self.held_call && ticket >= self.least_ticket && self.held_worker() != worker {
             self.met.store(true, Ordering::SeqCst);
         }
     }
