@@ -6,7 +6,7 @@ ghost use Rattle.solver_run.specs.Run.{IsSolverRun};
 
 use flow_model::Net;
 use flow_solver::{Solved, solve};
-use mcf_base::OpenGate;
+use mcf_base::Gate;
 use mcf_limits::{MAX_GAP, MAX_PHASES, MAX_STEP, MAX_WORK, MAX_WORKERS};
 use solver_run::{Entry, SolveOptions};
 use std::alloc::{AllocError, Global};
@@ -27,18 +27,19 @@ fn are_options(net: &Net, options: &SolveOptions) -> bool
 }
 
 /// What is solved of the network, if the options are within the limits.
-pub fn solved<R: Threads + Sync>(
+pub fn solved<G: Gate, R: Threads + Sync>(
     rt: &R,
     alloc: Global,
     net: &Net,
     options: &SolveOptions,
+    gate: &G,
 ) -> Result<Option<Solved>, AllocError>
     ensures { IfOk result (λ solved. IfSome solved (λ s. IsSolverRun net.now options.now s)) }
 {
     if !are_options(net, options) {
         return Ok(None);
     }
-    let solved = solve(rt, alloc, net, options, &OpenGate)?;
+    let solved = solve(rt, alloc, net, options, gate)?;
     Ok(Some(solved))
 }
 
