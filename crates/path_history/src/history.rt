@@ -152,3 +152,6 @@ impl PathHistory {
         Ok(OrderedHistory { paths, entries })
     }
 }
+
+#[cfg(test)]
+mod tests;
