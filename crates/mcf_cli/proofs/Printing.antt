@@ -1,5 +1,5 @@
 -- How `print` ends, stage by stage.
-use Rattle.std.proofs.Common.{◌≡◌, ℕ, List, Option, Ok, inl, inr, refl, sym, ap, subst}
+use Rattle.std.proofs.Common.{◌≡◌, ℕ, List, Option, None, Ok, inl, inr, refl, sym, ap, subst}
 use Rattle.mcf_limits.specs.declared.TheConstants.{MAX_NET_BYTES}
 use Rattle.mcf_base.specs.Faults.{Faults}
 use Rattle.mcf_base.specs.Shelf.{Holding}
@@ -31,6 +31,7 @@ prints_outcome old new before after ended text outcomes.Memory ends written = in
 prints_outcome old new before after ended text outcomes.Usage ends written = absurd ends
 prints_outcome old new before after ended text outcomes.ReadFault ends written = absurd ends
 prints_outcome old new before after ended text (outcomes.TooLong paper) ends written = absurd ends
+prints_outcome old new before after ended text (outcomes.TooMuch work) ends written = absurd ends
 prints_outcome old new before after ended text (outcomes.Judged judged) ends written = absurd ends
 
 -- the file gave that text
