@@ -1,4 +1,4 @@
-//! Tests alone: whole runs of `check` and `print` over files and output in memory.
+//! Tests alone: whole runs of `solve`, `check` and `print` over files and output in memory.
 #![tactic(auto)]
 
 #[cfg(test)]
@@ -13,6 +13,8 @@ mod prints;
 mod running;
 #[cfg(test)]
 mod said;
+#[cfg(test)]
+mod solves;
 #[cfg(test)]
 mod texts;
 #[cfg(test)]

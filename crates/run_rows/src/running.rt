@@ -44,6 +44,11 @@ impl Answer {
     pub fn is(&self, status: u8, text: &[u8]) -> bool {
         self.status == status && self.sink.written() == text
     }
+
+    /// Whether this is its status, and its text begins so.
+    pub fn begins(&self, status: u8, text: &[u8]) -> bool {
+        self.status == status && self.sink.written().starts_with(text)
+    }
 }
 
 fn owned_words(alloc: Global, words: &[&str]) -> Result<Vec<String>, AllocError> {

@@ -1,0 +1,192 @@
+//! Rows of `solve`: the certificate of a network, or its refusal. Each certificate is then judged by `check`.
+
+use crate::running::{AMPLE, File, answer_to, expect};
+use crate::texts::{BOTH_WAYS, NO_CAPACITY, ONE_LINK};
+use std::alloc::Global;
+use std::process::Abort;
+use std::test::Fail;
+use std::thread::Threads;
+
+/// Links of 3 and 7 side by side, and a demand of 10.
+const TWO_LINKS: &[u8] =
+    b"?SNDlib native format; type: network; version: 1.0\nNODES (\n  A\n  B\n)\nLINKS (\n  L1 ( A B ) 3 0 0 0 ( )\n  L2 ( A B ) 7 0 0 0 ( )\n)\nDEMANDS (\n  D1 ( A B ) 1 10 UNLIMITED\n)\n";
+
+/// Three nodes in a row with modules, a skipped section, and a demand from a node to itself.
+const THREE_CITIES: &[u8] =
+    b"?SNDlib native format; type: network; version: 1.0\n# network tri\nMETA (\n  granularity = 1\n)\n# NODE SECTION\nNODES (\n  Berlin ( 13.48 52.52 )\n  Essen ( 7.01 51.45 )\n  Ulm ( 9.99 48.40 )\n)\nLINKS (\n  L1 ( Berlin Essen ) 0.00 0.00 0.00 0.00 ( 155.00 100.00 622.00 300.00 )\n  L2 ( Essen Ulm ) 0.00 0.00 0.00 0.00 ( 155.00 100.00 622.00 300.00 )\n)\nDEMANDS (\n  D1 ( Berlin Ulm ) 1 100.00 UNLIMITED\n  D2 ( Ulm Ulm ) 1 5.00 UNLIMITED\n  D3 ( Essen Ulm ) 1 100.00 3\n)\nADMISSIBLE_PATHS (\n  D1 ( P1 ( L1 L2 ) )\n)\n";
+
+/// A demand from a node to itself alone.
+const FROM_A_TO_A: &[u8] =
+    b"?SNDlib native format; type: network; version: 1.0\nNODES (\n  A\n  B\n)\nLINKS (\n  L1 ( A B ) 10 0 0 0 ( )\n)\nDEMANDS (\n  D1 ( A A ) 1 4 UNLIMITED\n)\n";
+
+/// A capacity at its limit, and a demand one over it.
+const GREAT_DEMAND: &[u8] =
+    b"?SNDlib native format; type: network; version: 1.0\nNODES (\n  A\n  B\n)\nLINKS (\n  L1 ( A B ) 17592186044416 0 0 0 ( )\n)\nDEMANDS (\n  D1 ( A B ) 1 17592186044417 UNLIMITED\n)\n";
+
+/// A capacity of seven decimals.
+const SEVEN_DECIMALS: &[u8] =
+    b"?SNDlib native format; type: network; version: 1.0\nNODES (\n  A\n  B\n)\nLINKS (\n  L1 ( A B ) 0.1234567 0 0 0 ( )\n)\nDEMANDS (\n  D1 ( A B ) 1 4 UNLIMITED\n)\n";
+
+// What a row shows, the words, the network, the status, and the text.
+type Row = (
+    &'static str,
+    &'static [&'static str],
+    &'static [u8],
+    u8,
+    &'static [u8],
+);
+
+const SOLVED: &[Row] = &[
+    (
+        "closed_on_one_link",
+        &["solve", "net", "--links", "directed"],
+        ONE_LINK,
+        0,
+        b"mcf-certificate 1\nverdict closed\nlinks directed\nmodules largest\nnet nodes 2 cells 1 commodities 1 decimals 0 skipped 0 left 0 hops 0\ngap 0.050000\nphases 1\nscale 10 4\nlower 10/4 2.500000\nupper 45035996273704960/18014398509481984 2.500000\npath D1 4 L1\nlength L1 4503599627370496\npotential A 0 4503599627370496\nend\n",
+    ),
+    (
+        "gap_met_by_equality",
+        &["solve", "net", "--links", "directed", "--gap", "0"],
+        ONE_LINK,
+        0,
+        b"mcf-certificate 1\nverdict closed\nlinks directed\nmodules largest\nnet nodes 2 cells 1 commodities 1 decimals 0 skipped 0 left 0 hops 0\ngap 0.000000\nphases 1\nscale 10 4\nlower 10/4 2.500000\nupper 45035996273704960/18014398509481984 2.500000\npath D1 4 L1\nlength L1 4503599627370496\npotential A 0 4503599627370496\nend\n",
+    ),
+    (
+        "open_after_one_phase",
+        &[
+            "solve", "net", "--links", "directed", "--phases", "1", "--step", "65536",
+        ],
+        TWO_LINKS,
+        1,
+        b"mcf-certificate 1\nverdict open\nlinks directed\nmodules largest\nnet nodes 2 cells 2 commodities 1 decimals 0 skipped 0 left 0 hops 0\ngap 0.050000\nphases 1\nscale 7 10\nlower 7/10 0.700000\nupper 20266198323167226/19301141260159260 1.050001\npath D1 10 L2\nlength L1 2251799813685248\nlength L2 1930114126015926\npotential A 0 1930114126015926\nend\n",
+    ),
+    (
+        "open_just_above_the_gap",
+        &[
+            "solve", "net", "--links", "directed", "--phases", "1", "--step", "65536", "--gap",
+            "0.5",
+        ],
+        TWO_LINKS,
+        1,
+        b"mcf-certificate 1\nverdict open\nlinks directed\nmodules largest\nnet nodes 2 cells 2 commodities 1 decimals 0 skipped 0 left 0 hops 0\ngap 0.500000\nphases 1\nscale 7 10\nlower 7/10 0.700000\nupper 20266198323167226/19301141260159260 1.050001\npath D1 10 L2\nlength L1 2251799813685248\nlength L2 1930114126015926\npotential A 0 1930114126015926\nend\n",
+    ),
+    (
+        "closed_a_millionth_later",
+        &[
+            "solve", "net", "--links", "directed", "--phases", "1", "--step", "65536", "--gap",
+            "0.500001",
+        ],
+        TWO_LINKS,
+        0,
+        b"mcf-certificate 1\nverdict closed\nlinks directed\nmodules largest\nnet nodes 2 cells 2 commodities 1 decimals 0 skipped 0 left 0 hops 0\ngap 0.500001\nphases 1\nscale 7 10\nlower 7/10 0.700000\nupper 20266198323167226/19301141260159260 1.050001\npath D1 10 L2\nlength L1 2251799813685248\nlength L2 1930114126015926\npotential A 0 1930114126015926\nend\n",
+    ),
+    (
+        "second_phase_takes_the_other_link",
+        &[
+            "solve", "net", "--links", "directed", "--step", "65536", "--gap", "0.2",
+        ],
+        TWO_LINKS,
+        0,
+        b"mcf-certificate 1\nverdict closed\nlinks directed\nmodules largest\nnet nodes 2 cells 2 commodities 1 decimals 0 skipped 0 left 0 hops 0\ngap 0.200000\nphases 3\nscale 3 10\nlower 9/10 0.900000\nupper 20266198323167226/19301141260159260 1.050001\npath D1 10 L1\npath D1 20 L2\nlength L1 2251799813685248\nlength L2 1930114126015926\npotential A 0 1930114126015926\nend\n",
+    ),
+    (
+        "no_way_against_a_direction",
+        &["solve", "net", "--links", "directed"],
+        BOTH_WAYS,
+        0,
+        b"mcf-certificate 1\nverdict closed\nlinks directed\nmodules largest\nnet nodes 2 cells 1 commodities 2 decimals 0 skipped 0 left 0 hops 0\ngap 0.050000\nphases 0\nscale 0 1\nlower 0/1 0.000000\nupper 0/5 0.000000\nlength L1 0\npotential A 0 0\npotential B 1 0\nend\n",
+    ),
+    (
+        "no_way_over_a_link_without_capacity",
+        &["solve", "net"],
+        NO_CAPACITY,
+        0,
+        b"mcf-certificate 1\nverdict closed\nlinks undirected\nmodules largest\nnet nodes 2 cells 1 commodities 1 decimals 0 skipped 0 left 0 hops 0\ngap 0.050000\nphases 0\nscale 0 1\nlower 0/1 0.000000\nupper 0/5 0.000000\nlength L1 1\npotential A 0 1\nend\n",
+    ),
+    (
+        "file_behind_two_dashes",
+        &["solve", "--gap=5E-2", "--", "net"],
+        ONE_LINK,
+        0,
+        b"mcf-certificate 1\nverdict closed\nlinks undirected\nmodules largest\nnet nodes 2 cells 1 commodities 1 decimals 0 skipped 0 left 0 hops 0\ngap 0.050000\nphases 1\nscale 10 4\nlower 10/4 2.500000\nupper 45035996273704960/18014398509481984 2.500000\npath D1 4 L1\nlength L1 4503599627370496\npotential A 0 4503599627370496\nend\n",
+    ),
+    (
+        "modules_and_a_demand_left_out",
+        &["solve", "net", "--step", "1048576"],
+        THREE_CITIES,
+        0,
+        b"mcf-certificate 1\nverdict closed\nlinks undirected\nmodules largest\nnet nodes 3 cells 2 commodities 2 decimals 0 skipped 2 left 1 hops 1\ngap 0.050000\nphases 1\nscale 622 200\nlower 622/200 3.110000\nupper 2812181307944075264/902479144078540800 3.116063\npath D1 100 L1 L2\npath D3 100 L2\nlength L1 17592186044416\nlength L2 4503599627370496\npotential Berlin 0 17592186044416 4521191813414912\npotential Essen 17592186044416 0 4503599627370496\nend\n",
+    ),
+];
+
+const REFUSED: &[Row] = &[
+    (
+        "no_demand_is_left",
+        &["solve", "net"],
+        FROM_A_TO_A,
+        3,
+        b"refused net N10 line 12\n",
+    ),
+    (
+        "amount_over_its_limit",
+        &["solve", "net"],
+        GREAT_DEMAND,
+        3,
+        b"refused net N9 line 10\n",
+    ),
+    (
+        "seventh_decimal_is_too_fine",
+        &["solve", "net"],
+        SEVEN_DECIMALS,
+        3,
+        b"refused net N8 line 7\n",
+    ),
+];
+
+/// The paths are forced, so the text is the same for every number of workers.
+const FORCED: &[&str] = &["1", "2", "16"];
+
+// The certificate is valid on its network.
+fn expect_valid<'a>(
+    rt: &(impl Abort + Threads + Sync),
+    alloc: Global,
+    shows: &str,
+    net: &'a [u8],
+    cert: &'a [u8],
+) -> Result<(), Fail> {
+    let files: [File<'a>; 2] = [("net", net), ("cert", cert)];
+    let judged = answer_to(rt, alloc, &["check", "net", "cert"], &files, AMPLE)?;
+    assert!(rt; judged.begins(0, b"valid "), "{shows}");
+    Ok(())
+}
+
+#[test]
+fn solved(rt: HostRuntime) -> Result<(), Fail> {
+    for (shows, words, net, status, text) in SOLVED {
+        let files: [File<'_>; 1] = [("net", net)];
+        expect(&rt, rt.alloc(), shows, words, &files, *status, text)?;
+        expect_valid(&rt, rt.alloc(), shows, net, text)?;
+    }
+    Ok(())
+}
+
+#[test]
+fn refused(rt: HostRuntime) -> Result<(), Fail> {
+    for (shows, words, net, status, text) in REFUSED {
+        let files: [File<'_>; 1] = [("net", net)];
+        expect(&rt, rt.alloc(), shows, words, &files, *status, text)?;
+    }
+    Ok(())
+}
+
+#[test]
+fn same_for_every_number_of_workers(rt: HostRuntime) -> Result<(), Fail> {
+    for workers in FORCED {
+        let words = ["solve", "net", "--step", "1048576", "--workers", workers];
+        let files: [File<'_>; 1] = [("net", THREE_CITIES)];
+        let text =
+            b"mcf-certificate 1\nverdict closed\nlinks undirected\nmodules largest\nnet nodes 3 cells 2 commodities 2 decimals 0 skipped 2 left 1 hops 1\ngap 0.050000\nphases 1\nscale 622 200\nlower 622/200 3.110000\nupper 2812181307944075264/902479144078540800 3.116063\npath D1 100 L1 L2\npath D3 100 L2\nlength L1 17592186044416\nlength L2 4503599627370496\npotential Berlin 0 17592186044416 4521191813414912\npotential Essen 17592186044416 0 4503599627370496\nend\n";
+        expect(&rt, rt.alloc(), workers, &words, &files, 0, text)?;
+    }
+    Ok(())
+}
