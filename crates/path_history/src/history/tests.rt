@@ -1,5 +1,7 @@
 //! Rows brought into order.
 
+ghost use Rattle.std.specs.Prelude.{◌≡◌};
+
 use super::PathHistory;
 use crate::entries::Entries;
 use flow_paths::PathStore;
@@ -7,7 +9,9 @@ use solver_run::Entry;
 use std::alloc::{AllocError, Global};
 use std::test::Fail;
 
-const fn entry(worker: u16, row: u32) -> Entry {
+const fn entry(worker: u16, row: u32) -> Entry
+    ensures { result ≡ record { worker = worker; row = row } }
+{
     Entry { worker, row }
 }
 
