@@ -7,9 +7,9 @@ ghost use Rattle.sndlib_grammar.specs.Net.{rows_of};
 ghost use Rattle.mcf_cli.specs.Files.{OfFile};
 ghost use Rattle.mcf_cli.specs.Check.{OnTexts, OnRows, OfCheck, Finds, IsTold};
 
+use crate::ended::Ended;
 use crate::files::{file_text, net_rows};
 use crate::outcome::{Outcome, Paper};
-use crate::ended::Ended;
 use crate::tell::tell;
 use cert_judge::judge;
 use mcf_base::{Shelf, Sink};

@@ -8,9 +8,9 @@ ghost use Rattle.mcf_cli.specs.Answer.{Answer, Writes, answer_of};
 ghost use Rattle.mcf_cli.specs.Print.{print_answer};
 ghost use Rattle.mcf_cli.specs.PrintRun.{IsPrinted, Prints};
 
+use crate::ended::Ended;
 use crate::files::{file_text, net_rows};
 use crate::outcome::Paper;
-use crate::ended::Ended;
 use crate::tell::tell;
 use mcf_base::{Shelf, Sink};
 use mcf_limits::MAX_NET_BYTES;

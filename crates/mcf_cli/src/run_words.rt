@@ -32,15 +32,7 @@ fn run_command<F: Shelf, K: Sink, G: Gate, R: Threads + Sync>(
     ensures faults { (F.faults shelf.old).count ≤ (F.faults shelf.new).count }
 {
     match request.command {
-        Command::Solve => solve_file(
-            rt,
-            alloc,
-            shelf,
-            out,
-            request.names.name(0),
-            request,
-            gate,
-        ),
+        Command::Solve => solve_file(rt, alloc, shelf, out, request.names.name(0), request, gate),
         Command::Check => check(
             alloc,
             shelf,

@@ -1,12 +1,11 @@
 //! The line of an outcome.
 
 ghost use Rattle.std.specs.Prelude.{◌≡◌, None};
-
 ghost use Rattle.text_lines.specs.Lines.{spelled};
 ghost use Rattle.mcf_cli.specs.Answer.{answer_of, paper_word as paper_word_lem, work_refused, Writes};
 
-use crate::outcome::{Outcome, Paper};
 use crate::ended::Ended;
+use crate::outcome::{Outcome, Paper};
 use crate::say::say;
 use crate::tell_judged::{tell_judged, tell_net_refusal};
 use line_writer::Word;
