@@ -12,7 +12,7 @@ use Rattle.mcf_cli.specs.Answer.{Answer, answer_of}
 use Rattle.mcf_cli.specs.Files.{IsText, FailedAt}
 use Rattle.mcf_cli.specs.Check.{OnRows, OfCheck, Finds}
 
-failed_since : (name : List ℕ) (first middle last : Faults) → first.count ≤ middle.count → FailedAt name middle last → FailedAt name first last
+pub failed_since : (name : List ℕ) (first middle last : Faults) → first.count ≤ middle.count → FailedAt name middle last → FailedAt name first last
 failed_since name first middle last le failed = record { rose = Rose-then first.count middle.count last.count le failed.rose; last = failed.last }
 
 since : (holds : Option Holding) (first middle last : Faults) (cert : List ℕ) (r : Result NetRows NetRefusal) (answer : Answer) → first.count ≤ middle.count → OnRows holds middle last cert r answer → OnRows holds first last cert r answer

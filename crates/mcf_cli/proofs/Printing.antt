@@ -32,6 +32,7 @@ prints_outcome old new before after ended text outcomes.Usage ends written = abs
 prints_outcome old new before after ended text outcomes.ReadFault ends written = absurd ends
 prints_outcome old new before after ended text (outcomes.TooLong paper) ends written = absurd ends
 prints_outcome old new before after ended text (outcomes.TooMuch work) ends written = absurd ends
+prints_outcome old new before after ended text (outcomes.ScriptRefused r) ends written = absurd ends
 prints_outcome old new before after ended text (outcomes.Judged judged) ends written = absurd ends
 
 -- the file gave that text

@@ -11,7 +11,7 @@ use Rattle.mcf_cli.specs.declared.outcome.Paper.{Paper}
 use Rattle.mcf_cli.specs.declared.outcome.Paper.TheVariants as papers
 use Rattle.mcf_cli.specs.declared.outcome.Outcome.{Outcome}
 use Rattle.mcf_cli.specs.declared.outcome.Outcome.TheVariants as outcomes
-use Rattle.mcf_cli.specs.Judged.{net_refused, judged_words, judged_status}
+use Rattle.mcf_cli.specs.Judged.{net_refused, script_refused, judged_words, judged_status}
 
 pub record Answer : Type 0 where
   pub status : ℕ
@@ -22,6 +22,7 @@ pub record Answer : Type 0 where
 abbrev pub paper_word : Paper → List ℕ
 paper_word papers.Network = codes "net"
 paper_word papers.Certificate = codes "cert"
+paper_word papers.Script = codes "script"
 
 -- the line of work over its limit
 abbrev pub work_refused : ℕ → Line
@@ -35,6 +36,7 @@ words_of outcomes.Memory = codes "memory" ∷ []
 words_of (outcomes.TooLong paper) = codes "refused" ∷ paper_word paper ∷ codes "TooLong" ∷ []
 words_of (outcomes.NetRefused r) = net_refused r
 words_of (outcomes.TooMuch work) = work_refused work
+words_of (outcomes.ScriptRefused r) = script_refused r
 words_of (outcomes.Judged judged) = judged_words judged
 
 abbrev pub status_of : Outcome → ℕ
@@ -44,6 +46,7 @@ status_of outcomes.Memory = 6
 status_of (outcomes.TooLong paper) = 3
 status_of (outcomes.NetRefused r) = 3
 status_of (outcomes.TooMuch work) = 3
+status_of (outcomes.ScriptRefused r) = 3
 status_of (outcomes.Judged judged) = judged_status judged
 
 -- the outcome's line, with its status

@@ -11,6 +11,9 @@ use Rattle.sndlib_grammar.specs.declared.refusal.NetRefusal.{NetRefusal}
 use Rattle.cert_lines.specs.declared.refusal.CertKind.{CertKind}
 use Rattle.cert_lines.specs.declared.refusal.CertKind.TheVariants as texts
 use Rattle.cert_lines.specs.declared.refusal.CertRefusal.{CertRefusal}
+use Rattle.script.specs.declared.refusal.ScriptKind.{ScriptKind}
+use Rattle.script.specs.declared.refusal.ScriptKind.TheVariants as scripts
+use Rattle.script.specs.declared.refusal.ScriptRefusal.{ScriptRefusal}
 use Rattle.cert_check.specs.declared.verdict.Fault.{Fault}
 use Rattle.cert_check.specs.declared.verdict.Fault.TheVariants.{C1, C2, C3, C4, C5, C6, C7, C8, C9, C10}
 use Rattle.cert_judge.specs.declared.judged.Judged.{Judged}
@@ -61,6 +64,18 @@ six_digits n = decimal_word (n / 1000000) (n % 1000000)
 
 abbrev pub net_refused : NetRefusal → Line
 net_refused r = codes "refused" ∷ codes "net" ∷ kind_word r.kind ∷ codes "line" ∷ decimal r.line ∷ []
+
+-- the short name of each refusal of a script
+abbrev pub script_kind_word : ScriptKind → List ℕ
+script_kind_word scripts.Syntax = codes "S1"
+script_kind_word scripts.UnknownLink = codes "S2"
+script_kind_word scripts.BadNumber = codes "S3"
+script_kind_word scripts.TooFine = codes "S4"
+script_kind_word scripts.TooLarge = codes "S5"
+script_kind_word scripts.BelowZero = codes "S6"
+
+abbrev pub script_refused : ScriptRefusal → Line
+script_refused r = codes "refused" ∷ codes "script" ∷ script_kind_word r.kind ∷ codes "line" ∷ decimal r.line ∷ []
 
 abbrev pub cert_refused : CertRefusal → Line
 cert_refused r = codes "refused" ∷ codes "cert" ∷ cert_kind_word r.kind ∷ codes "line" ∷ decimal r.line ∷ []

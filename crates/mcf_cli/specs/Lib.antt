@@ -6,4 +6,6 @@ pub mod Print
 pub mod PrintRun
 pub mod Check
 pub mod Solve
+pub mod WhatIf
+pub mod Drawn
 pub mod Run

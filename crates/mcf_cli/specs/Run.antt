@@ -4,7 +4,7 @@ use Rattle.mcf_limits.specs.declared.TheConstants.{MAX_NET_BYTES}
 use Rattle.mcf_base.specs.Faults.{Faults}
 use Rattle.mcf_base.specs.Shelf.{Holding}
 use Rattle.mcf_words.specs.declared.request.Command.{Command}
-use Rattle.mcf_words.specs.declared.request.Command.TheVariants.{Solve, Check, Print}
+use Rattle.mcf_words.specs.declared.request.Command.TheVariants.{Solve, Check, WhatIf, Print, Gen, Trial}
 use Rattle.mcf_words.specs.declared.request.Request.{Request}
 use Rattle.mcf_words.specs.Request.{request_of}
 use Rattle.mcf_cli.specs.declared.ended.Ended.{Ended}
@@ -15,6 +15,8 @@ use Rattle.mcf_cli.specs.Files.{OfFile}
 use Rattle.mcf_cli.specs.Print.{print_answer}
 use Rattle.mcf_cli.specs.Check.{OfCheck}
 use Rattle.mcf_cli.specs.Solve.{OfSolve}
+use Rattle.mcf_cli.specs.WhatIf.{OfWhatIf}
+use Rattle.mcf_cli.specs.Drawn.{gen_answer, OfTrial}
 
 -- the file of that place among the words
 abbrev pub file_at : Request → ℕ → List ℕ
@@ -28,7 +30,9 @@ abbrev pub OfCommand : Command → Option Holding → Faults → Faults → Requ
 OfCommand Solve holds before after request answer = OfSolve holds before after (file_at request 0) request answer
 OfCommand Print holds before after request answer = OfPrint holds before after request answer
 OfCommand Check holds before after request answer = OfCheck holds before after (file_at request 0) (file_at request 1) answer
-OfCommand _ holds before after request answer = ⊥
+OfCommand Gen holds before after request answer = answer ≡ gen_answer request.numbers
+OfCommand Trial holds before after request answer = OfTrial request answer
+OfCommand WhatIf holds before after request answer = OfWhatIf holds before after (file_at request 0) (file_at request 1) (file_at request 2) answer
 
 -- usage exactly where the words ask for nothing, and else the answer of the command
 abbrev pub OfRequest : Option Holding → Faults → Faults → Option Request → Answer → Type 0

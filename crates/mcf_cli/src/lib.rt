@@ -2,6 +2,7 @@
 #![tactic(auto)]
 
 mod check;
+mod drawn;
 mod ended;
 mod files;
 mod outcome;
@@ -11,6 +12,7 @@ mod say;
 mod solve;
 mod tell;
 mod tell_judged;
+mod what_if;
 
 pub use ended::Ended;
 pub use run_words::run;

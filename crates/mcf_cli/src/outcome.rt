@@ -1,6 +1,7 @@
 //! What a run found, where one line tells it.
 
 use cert_judge::Judged;
+use script::ScriptRefusal;
 use sndlib_read::NetRefusal;
 
 /// A kind of file.
@@ -8,12 +9,13 @@ use sndlib_read::NetRefusal;
 pub enum Paper {
     Network,
     Certificate,
+    Script,
 }
 
 /// What one line tells.
 #[derive(Clone, Copy)]
 pub enum Outcome {
-    /// The words ask for nothing that is built.
+    /// The words are not in the grammar.
     Usage,
     ReadFault,
     Memory,
@@ -22,6 +24,7 @@ pub enum Outcome {
     NetRefused(NetRefusal),
     /// There would be so many commodities times phases.
     TooMuch(u64),
+    ScriptRefused(ScriptRefusal),
     /// What is said of a certificate.
     Judged(Judged),
 }

@@ -1,15 +1,17 @@
 //! The top call.
 
 ghost use Rattle.std.specs.Prelude.{◌≡◌, ◌≤◌, length, map, string_bytes};
-ghost use Rattle.mcf_words.specs.Request.{file_count, IsBuilt, IsWithinLimits};
+ghost use Rattle.mcf_words.specs.Request.{file_count, IsWithinLimits, AreDrawn};
 ghost use Rattle.mcf_cli.specs.Run.{CommandEnds, RunEnds};
 
 use crate::check::check;
+use crate::drawn::{gen_net, trial};
 use crate::ended::Ended;
 use crate::outcome::Outcome;
 use crate::print::print;
 use crate::solve::solve_file;
 use crate::tell::tell;
+use crate::what_if::whatif_files;
 use mcf_base::{Gate, Shelf, Sink};
 use mcf_words::{Command, Request, WordsEnd, read_words};
 use std::alloc::Global;
@@ -25,8 +27,8 @@ fn run_command<F: Shelf, K: Sink, G: Gate, R: Threads + Sync>(
     gate: &G,
 ) -> Ended
     requires files { length request.now.names ≡ file_count request.now.command }
-    requires built { IsBuilt request.now.command }
     requires limits { IsWithinLimits request.now }
+    requires drawn { file_count request.now.command ≡ 0 → AreDrawn request.now.numbers }
     ensures ends { CommandEnds (F.holds shelf.old) (F.faults shelf.old) (F.faults shelf.new) request.now (K.written out.old) (K.written out.new) (K.faults out.old) (K.faults out.new) result }
     ensures holds { F.holds shelf.new ≡ F.holds shelf.old }
     ensures faults { (F.faults shelf.old).count ≤ (F.faults shelf.new).count }
@@ -41,7 +43,16 @@ fn run_command<F: Shelf, K: Sink, G: Gate, R: Threads + Sync>(
             request.names.name(1),
         ),
         Command::Print => print(alloc, shelf, out, request.names.name(0)),
-        _ => unreachable!(),
+        Command::Gen => gen_net(alloc, out, request),
+        Command::Trial => trial(rt, alloc, out, request, gate),
+        Command::WhatIf => whatif_files(
+            alloc,
+            shelf,
+            out,
+            request.names.name(0),
+            request.names.name(1),
+            request.names.name(2),
+        ),
     }
 }
 

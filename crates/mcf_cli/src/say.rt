@@ -11,8 +11,8 @@ use crate::ended::Ended;
 use line_writer::Buffer;
 use mcf_base::{Sink, WriteFault};
 
-// Writes a line of words.
-fn write_line<K: Sink>(out: &mut K, first: &[u8], words: &[&[u8]]) -> Result<(), WriteFault>
+/// Writes a line of words.
+pub fn write_line<K: Sink>(out: &mut K, first: &[u8], words: &[&[u8]]) -> Result<(), WriteFault>
     ensures ok { OnOk result (Appends (K.written out.old) (K.written out.new) (spelled (first.now ∷ map (λ w. w.now) words.now))) }
     ensures err { OnErr result (AppendsFront (K.written out.old) (K.written out.new) (spelled (first.now ∷ map (λ w. w.now) words.now))) }
     ensures cause { HasCause (K.faults out.old) (K.faults out.new) result }

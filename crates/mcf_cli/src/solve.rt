@@ -29,8 +29,8 @@ use std::alloc::Global;
 use std::thread::Threads;
 use unit_scale::Scaled;
 
-// The status of a verdict.
-fn verdict_status(closed: bool) -> u8
+/// The status of a verdict.
+pub fn verdict_status(closed: bool) -> u8
     ensures { result ≡ (if closed then 0 else 1) }
 {
     if closed { 0 } else { 1 }
@@ -63,8 +63,8 @@ fn tell_solved<K: Sink>(raw: &RawNet<'_>, net: &Scaled, solved: Solved, out: &mu
     write_solved(raw, net, solved, out)
 }
 
-// What the words ask of a solve.
-fn asked_by(request: &Request) -> Asked
+/// What the words ask of a solve.
+pub fn asked_by(request: &Request) -> Asked
     ensures { result ≡ asked_of request.now }
 {
     Asked {

@@ -7,7 +7,7 @@ ghost use Rattle.mcf_cli.specs.Answer.{answer_of, paper_word as paper_word_lem, 
 use crate::ended::Ended;
 use crate::outcome::{Outcome, Paper};
 use crate::say::say;
-use crate::tell_judged::{tell_judged, tell_net_refusal};
+use crate::tell_judged::{tell_judged, tell_net_refusal, tell_script_refusal};
 use line_writer::Word;
 use mcf_base::Sink;
 
@@ -17,6 +17,7 @@ fn paper_word(paper: Paper) -> &'static [u8]
     match paper {
         Paper::Network => b"net",
         Paper::Certificate => b"cert",
+        Paper::Script => b"script",
     }
 }
 
@@ -40,6 +41,7 @@ pub fn tell<K: Sink>(out: &mut K, outcome: Outcome) -> Ended
         Outcome::TooLong(paper) => say(out, b"refused", &[paper_word(paper), b"TooLong"], 3),
         Outcome::NetRefused(refusal) => tell_net_refusal(out, refusal),
         Outcome::TooMuch(work) => tell_work(out, work),
+        Outcome::ScriptRefused(refusal) => tell_script_refusal(out, refusal),
         Outcome::Judged(judged) => tell_judged(out, judged),
     }
 }

@@ -4,7 +4,7 @@ ghost use Rattle.std.specs.Prelude.{◌≡◌, ◌<◌, ◌+◌, ◌*◌};
 ghost use Rattle.text_lines.specs.Lines.{spelled};
 ghost use Rattle.cert_judge.specs.declared.judged.Judged.TheVariants as JudgedIs;
 ghost use Rattle.mcf_cli.specs.Answer.{Writes};
-ghost use Rattle.mcf_cli.specs.Judged.{kind_word as kind_word_lem, cert_kind_word as cert_kind_word_lem, fault_word as fault_word_lem, verdict_word as verdict_word_lem, net_refused, cert_refused, judged_words, judged_status, six_digits};
+ghost use Rattle.mcf_cli.specs.Judged.{kind_word as kind_word_lem, cert_kind_word as cert_kind_word_lem, fault_word as fault_word_lem, verdict_word as verdict_word_lem, script_kind_word as script_kind_word_lem, net_refused, script_refused, cert_refused, judged_words, judged_status, six_digits};
 
 use crate::ended::Ended;
 use crate::say::say;
@@ -13,6 +13,7 @@ use gap_fraction::{Frac, Shown};
 use line_writer::Word;
 use mcf_base::Sink;
 use net_options::{NetOptions, link_word, module_word};
+use script::{ScriptKind, ScriptRefusal};
 use sndlib_read::{NetKind, NetRefusal};
 
 fn kind_word(kind: NetKind) -> &'static [u8]
@@ -62,7 +63,7 @@ fn fault_word(fault: Fault) -> &'static [u8]
     }
 }
 
-fn verdict_word(closed: bool) -> &'static [u8]
+pub fn verdict_word(closed: bool) -> &'static [u8]
     ensures { result.now ≡ verdict_word_lem closed }
 {
     if closed { b"closed" } else { b"open" }
@@ -82,6 +83,33 @@ pub fn tell_net_refusal<K: Sink>(out: &mut K, refusal: NetRefusal) -> Ended
 {
     let line = Word::number(refusal.line as u128);
     let words: [&[u8]; 4] = [b"net", kind_word(refusal.kind), b"line", line.bytes()];
+    say(out, b"refused", &words, 3)
+}
+
+fn script_kind_word(kind: ScriptKind) -> &'static [u8]
+    ensures { result.now ≡ script_kind_word_lem kind }
+{
+    match kind {
+        ScriptKind::Syntax => b"S1",
+        ScriptKind::UnknownLink => b"S2",
+        ScriptKind::BadNumber => b"S3",
+        ScriptKind::TooFine => b"S4",
+        ScriptKind::TooLarge => b"S5",
+        ScriptKind::BelowZero => b"S6",
+    }
+}
+
+/// Writes the line of a script's refusal.
+pub fn tell_script_refusal<K: Sink>(out: &mut K, refusal: ScriptRefusal) -> Ended
+    ensures { Writes (K.written out.old) (K.written out.new) (K.faults out.old) (K.faults out.new) result (record { status = 3; text = spelled (script_refused refusal); solved = None }) }
+{
+    let line = Word::number(refusal.line as u128);
+    let words: [&[u8]; 4] = [
+        b"script",
+        script_kind_word(refusal.kind),
+        b"line",
+        line.bytes(),
+    ];
     say(out, b"refused", &words, 3)
 }
 

@@ -1,5 +1,5 @@
 -- What the words of the command line ask for.
-use Rattle.std.specs.Prelude.{ℕ, IfSome, ◌≤◌, ◌^◌, ◌-◌, Bool, List, [], ◌∷◌, length, Option, Some, None, codes, ◌==◌, if◌then◌else◌}
+use Rattle.std.specs.Prelude.{ℕ, IfSome, ◌≤◌, ◌^◌, ◌-◌, Bool, List, [], ◌∷◌, length, slice_index, Option, Some, None, codes, ◌==◌, if◌then◌else◌}
 use Rattle.std.specs.List.{list_all, list_any}
 use Rattle.std.specs.Option.{option_map}
 use Rattle.std.specs.Str.{bytes_eq}
@@ -20,7 +20,7 @@ None >>= f = None
 (Some x) >>= f = f x
 
 abbrev pub command_of : List ℕ → Option Command
-command_of word = if bytes_eq word (codes "solve") then Some Solve else if bytes_eq word (codes "check") then Some Check else if bytes_eq word (codes "print") then Some Print else None
+command_of word = if bytes_eq word (codes "solve") then Some Solve else if bytes_eq word (codes "check") then Some Check else if bytes_eq word (codes "whatif") then Some WhatIf else if bytes_eq word (codes "print") then Some Print else if bytes_eq word (codes "gen") then Some Gen else if bytes_eq word (codes "trial") then Some Trial else None
 
 -- the phase budget, where one was given, is within its limits
 abbrev pub IsBudget : Option ℕ → Type 0
@@ -39,12 +39,9 @@ pub record AreWithinLimits (gap : ℕ) (phases : Option ℕ) (workers step : ℕ
 abbrev pub IsWithinLimits : Request → Type 0
 IsWithinLimits r = AreWithinLimits r.gap r.phases r.workers r.step
 
--- the command is built
-abbrev pub IsBuilt : Command → Type 0
-IsBuilt Solve = Unit {0}
-IsBuilt Check = Unit {0}
-IsBuilt Print = Unit {0}
-IsBuilt _ = ⊥
+-- a seed, and numbers of nodes, links and demands with which a network may be generated
+abbrev pub AreDrawn : List ℕ → Type 0
+AreDrawn numbers = (2 ≤ slice_index numbers 1) × (slice_index numbers 1 ≤ MAX_NODES) × (slice_index numbers 1 ≤ slice_index numbers 2) × (slice_index numbers 2 ≤ MAX_LINKS) × (1 ≤ slice_index numbers 3) × (slice_index numbers 3 ≤ MAX_DEMANDS)
 
 -- how many files the command reads; none where it takes numbers
 abbrev pub file_count : Command → ℕ
@@ -115,7 +112,7 @@ request_from command items = if are_known command items.settings then (do
   Some (record { command = command; names = names; numbers = numbers; net = choices.net; gap = choices.gap; phases = choices.phases; workers = choices.workers; step = choices.step }))
     else None
 
--- what the words ask for; none where they ask for nothing that is built
+-- what the words ask for; none where they are not in the grammar
 abbrev pub request_of : List (List ℕ) → Option Request
 request_of [] = None
 request_of (word ∷ words) = do

@@ -5,7 +5,7 @@ ghost use Rattle.std.specs.List.{list_all, list_any};
 ghost use Rattle.std.specs.Option.{option_map};
 ghost use Rattle.std.specs.Str.{bytes_eq};
 ghost use Rattle.mcf_words.specs.Answers.{Answers};
-ghost use Rattle.mcf_words.specs.Request.{are_known as are_known_lem, choices_of as choices_of_lem, command_of as command_of_lem, file_count as file_count_lem, IsBuilt, IsBudget, AreWithinLimits, IsWithinLimits, four_numbers as four_numbers_lem, numbers_of as numbers_of_lem, files_of as files_of_lem, options_of as options_of_lem, request_from as request_from_lem, request_of};
+ghost use Rattle.mcf_words.specs.Request.{are_known as are_known_lem, choices_of as choices_of_lem, command_of as command_of_lem, file_count as file_count_lem, IsBudget, AreWithinLimits, IsWithinLimits, AreDrawn, four_numbers as four_numbers_lem, numbers_of as numbers_of_lem, files_of as files_of_lem, options_of as options_of_lem, request_from as request_from_lem, request_of};
 ghost use Rattle.mcf_words.specs.Values.{gap_of as gap_of_lem, number_in as number_in_lem, values_of, choice};
 ghost use Rattle.net_options.specs.Modes.{link_mode_of as link_mode_of_lem, module_mode_of as module_mode_of_lem};
 ghost use Rattle.mcf_words.specs.Views.{items_view, setting_view, choices_view};
@@ -23,7 +23,13 @@ const SOLVE: &[u8] = b"solve";
 
 const CHECK: &[u8] = b"check";
 
+const WHAT_IF: &[u8] = b"whatif";
+
 const PRINT: &[u8] = b"print";
+
+const GEN: &[u8] = b"gen";
+
+const TRIAL: &[u8] = b"trial";
 
 const LINKS: &[u8] = b"--links";
 
@@ -55,8 +61,7 @@ pub struct Choices {
 }
 
 fn command_of(word: &[u8]) -> Option<Command>
-    ensures value { result ≡ command_of_lem word.now }
-    ensures built { IfSome result IsBuilt }
+    ensures { result ≡ command_of_lem word.now }
 {
     if word == SOLVE {
         return Some(Command::Solve);
@@ -64,8 +69,17 @@ fn command_of(word: &[u8]) -> Option<Command>
     if word == CHECK {
         return Some(Command::Check);
     }
+    if word == WHAT_IF {
+        return Some(Command::WhatIf);
+    }
     if word == PRINT {
         return Some(Command::Print);
+    }
+    if word == GEN {
+        return Some(Command::Gen);
+    }
+    if word == TRIAL {
+        return Some(Command::Trial);
     }
     None
 }
@@ -229,7 +243,8 @@ fn choices_of(settings: &[Setting<'_>]) -> Option<Choices>
 
 // Seed, nodes, links and demands.
 fn four_numbers(positional: &[&str]) -> Option<[u64; 4]>
-    ensures { result ≡ four_numbers_lem (map (λ w. w.now) positional.now) }
+    ensures value { result ≡ four_numbers_lem (map (λ w. w.now) positional.now) }
+    ensures drawn { IfSome result AreDrawn }
 {
     let [seed, nodes, links, demands] = positional else {
         return None;
@@ -251,7 +266,8 @@ fn four_numbers(positional: &[&str]) -> Option<[u64; 4]>
 
 // The numbers of a command that takes them, and else four zeros.
 fn numbers_of(command: Command, positional: &[&str]) -> Option<[u64; 4]>
-    ensures { result ≡ numbers_of_lem command (map (λ w. w.now) positional.now) }
+    ensures value { result ≡ numbers_of_lem command (map (λ w. w.now) positional.now) }
+    ensures drawn { IfSome result (λ n. file_count_lem command ≡ 0 → AreDrawn n) }
 {
     if file_count(command) == 0 {
         return four_numbers(positional);
@@ -290,6 +306,7 @@ fn request_from(alloc: Global, command: Command, items: &Items<'_>) -> Result<Re
     ensures count { IfOk result (λ r. length r.names ≡ file_count_lem r.command) }
     ensures command { IfOk result (λ r. r.command ≡ command) }
     ensures limits { IfOk result IsWithinLimits }
+    ensures drawn { IfOk result (λ r. file_count_lem r.command ≡ 0 → AreDrawn r.numbers) }
     ensures value { Answers (λ r. r) result (request_from_lem command (items_view items.now)) }
 {
     if !are_known(command, &items.settings) {
@@ -314,11 +331,11 @@ fn request_from(alloc: Global, command: Command, items: &Items<'_>) -> Result<Re
     })
 }
 
-/// What the words ask for. `Usage` exactly where they ask for nothing that is built.
+/// What the words ask for. `Usage` exactly where they are not in the grammar of the command line.
 pub fn read_words(alloc: Global, words: &[String]) -> Result<Request, WordsEnd>
     ensures files { IfOk result (λ r. length r.names ≡ file_count_lem r.command) }
-    ensures built { IfOk result (λ r. IsBuilt r.command) }
     ensures limits { IfOk result IsWithinLimits }
+    ensures drawn { IfOk result (λ r. file_count_lem r.command ≡ 0 → AreDrawn r.numbers) }
     ensures value { Answers (λ r. r) result (request_of (map string_bytes words.now)) }
 {
     let Some((first, others)) = words.split_first() else {

@@ -88,7 +88,7 @@ pub struct Request {
 /// Why there is no request.
 #[derive(Clone, Copy, Debug, PartialEq, Eq)]
 pub enum WordsEnd {
-    /// The words ask for nothing that is built.
+    /// The words are not in the grammar.
     Usage,
     Memory,
 }

@@ -1,9 +1,13 @@
 -- What a solve makes of the rows of a network.
-use Rattle.std.specs.Prelude.{◌≡◌, ℕ, Ok, Err}
+use Rattle.std.specs.Prelude.{◌≡◌, ℕ, ◌≤◌, Ok, Err}
 use Rattle.net_options.specs.declared.options.NetOptions.{NetOptions}
 use Rattle.flow_paths.specs.declared.certificate.Proof.{Proof}
 use Rattle.sndlib_grammar.specs.Rows.{NetRows}
 use Rattle.unit_scale.specs.Scaling.{ScaledNet, scaled_of}
+use Rattle.unit_scale.specs.ScaledFacts.{IsScaledNet}
+use Rattle.flow_model.specs.Network.{IsNetwork}
+use Rattle.cert_names.specs.Sheet.{IsOf}
+use Rattle.cert_lines.specs.declared.net_line.TheConstants.{MAX_COUNT}
 use Rattle.solver_run.specs.History.{SolvedView}
 use Rattle.solver_run.specs.Options.{AreOptions}
 use Rattle.solver_run.specs.Headline.{IsSolved}
@@ -12,9 +16,13 @@ use Rattle.net_solve.specs.Asked.{options_for, IsTooMuch}
 use Rattle.net_solve.specs.declared.solving.Solving.{Solving}
 use Rattle.net_solve.specs.declared.solving.Solving.TheVariants.{Refused, TooMuch, Done}
 
--- the rows stand for this network in units, the work is within its limit, and this is a solve of the network under the asked options
+-- the rows stand for this network in units, whose names can be told apart, the work is within its limit, and this is a solve of the network under the asked options
 pub record IsDone (rows : NetRows) (o : NetOptions) (asked : Asked) (net : ScaledNet) (s : SolvedView) : Type 0 where
   pub network : scaled_of rows o ≡ Ok net
+  pub named : IsOf rows net
+  pub sound : IsNetwork net.net
+  pub facts : IsScaledNet net
+  pub counted : rows.skipped ≤ MAX_COUNT
   pub work : (n : ℕ) → ¬ (IsTooMuch net.net asked n)
   pub options : AreOptions net.net (options_for net.net asked)
   pub solved : IsSolved net.net (options_for net.net asked) s

@@ -2,7 +2,11 @@
 #![tactic(auto)]
 
 mod asked;
+mod laws;
 mod solving;
+mod tally;
 
 pub use asked::Asked;
+pub use laws::{routes_are_of_phases, solves_check};
 pub use solving::{Solving, solve_rows};
+pub use tally::{carried_amount, route_count, total_amount};

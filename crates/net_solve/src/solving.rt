@@ -1,7 +1,10 @@
 //! From rows to a solved network.
 
-ghost use Rattle.std.specs.Prelude.{◌≡◌, IfOk, Ok};
+ghost use Rattle.std.specs.Prelude.{◌≡◌, ◌≤◌, IfOk, Ok};
+ghost use Rattle.net_options.specs.declared.options.NetOptions.{NetOptions};
+ghost use Rattle.sndlib_grammar.specs.Rows.{NetRows, AreNetRows};
 ghost use Rattle.unit_scale.specs.Scaling.{scaled_of};
+ghost use Rattle.cert_lines.specs.declared.net_line.TheConstants.{MAX_COUNT};
 ghost use Rattle.net_solve.specs.Asked.{IsAsked};
 ghost use Rattle.net_solve.specs.Solving.{IsSolving};
 
@@ -34,8 +37,9 @@ fn solve_net<G: Gate, R: Threads + Sync>(
     gate: &G,
 ) -> Result<Solving, AllocError>
     requires { IsAsked asked.now }
-    ensures { IfOk result (λ s. (rows : _) → (o : _) → scaled_of rows o ≡ Ok net → IsSolving rows o asked.now s) }
+    ensures { IfOk result (λ s. (rows : NetRows) → (o : NetOptions) → AreNetRows rows → rows.skipped ≤ MAX_COUNT → scaled_of rows o ≡ Ok net → IsSolving rows o asked.now s) }
 {
+    let _nodes = net.net().nodes();
     let options = match options_of(net.net(), asked) {
         Ok(options) => options,
         Err(work) => return Ok(Solving::TooMuch(work)),
@@ -53,9 +57,11 @@ pub fn solve_rows<G: Gate, R: Threads + Sync>(
     asked: &Asked,
     gate: &G,
 ) -> Result<Solving, AllocError>
-    requires { IsAsked asked.now }
+    requires rows { AreNetRows rows.now }
+    requires asked { IsAsked asked.now }
     ensures { IfOk result (IsSolving rows.now options asked.now) }
 {
+    let _skipped = rows.skipped();
     match scale(alloc, rows, options) {
         Ok(net) => solve_net(rt, alloc, net, asked, gate),
         Err(ScaleEnd::Refused(refusal)) => Ok(Solving::Refused(refusal)),

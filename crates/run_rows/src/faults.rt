@@ -43,6 +43,26 @@ const PRINT: Run = Run {
     writes: 8,
 };
 
+const SOLVE: Run = Run {
+    words: &["solve", "net", "--links", "directed"],
+    files: &[("net", ONE_LINK)],
+    text: CERTIFICATE,
+    reads: 5,
+    writes: 13,
+};
+
+const WHAT_IF: Run = Run {
+    words: &["whatif", "net", "cert", "script"],
+    files: &[
+        ("net", ONE_LINK),
+        ("cert", CERTIFICATE),
+        ("script", b"show"),
+    ],
+    text: b"show lower 10/4 2.500000 upper 45035996273704960/18014398509481984 2.500000\n",
+    reads: 15,
+    writes: 4,
+};
+
 // Where the read of that number fails, the fault is told; a fault behind the last read changes nothing.
 fn reads_fail(rt: &(impl Abort + Threads + Sync), alloc: Global, case: &Run) -> Result<(), Fail> {
     for number in 1..=case.reads {
@@ -100,6 +120,19 @@ fn check_fails(rt: HostRuntime) -> Result<(), Fail> {
     reads_fail(&rt, rt.alloc(), &CHECK)?;
     writes_fail(&rt, rt.alloc(), &CHECK)?;
     rooms_end(&rt, rt.alloc(), &CHECK)
+}
+
+#[test]
+fn solve_fails(rt: HostRuntime) -> Result<(), Fail> {
+    reads_fail(&rt, rt.alloc(), &SOLVE)?;
+    writes_fail(&rt, rt.alloc(), &SOLVE)
+}
+
+#[test]
+fn whatif_fails(rt: HostRuntime) -> Result<(), Fail> {
+    reads_fail(&rt, rt.alloc(), &WHAT_IF)?;
+    writes_fail(&rt, rt.alloc(), &WHAT_IF)?;
+    rooms_end(&rt, rt.alloc(), &WHAT_IF)
 }
 
 #[test]

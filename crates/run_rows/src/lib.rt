@@ -1,10 +1,12 @@
-//! Tests alone: whole runs of `solve`, `check` and `print` over files and output in memory.
+//! Tests alone: whole runs of all commands over files and output in memory.
 #![tactic(auto)]
 
 #[cfg(test)]
 mod certificates;
 #[cfg(test)]
 mod checks;
+#[cfg(test)]
+mod draws;
 #[cfg(test)]
 mod faults;
 #[cfg(test)]
@@ -19,3 +21,5 @@ mod solves;
 mod texts;
 #[cfg(test)]
 mod usages;
+#[cfg(test)]
+mod whatifs;

@@ -45,6 +45,11 @@ impl Answer {
         self.status == status && self.sink.written() == text
     }
 
+    /// The text that was written.
+    pub fn text(&self) -> &[u8] {
+        self.sink.written()
+    }
+
     /// Whether this is its status, and its text begins so.
     pub fn begins(&self, status: u8, text: &[u8]) -> bool {
         self.status == status && self.sink.written().starts_with(text)

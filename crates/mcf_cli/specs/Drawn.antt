@@ -1,0 +1,50 @@
+-- What `gen` and `trial` answer.
+use Rattle.std.specs.Prelude.{◌≡◌, ℕ, List, [], ◌∷◌, Some, None, Ok, length, slice_index, codes, if◌then◌else◌}
+use Rattle.std.specs.Fmt.{decimal}
+use Rattle.text_lines.specs.Lines.{Line, spelled}
+use Rattle.flow_model.specs.Network.{Network}
+use Rattle.sndlib_grammar.specs.Rows.{NetRows}
+use Rattle.sndlib_grammar.specs.Net.{rows_of}
+use Rattle.unit_scale.specs.Scaling.{ScaledNet}
+use Rattle.solver_run.specs.History.{SolvedView}
+use Rattle.net_gen.specs.Generated.{generated_text}
+use Rattle.net_solve.specs.declared.solving.Solving.{Solving}
+use Rattle.net_solve.specs.declared.solving.Solving.TheVariants.{Refused, TooMuch, Done}
+use Rattle.net_solve.specs.Solving.{IsSolving}
+use Rattle.net_solve.specs.Tally.{total_of, routes_of, carried_of}
+use Rattle.mcf_words.specs.declared.request.Request.{Request}
+use Rattle.mcf_cli.specs.declared.outcome.Outcome.TheVariants.{NetRefused, TooMuch as TooMuchWork}
+use Rattle.mcf_cli.specs.Judged.{verdict_word}
+use Rattle.mcf_cli.specs.Answer.{Answer, answer_of}
+use Rattle.mcf_cli.specs.Solve.{asked_of}
+
+-- the text that is drawn from the seed, with so many nodes, links and demands
+abbrev pub text_drawn : List ℕ → List ℕ
+text_drawn numbers = generated_text (slice_index numbers 0) (slice_index numbers 1) (slice_index numbers 2) (slice_index numbers 3)
+
+abbrev pub gen_answer : List ℕ → Answer
+gen_answer numbers = record { status = 0; text = text_drawn numbers; solved = None }
+
+-- the size of the network, the sum of its amounts, the phases, how often a commodity was routed, the sum of all path weights, and the verdict
+abbrev pub trial_words : Network → SolvedView → Line
+trial_words net s =
+    codes "trial" ∷ codes "nodes" ∷ decimal net.nodes ∷ codes "links" ∷ decimal (length net.cells) ∷ codes "commodities" ∷ decimal (length net.commodities)
+    ∷ codes "total" ∷ decimal (total_of net) ∷ codes "phases" ∷ decimal s.proof.routing.phases ∷ codes "routes" ∷ decimal (routes_of s)
+    ∷ codes "carried" ∷ decimal (carried_of s.proof.routing.paths) ∷ verdict_word s.proof.closed ∷ []
+
+-- the line of a solve, with status 0 where it is closed and 1 where it is open
+abbrev pub trial_line : Network → SolvedView → Answer
+trial_line net s = record { status = if s.proof.closed then 0 else 1; text = spelled (trial_words net s); solved = Some s }
+
+abbrev pub trial_answer : Solving → Answer
+trial_answer (Refused r) = answer_of (NetRefused r)
+trial_answer (TooMuch n) = answer_of (TooMuchWork n)
+trial_answer (Done net s) = trial_line net.net s
+
+-- the answer is that of a solve of the rows
+abbrev pub TriesRows : Request → NetRows → Answer → Type 0
+TriesRows request rows answer = (solving : Solving) × IsSolving rows request.net (asked_of request) solving × (answer ≡ trial_answer solving)
+
+-- the answer of the rows of the text that is drawn
+abbrev pub OfTrial : Request → Answer → Type 0
+OfTrial request answer = (rows : NetRows) × (rows_of (text_drawn request.numbers) ≡ Ok rows) × TriesRows request rows answer

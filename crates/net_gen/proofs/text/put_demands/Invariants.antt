@@ -1,0 +1,14 @@
+use Rattle.std.proofs.Common.{◌≡◌, ◌++◌, ◌*◌}
+use Rattle.std.specs.String.{string_bytes}
+use Rattle.sndlib_text.specs.Canonical.{demand_line}
+use Rattle.net_gen.specs.Draws.{past}
+use Rattle.net_gen.specs.Generated.{generated_names, generated_demand}
+use Rattle.net_gen.proofs.Putting.{lines_below}
+use Rattle.net_gen.proofs.text.put_demands.Given as goal
+
+abbrev pub invariant-loop-i : goal.invariant-loop-i
+invariant-loop-i l =
+    record {
+      lines : string_bytes l.text ≡ string_bytes l.fn.text ++ lines_below (demand_line (generated_names l.nodes)) (λ i. generated_demand (past (2 * i) l.fn.draws) l.nodes i) l.i;
+      rest : l.draws ≡ past (2 * l.i) l.fn.draws;
+    }

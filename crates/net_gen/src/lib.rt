@@ -1,0 +1,15 @@
+//! Networks that are drawn from a seed, as canonical texts.
+#![tactic(auto)]
+
+mod draws;
+mod laws;
+mod text;
+
+pub use laws::{
+    drawn_ends_differ, generated_text_is_canonical, generated_text_is_short,
+    generated_text_reads_back,
+};
+pub use text::generate;
+
+#[cfg(test)]
+mod tests;

@@ -1,0 +1,5 @@
+pub mod AsJudged
+pub mod Headers
+pub mod Papers
+pub mod Sizes
+pub mod SoundLines

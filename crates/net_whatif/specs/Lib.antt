@@ -1,0 +1,4 @@
+pub mod Certified
+pub mod Judged
+pub mod Scripted
+pub mod Sound

@@ -1,0 +1,32 @@
+//! Laws, each proved for all networks, texts, certificates and scripts.
+
+ghost use Rattle.std.specs.Prelude.{◌≡◌, ℕ, List, false, length};
+ghost use Rattle.text_lines.specs.Lines.{lines_of};
+ghost use Rattle.flow_paths.specs.declared.certificate.Proof.{Proof};
+ghost use Rattle.script.specs.declared.step.Step.{Step};
+ghost use Rattle.script.specs.Steps.{AreSteps};
+ghost use Rattle.sndlib_grammar.specs.Rows.{NetRows};
+ghost use Rattle.unit_scale.specs.Scaling.{ScaledNet};
+ghost use Rattle.cert_judge.specs.Judgement.{IsJudgement};
+ghost use Rattle.whatif.specs.Planned.{Planned, IsPlanned};
+ghost use Rattle.net_whatif.specs.declared.certifying.Certified.{Certified};
+ghost use Rattle.net_whatif.specs.Certified.{IsCertificate, IsCertifiedText, is_routing};
+ghost use Rattle.net_whatif.specs.Judged.{judged_of};
+ghost use Rattle.net_whatif.specs.Scripted.{start_of};
+ghost use Rattle.net_whatif.specs.Sound.{AreSoundLines};
+
+/// Each line that steps write on a plan has the lower fraction of a feasible routing of the network with the capacities as
+/// they are then, and the upper one bounds all feasible routings of it.
+pub fn lines_are_bounds()
+    ensures { (p : Planned) (steps : List Step) → IsPlanned p → AreSteps (length p.caps) steps → AreSoundLines p steps }
+{}
+
+/// The same of the plan of a valid certificate.
+pub fn certificate_lines_are_bounds()
+    ensures { (rows : NetRows) (net : ScaledNet) (proof : Proof) (steps : List Step) → IsCertificate rows net proof → AreSteps (length net.net.cells) steps → AreSoundLines (start_of net proof) steps }
+{}
+
+/// Where line 1 of a text is no header of a routing, what comes of it is what `check` says of it.
+pub fn certified_as_judged()
+    ensures { (rows : NetRows) (text : List ℕ) (certified : Certified) → is_routing (lines_of text) ≡ false → IsCertifiedText rows text certified → IsJudgement rows text (judged_of certified) }
+{}

@@ -1,0 +1,63 @@
+//! From a valid certificate and a script's text to what the script shows.
+
+ghost use Rattle.std.specs.Prelude.{◌≡◌, ◌≤◌, IfOk, OnOk, OnErr, length};
+ghost use Rattle.std.specs.Io.KnownBytes.{Appends};
+ghost use Rattle.mcf_base.specs.Faults.{HasCause};
+ghost use Rattle.mcf_base.specs.Sink.{AppendsFront};
+ghost use Rattle.mcf_limits.specs.declared.TheConstants.{MAX_SCRIPT_BYTES};
+ghost use Rattle.script.specs.Steps.{AreSteps};
+ghost use Rattle.whatif.specs.Shown.{shown_text};
+ghost use Rattle.net_whatif.specs.Certified.{IsCertificate};
+ghost use Rattle.net_whatif.specs.Scripted.{CanRun, IsScriptedText};
+
+use flow_paths::Proof;
+use mcf_base::{Sink, WriteFault};
+use script::{Script, ScriptEnd, ScriptRefusal};
+use sndlib_read::RawNet;
+use std::alloc::{AllocError, Global};
+use unit_scale::Scaled;
+use whatif::{Plan, run_script};
+
+/// What comes of a script's text.
+#[derive(Drop)]
+pub enum Scripted {
+    /// The first refusal.
+    Refused(ScriptRefusal),
+    /// The plan of the certificate, and the steps of the script.
+    Ready(Plan, Script),
+}
+
+/// The steps of the text with the plan of the certificate, or the first refusal of the text, where all of it is judged. What
+/// memory the steps take is taken here.
+pub fn read_script(
+    alloc: Global,
+    rows: &RawNet<'_>,
+    net: &Scaled,
+    proof: &Proof,
+    text: &[u8],
+) -> Result<Scripted, AllocError>
+    requires certificate { IsCertificate rows.now net.now proof.now }
+    requires text { length text.now ≤ MAX_SCRIPT_BYTES }
+    ensures value { IfOk result (IsScriptedText rows.now net.now proof.now text.now) }
+    ensures steps { IfOk result CanRun }
+{
+    let _facts = net.net();
+    let script = match Script::read(alloc, rows, net, text) {
+        Ok(script) => script,
+        Err(ScriptEnd::Refused(refusal)) => return Ok(Scripted::Refused(refusal)),
+        Err(ScriptEnd::Memory) => return Err(AllocError),
+    };
+    let plan = Plan::new(alloc, net.net(), proof)?;
+    Ok(Scripted::Ready(plan, script))
+}
+
+/// Writes a line for each `show` of the steps. After a fault a front of these lines was written. It takes no memory.
+pub fn write_shown<K: Sink>(plan: Plan, script: &Script, out: &mut K) -> Result<(), WriteFault>
+    requires { AreSteps (length plan.caps) script.now }
+    ensures ok { OnOk result (Appends (K.written out.old) (K.written out.new) (shown_text plan script.now)) }
+    ensures err { OnErr result (AppendsFront (K.written out.old) (K.written out.new) (shown_text plan script.now)) }
+    ensures cause { HasCause (K.faults out.old) (K.faults out.new) result }
+{
+    let mut plan = plan;
+    run_script(&mut plan, script, out)
+}

@@ -1,0 +1,196 @@
+//! Rows of `whatif`: what a script shows of a certificate, or the first refusal of the three files.
+
+use crate::running::{File, expect};
+use crate::texts::{CERTIFICATE, CUT, NO_CAPACITY, ONE_LINK, ROUTING, repeated};
+use std::alloc::Global;
+use std::process::Abort;
+use std::test::Fail;
+use std::thread::Threads;
+
+/// Links of 3 and 7 side by side, and a demand of 10.
+const TWO_LINKS: &[u8] =
+    b"?SNDlib native format; type: network; version: 1.0\nNODES (\n  A\n  B\n)\nLINKS (\n  L1 ( A B ) 3 0 0 0 ( )\n  L2 ( A B ) 7 0 0 0 ( )\n)\nDEMANDS (\n  D1 ( A B ) 1 10 UNLIMITED\n)\n";
+
+/// The header of a routing, without the end of its line.
+const HEADER_OF_A_ROUTING: &[u8] = b"mcf-routing 1";
+
+/// A certificate of one phase over the second link.
+const OPEN: &[u8] =
+    b"mcf-certificate 1\nverdict open\nlinks directed\nmodules largest\nnet nodes 2 cells 2 commodities 1 decimals 0 skipped 0 left 0 hops 0\ngap 0.050000\nphases 1\nscale 7 10\nlower 7/10 0.700000\nupper 20266198323167226/19301141260159260 1.050001\npath D1 10 L2\nlength L1 2251799813685248\nlength L2 1930114126015926\npotential A 0 1930114126015926\nend\n";
+
+/// A certificate of a phase over each link.
+const TWO_PHASES: &[u8] =
+    b"mcf-certificate 1\nverdict closed\nlinks directed\nmodules largest\nnet nodes 2 cells 2 commodities 1 decimals 0 skipped 0 left 0 hops 0\ngap 0.200000\nphases 3\nscale 3 10\nlower 9/10 0.900000\nupper 20266198323167226/19301141260159260 1.050001\npath D1 10 L1\npath D1 20 L2\nlength L1 2251799813685248\nlength L2 1930114126015926\npotential A 0 1930114126015926\nend\n";
+
+/// A certificate that says open and is closed.
+const INVALID: &[u8] =
+    b"mcf-certificate 1\nverdict open\nlinks directed\nmodules largest\nnet nodes 2 cells 1 commodities 1 decimals 0 skipped 0 left 0 hops 0\ngap 0.050000\nphases 1\nscale 10 4\nlower 10/4 2.500000\nupper 45035996273704960/18014398509481984 2.500000\npath D1 4 L1\nlength L1 4503599627370496\npotential A 0 4503599627370496\nend\n";
+
+// What a row shows, the network, the certificate, the script, the status, and the text.
+type Row = (
+    &'static str,
+    &'static [u8],
+    &'static [u8],
+    &'static [u8],
+    u8,
+    &'static [u8],
+);
+
+const ROWS: &[Row] = &[
+    (
+        "invalid_certificate_before_the_script",
+        ONE_LINK,
+        INVALID,
+        b"nothing",
+        1,
+        b"invalid C10\n",
+    ),
+    (
+        "capacity_for_a_link_without_one",
+        NO_CAPACITY,
+        CUT,
+        b"set L1 3 show",
+        0,
+        b"show lower 0/1 0.000000 upper 3/5 0.600000\n",
+    ),
+    (
+        "routing_is_no_certificate",
+        ONE_LINK,
+        ROUTING,
+        b"show",
+        3,
+        b"refused cert K1 line 1\n",
+    ),
+    (
+        "header_of_a_routing_alone",
+        ONE_LINK,
+        HEADER_OF_A_ROUTING,
+        b"",
+        3,
+        b"refused cert K1 line 1\n",
+    ),
+    (
+        "capacities_set_and_closed",
+        TWO_LINKS,
+        OPEN,
+        b"set L2 14 show close L2 show",
+        0,
+        b"show lower 14/10 1.400000 upper 33776997205278708/19301141260159260 1.750001\nshow lower 0/10 0.000000 upper 6755399441055744/19301141260159260 0.350001\n",
+    ),
+    (
+        "capacity_below_zero",
+        TWO_LINKS,
+        OPEN,
+        b"close L2\nsub L2 1\nshow\n",
+        3,
+        b"refused script S6 line 2\n",
+    ),
+    (
+        "link_that_is_none",
+        TWO_LINKS,
+        OPEN,
+        b"set L9 1",
+        3,
+        b"refused script S2 line 1\n",
+    ),
+    ("nothing_to_show", TWO_LINKS, OPEN, b"", 0, b""),
+    (
+        "lower_follows_the_fullest_cell",
+        TWO_LINKS,
+        OPEN,
+        b"sub L1 3 show",
+        0,
+        b"show lower 7/10 0.700000 upper 13510798882111482/19301141260159260 0.700000\n",
+    ),
+    (
+        "shown_twice",
+        TWO_LINKS,
+        OPEN,
+        b"show show",
+        0,
+        b"show lower 7/10 0.700000 upper 20266198323167226/19301141260159260 1.050001\nshow lower 7/10 0.700000 upper 20266198323167226/19301141260159260 1.050001\n",
+    ),
+    (
+        "another_cell_is_the_fullest",
+        TWO_LINKS,
+        TWO_PHASES,
+        b"set L1 30 show",
+        0,
+        b"show lower 21/20 1.050000 upper 81064793292668922/19301141260159260 4.200001\n",
+    ),
+    (
+        "word_that_is_no_command",
+        ONE_LINK,
+        CERTIFICATE,
+        b"set L1",
+        3,
+        b"refused script S1 line 1\n",
+    ),
+    (
+        "no_number",
+        ONE_LINK,
+        CERTIFICATE,
+        b"set L1 x",
+        3,
+        b"refused script S3 line 1\n",
+    ),
+    (
+        "number_too_fine",
+        ONE_LINK,
+        CERTIFICATE,
+        b"set L1 0.5",
+        3,
+        b"refused script S4 line 1\n",
+    ),
+    (
+        "capacity_over_its_limit",
+        ONE_LINK,
+        CERTIFICATE,
+        b"add L1 17592186044416",
+        3,
+        b"refused script S5 line 1\n",
+    ),
+    (
+        "all_closed",
+        ONE_LINK,
+        CERTIFICATE,
+        b"sub L1 10 show",
+        0,
+        b"show lower 0/4 0.000000 upper 0/18014398509481984 0.000000\n",
+    ),
+];
+
+const WHAT_IF: &[&str] = &["whatif", "net", "cert", "script"];
+
+#[test]
+fn scripts(rt: HostRuntime) -> Result<(), Fail> {
+    for (shows, net, cert, script, status, text) in ROWS {
+        let files: [File<'_>; 3] = [("net", net), ("cert", cert), ("script", script)];
+        expect(&rt, rt.alloc(), shows, WHAT_IF, &files, *status, text)?;
+    }
+    Ok(())
+}
+
+// A script over its limit is refused before it is judged.
+fn expect_too_long(rt: &(impl Abort + Threads + Sync), alloc: Global) -> Result<(), Fail> {
+    let script = repeated(alloc, b"show ", 209_716)?;
+    let files: [File<'_>; 3] = [
+        ("net", ONE_LINK),
+        ("cert", CERTIFICATE),
+        ("script", &script),
+    ];
+    expect(
+        rt,
+        alloc,
+        "too_long",
+        WHAT_IF,
+        &files,
+        3,
+        b"refused script TooLong\n",
+    )
+}
+
+#[test]
+fn script_over_its_limit(rt: HostRuntime) -> Result<(), Fail> {
+    expect_too_long(&rt, rt.alloc())
+}

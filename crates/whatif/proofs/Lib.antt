@@ -1,0 +1,9 @@
+pub mod Trees
+pub mod Filling
+pub mod Sums
+pub mod Keeping
+pub mod Limits
+pub mod Showing
+pub mod Sound
+pub mod Starting
+pub mod Lines

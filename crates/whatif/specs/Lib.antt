@@ -1,0 +1,4 @@
+pub mod Planned
+pub mod Ratios
+pub mod Shown
+pub mod Tournament

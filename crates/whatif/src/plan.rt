@@ -1,0 +1,153 @@
+//! A certificate whose network's capacities are edited.
+
+ghost use Rattle.std.specs.Prelude.{◌≡◌, ◌≢◌, ◌+◌, ◌*◌, ◌-◌, ◌<◌, ◌≤◌, ◌^◌, ℕ, All, IfOk, length, map, slice_index, slice_set};
+ghost use Rattle.flow_model.specs.Network.{IsNetwork};
+ghost use Rattle.flow_model.specs.Bound.{volume};
+ghost use Rattle.flow_paths.specs.Certificate.{IsProofOf, IsValid, lengths_in};
+ghost use Rattle.flow_paths.specs.Evaluation.{edited, loads_of, with_caps};
+ghost use Rattle.whatif.specs.Ratios.{IsRatio, ratios};
+
+use crate::bounds::Bounds;
+use crate::ratio::{MAX_LOAD, Ratio, ratio_of};
+use crate::tree::Tree;
+use cert_check::{cell_lengths, path_loads};
+use flow_model::{Cell, Net};
+use flow_paths::{Dual, Proof};
+use gap_fraction::Frac;
+use mcf_limits::{MAX_CELLS, MAX_LENGTH, MAX_UNITS};
+use std::alloc::{AllocError, Global};
+use std::marker::Model;
+use std::snapshot::Snapshot;
+
+/// A valid certificate under capacities that are edited. It is seen as the network, the certificate and the capacities as they are now.
+#[derive(Drop)]
+pub struct Plan {
+    net: Snapshot<Net>,
+    proof: Snapshot<Proof>,
+    phases: u32,
+    caps: Vec<u64>,
+    loads: Vec<u128>,
+    lengths: Vec<u64>,
+    tree: Tree,
+    // Capacity times length, over all cells.
+    sum: u128,
+    // Amount times distance, over all commodities.
+    distance: u128,
+}
+
+impl Model for Plan {
+    ghost use Rattle.std.specs.Prelude.{◌≡◌};
+    ghost use Rattle.whatif.specs.Planned.{Planned, IsKept};
+
+    ghost Value = { Planned };
+
+    ghost view = { λ p. record { net = p.net.value; proof = p.proof.value; caps = p.caps.items } };
+
+    ghost invariant = { λ p. (p.phases ≡ p.proof.value.routing.phases) × IsKept (record { net = p.net.value; proof = p.proof.value; caps = p.caps.items }) p.loads.items p.lengths.items p.tree p.sum p.distance };
+}
+
+// The capacities of the cells.
+fn capacities(alloc: Global, cells: &[Cell]) -> Result<Vec<u64>, AllocError>
+    ensures { IfOk result (λ caps. caps.items ≡ map (λ c. c.cap) cells.now) }
+{
+    cells.iter().map(|c| c.cap).collect(alloc)
+}
+
+// The ratio of each cell.
+fn ratios_of(alloc: Global, cells: &[Cell], loads: &[u128]) -> Result<Vec<Ratio>, AllocError>
+    requires few { length cells.now ≤ MAX_CELLS }
+    requires count { length loads.now ≡ length cells.now }
+    requires caps { All (λ c. c.cap ≤ MAX_UNITS) cells.now }
+    requires small { All (λ n. n ≤ MAX_LOAD) loads.now }
+    ensures value { IfOk result (λ v. v.items ≡ ratios 0 cells.now loads.now) }
+    ensures ratios { IfOk result (λ v. All IsRatio v.items) }
+{
+    let mut list = Vec::with_capacity(alloc, cells.len())?;
+    for (c, cell) in cells.iter().enumerate() {
+        list.push(ratio_of(cell.cap, loads[c], c as u16))?;
+    }
+    Ok(list)
+}
+
+// Looks at each row of potentials, which tells that none is over the limit.
+fn see_potentials(dual: &Dual)
+    ensures { All (λ r. All (λ p. p ≤ MAX_LENGTH) r.values) dual.now.potentials }
+{
+    for i in 0..dual.rows() {
+        let _row = dual.row(i);
+    }
+}
+
+impl Plan {
+    ghost use Rattle.whatif.specs.Planned.{AreBounds, IsPlanned, evaluation_of, shown_of, with_cap};
+
+    /// The plan of a valid certificate, with the capacities of its network.
+    pub fn new(alloc: Global, net: &Net, proof: &Proof) -> Result<Plan, AllocError>
+        requires proof { IsProofOf net.now proof.now }
+        requires valid { IsValid net.now proof.now }
+        ensures { IfOk result (λ p. p ≡ record { net = net.now; proof = proof.now; caps = map (λ c. c.cap) net.now.cells }) }
+    {
+        see_potentials(&proof.dual);
+        let cells = net.cells();
+        let caps = capacities(alloc, cells)?;
+        let loads = path_loads(alloc, cells.len(), &proof.routing.paths)?;
+        let lengths = cell_lengths(alloc, cells.len(), &proof.dual)?;
+        let tree = Tree::new(alloc, &ratios_of(alloc, cells, &loads)?)?;
+        Ok(Plan {
+            net: Snapshot::of(net),
+            proof: Snapshot::of(proof),
+            phases: proof.routing.phases,
+            caps,
+            loads,
+            lengths,
+            tree,
+            sum: proof.upper.num,
+            distance: proof.upper.den,
+        })
+    }
+
+    /// The cell gets the capacity. It takes no memory, and its time goes by the logarithm of the number of cells.
+    pub fn set(&mut self, cell: u16, cap: u64)
+        requires cell { cell < length self.old.caps }
+        requires cap { cap ≤ MAX_UNITS }
+        ensures { self.new ≡ with_cap self.old cell cap }
+    {
+        let i = cell as usize;
+        let length = self.lengths[i] as u128;
+        let without = self.sum - self.caps[i] as u128 * length;
+        self.sum = without + cap as u128 * length;
+        self.caps[i] = cap;
+        self.tree.set(i, ratio_of(cap, self.loads[i], cell));
+    }
+
+    // The lower fraction.
+    fn lower(&self) -> Frac
+        ensures { result ≡ (shown_of self.now).lower }
+    {
+        if self.phases == 0 {
+            return Frac::new(0, 1);
+        }
+        let top = self.tree.top();
+        Frac::new(self.phases as u128 * top.cap as u128, top.load)
+    }
+
+    // The upper fraction.
+    fn upper(&self) -> Frac
+        ensures value { result ≡ (shown_of self.now).upper }
+        ensures planned { IsPlanned self.now }
+    {
+        Frac::new(self.sum, self.distance)
+    }
+
+    /// Both fractions of the certificate's rows and lengths under the capacities as they are now: the lower one is that of a
+    /// feasible routing of the network with these capacities, and the upper one bounds all of them. It takes no memory, and its time does not go by the network.
+    pub fn shown(&self) -> Bounds
+        ensures value { evaluation_of result ≡ shown_of self.now }
+        ensures sound { AreBounds (edited self.now.net self.now.caps) self.now.proof (shown_of self.now) }
+    {
+        Bounds {
+            lower: self.lower(),
+            upper: self.upper(),
+        }
+    }
+}
