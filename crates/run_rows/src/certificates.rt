@@ -1,6 +1,7 @@
 //! Rows of `check` on certificates.
 
-use crate::running::{File, expect};
+use crate::expected::expect;
+use crate::running::File;
 use crate::said::{CHECK, Row, certs};
 use crate::texts::{CERTIFICATE, CUT, NO_CAPACITY, ONE_LINK, edited, repeated};
 use std::test::Fail;

@@ -1,6 +1,7 @@
 //! Rows of `check` on routings and on networks, and the order of refusals.
 
-use crate::running::{File, expect};
+use crate::expected::expect;
+use crate::running::File;
 use crate::said::{Row, certs, nets};
 use crate::texts::{
     BOTH_ROUTED, BOTH_WAYS, CERTIFICATE, ONE_LINK, ROUTING, THERE_AND_BACK, edited,

@@ -1,6 +1,7 @@
 //! Rows of `gen` and `trial`: networks that are drawn from a seed.
 
-use crate::running::{AMPLE, File, answer_to, expect};
+use crate::expected::expect;
+use crate::running::{AMPLE, File, answer_to};
 use std::alloc::Global;
 use std::process::Abort;
 use std::test::Fail;

@@ -1,6 +1,7 @@
 //! Files and output that fail: at each read, at each write, and where nothing stands.
 
-use crate::running::{AMPLE, File, Outside, answer_to, expect};
+use crate::expected::expect;
+use crate::running::{AMPLE, File, Outside, answer_to};
 use crate::texts::{CERTIFICATE, FREE_LAYOUT, FREE_LAYOUT_PRINTED, ONE_LINK, ROUTING};
 use std::alloc::Global;
 use std::process::Abort;

@@ -1,4 +1,4 @@
-//! Tests alone: whole runs of all commands over files and output in memory.
+//! Whole runs of all commands over files and output in memory, and tables of them as tests.
 #![tactic(auto)]
 
 #[cfg(test)]
@@ -8,10 +8,11 @@ mod checks;
 #[cfg(test)]
 mod draws;
 #[cfg(test)]
+mod expected;
+#[cfg(test)]
 mod faults;
 #[cfg(test)]
 mod prints;
-#[cfg(test)]
 mod running;
 #[cfg(test)]
 mod said;
@@ -23,3 +24,5 @@ mod texts;
 mod usages;
 #[cfg(test)]
 mod whatifs;
+
+pub use running::{AMPLE, Answer, File, Outside, ample_answer, answer_to};

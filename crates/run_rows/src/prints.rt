@@ -1,6 +1,7 @@
 //! Rows of `print`: the canonical text of a network, or its refusal.
 
-use crate::running::{File, expect};
+use crate::expected::expect;
+use crate::running::File;
 use crate::texts::{FREE_LAYOUT, FREE_LAYOUT_PRINTED, ONE_LINK, edited, repeated};
 use std::alloc::{AllocError, Global};
 use std::test::Fail;

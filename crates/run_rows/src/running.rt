@@ -1,12 +1,10 @@
 //! A run over files and output in memory, and its answer.
 
-ghost use Rattle.std.specs.Prelude.{◌≤◌};
+ghost use Rattle.std.specs.Prelude.{◌≡◌, ◌≤◌, ◌×◌, ◌↔◌, IsTrue};
 
 use mcf_base::{MemShelf, MemSink, OpenGate};
 use mcf_cli::run;
 use std::alloc::{AllocError, Global};
-use std::process::Abort;
-use std::test::Fail;
 use std::thread::Threads;
 
 /// A name and its bytes.
@@ -41,7 +39,9 @@ pub struct Answer {
 
 impl Answer {
     /// Whether these are its status and its text.
-    pub fn is(&self, status: u8, text: &[u8]) -> bool {
+    pub fn is(&self, status: u8, text: &[u8]) -> bool
+        ensures { IsTrue result ↔ ((self.status ≡ status) × (self.sink.written ≡ text.now)) }
+    {
         self.status == status && self.sink.written() == text
     }
 
@@ -104,18 +104,12 @@ pub fn answer_to<R: Threads + Sync>(
     })
 }
 
-/// The words are answered so.
-pub fn expect(
-    rt: &(impl Abort + Threads + Sync),
+/// The answer where nothing fails.
+pub fn ample_answer<R: Threads + Sync>(
+    rt: &R,
     alloc: Global,
-    shows: &str,
     words: &[&str],
     files: &[File<'_>],
-    status: u8,
-    text: &[u8],
-) -> Result<(), Fail> {
-    let given = answer_to(rt, alloc, words, files, AMPLE)?;
-    assert_eq!(rt; given.status, status, "{shows}");
-    assert!(rt; given.sink.written() == text, "{shows}");
-    Ok(())
+) -> Result<Answer, AllocError> {
+    answer_to(rt, alloc, words, files, AMPLE)
 }

@@ -1,6 +1,7 @@
 //! What is said of a certificate or a routing, where one part of a text is replaced.
 
-use crate::running::{File, expect};
+use crate::expected::expect;
+use crate::running::File;
 use crate::texts::edited;
 use std::alloc::Global;
 use std::process::Abort;

@@ -1,6 +1,7 @@
 //! Rows of `solve`: the certificate of a network, or its refusal. Each certificate is then judged by `check`.
 
-use crate::running::{AMPLE, File, answer_to, expect};
+use crate::expected::expect;
+use crate::running::{AMPLE, File, answer_to};
 use crate::texts::{BOTH_WAYS, NO_CAPACITY, ONE_LINK};
 use std::alloc::Global;
 use std::process::Abort;

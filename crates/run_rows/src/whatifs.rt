@@ -1,6 +1,7 @@
 //! Rows of `whatif`: what a script shows of a certificate, or the first refusal of the three files.
 
-use crate::running::{File, expect};
+use crate::expected::expect;
+use crate::running::File;
 use crate::texts::{CERTIFICATE, CUT, NO_CAPACITY, ONE_LINK, ROUTING, repeated};
 use std::alloc::Global;
 use std::process::Abort;
