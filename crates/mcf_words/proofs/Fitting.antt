@@ -158,9 +158,9 @@ pub has_setting : (rows : List Row) (a : Items) (how : Reading) (s : ValueSource
     → HasItems (with_values name how s (v ∷ []) (without name rows)) (joined a (setting_item (dashed name) v))
 has_setting rows a how s name v own first has =
     subst (λ xs. HasItems (with_values name how s (v ∷ []) xs) (joined a (setting_item (dashed name) v))) (sym (without-none name rows first)) (record {
-  options = λ id ne. go id ne (bytes_eq name id) refl;
-  words = all_of-other name words_id how s (v ∷ []) rows own ∙ has.words ∙ ap some_values (sym (append-nil a.positional));
-})
+      options = λ id ne. go id ne (bytes_eq name id) refl;
+      words = all_of-other name words_id how s (v ∷ []) rows own ∙ has.words ∙ ap some_values (sym (append-nil a.positional));
+    })
   where
     go : (id : Text) → bytes_eq id words_id ≡ false → (b : Bool) → bytes_eq name id ≡ b
         → all_of id (with_values name how s (v ∷ []) rows) ≡ some_values (values_of (dashed id) (a.settings ++ record { name = dashed name; value = v } ∷ []))

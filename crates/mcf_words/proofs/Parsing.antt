@@ -179,9 +179,12 @@ module _ (names : List Text) (own : has_name names words_id ≡ false) where
             let new = joined items (setting_item (dashed name) v) in
             goes_on Open long ws items (named_step (dashed name) (Some v)) (at rows p wt false) (at (with_option name v (rows_held names own rows p)) None idle false)
             (long_is x xs ∙ ap (named_step (dashed name)) is) (joined_fault names own rows p x xs wt v is known settles.0 first) (joined_walk names own rows p x xs wt v is known)
-            (go Open new (with_option name v (rows_held names own rows p)) None idle false
-            (refl, tt, (refl, has_setting (rows_held names own rows p) items readings.AsWritten CommandLine name v apart first settles.1),
-            suits_more options items (dashed name) v suits (has_dashed names name ∙ known) (row-value (rows_held names own rows p) items name false apart settles.1 first)))
+            (go Open new (with_option name v (rows_held names own rows p)) None idle false (
+              refl,
+              tt,
+              (refl, has_setting (rows_held names own rows p) items readings.AsWritten CommandLine name v apart first settles.1),
+              suits_more options items (dashed name) v suits (has_dashed names name ∙ known) (row-value (rows_held names own rows p) items name false apart settles.1 first),
+            ))
 
         value_follows : (name_and_value (x ∷ xs)).1 ≡ None → has_name names name ≡ true → Next Open long wt false
         value_follows is known =
@@ -260,10 +263,15 @@ module _ (names : List Text) (own : has_name names words_id ≡ false) where
         let new = joined items (setting_item (dashed name) w) in
         goes_on (WaitingFor (dashed name)) w ws items (record { items = setting_item (dashed name) w; next = Open }) (at rows waits (option name) false)
         (at rows (Some (name, w ∷ [])) idle false) refl (value_fault names own rows name w known plain) (value_walk names own rows name w known plain)
-        (go Open new rows (Some (name, w ∷ [])) idle false
-        (refl, tt, (once_held names own rows name w known e,
-        subst (λ r. HasItems r new) (sym (held_option names own rows name w known)) (has_setting rows items readings.AsWritten CommandLine name w apart e has)),
-        suits_more options items (dashed name) w suits (has_dashed names name ∙ known) (row-value rows items name false apart has e)))
+        (go Open new rows (Some (name, w ∷ [])) idle false (
+          refl,
+          tt,
+          (
+            once_held names own rows name w known e,
+            subst (λ r. HasItems r new) (sym (held_option names own rows name w known)) (has_setting rows items readings.AsWritten CommandLine name w apart e has),
+          ),
+          suits_more options items (dashed name) w suits (has_dashed names name ∙ known) (row-value rows items name false apart has e),
+        ))
 
     value_word : (word : Text) → IsUtf8 word → Value word
     value_word = looked (λ w. IsUtf8 w → Value w)
@@ -281,9 +289,11 @@ module _ (names : List Text) (own : has_name names words_id ≡ false) where
 
   no_more : (items : Items) (rows : List Row) (p : Option (Text × List Text)) (wt : Waiting) (trailed : Bool) → Settles rows p items → Suits options items
       → Agrees options (Some (joined items no_items)) (outcome (at rows p wt trailed) []) (ended (at rows p wt trailed) [])
-  no_more items rows p wt trailed settles suits = inl (without_items (Suits options) items suits,
-      outcome_nil (at rows p wt trailed) ∙ settled_end rows p settles.0,
-      subst (λ r. HasItems r (joined items no_items)) (sym (ended_nil rows p wt trailed)) (without_items (HasItems (rows_held names own rows p)) items settles.1))
+  no_more items rows p wt trailed settles suits = inl (
+    without_items (Suits options) items suits,
+    outcome_nil (at rows p wt trailed) ∙ settled_end rows p settles.0,
+    subst (λ r. HasItems r (joined items no_items)) (sym (ended_nil rows p wt trailed)) (without_items (HasItems (rows_held names own rows p)) items settles.1),
+  )
 
   all_words : (ws : List Text) → AreUtf8 ws → Goes ws
   all_words [] text Open items rows p wt trailed st = no_more items rows p wt trailed st.2 st.3

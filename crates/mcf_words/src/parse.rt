@@ -59,10 +59,7 @@ fn bare<'a>(alloc: Global) -> clap::Command<'a>
 }
 
 // A command with these options, and any number of positional words.
-fn command_with<'a>(
-    alloc: Global,
-    names: &[&'static str],
-) -> Result<clap::Command<'a>, AllocError>
+fn command_with<'a>(alloc: Global, names: &[&'static str]) -> Result<clap::Command<'a>, AllocError>
     ensures { IfOk result (λ c. app_of c ≡ app_of_names (map (λ n. n.now) names.now)) }
 {
     let mut command = bare(alloc);

@@ -142,12 +142,7 @@ fn workers_choice(matches: &ArgMatches<'_>) -> Option<u16>
     ensures value { result ≡ read_in (found_of matches.now) WORKERS.now (number_in_lem 1 MAX_WORKERS) DEFAULT_WORKERS }
     ensures limits { IfSome result (λ n. (1 ≤ n) × (n ≤ MAX_WORKERS)) }
 {
-    match number_choice(
-        matches,
-        WORKERS,
-        MAX_WORKERS as u64,
-        DEFAULT_WORKERS as u64,
-    ) {
+    match number_choice(matches, WORKERS, MAX_WORKERS as u64, DEFAULT_WORKERS as u64) {
         Some(workers) => Some(workers as u16),
         None => None,
     }

@@ -80,7 +80,17 @@ fn nothing(rt: HostRuntime) -> Result<(), Fail> {
 #[test]
 fn options(rt: HostRuntime) -> Result<(), Fail> {
     let words = [
-        "trial", "--step=8", "0", "512", "--gap", "1e-6", "4096", "--workers", "016", "32768", "--phases=007",
+        "trial",
+        "--step=8",
+        "0",
+        "512",
+        "--gap",
+        "1e-6",
+        "4096",
+        "--workers",
+        "016",
+        "32768",
+        "--phases=007",
     ];
     let request = read(rt.alloc(), &words).or(Err("a request"))?;
     assert!(rt; request.command == Command::Trial);
