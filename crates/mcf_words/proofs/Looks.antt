@@ -1,7 +1,7 @@
 -- What a word looks like: `--`, an option by its long name, one by short names, or none of these.
 use Rattle.std.proofs.Common.{◌≡◌, ◌∙◌, ℕ, Bool, true, false, refl, sym, ap, subst, arith, List, [], ◌∷◌, length, Some, None}
 use Rattle.std.specs.Prelude.{◌==◌, nat_lt, slice_get}
-use Rattle.std.specs.Str.{IsUtf8, bytes_eq, chars, encode_utf8_all}
+use Rattle.std.specs.Str.{IsUtf8, all_scalars, chars, encode_utf8_all}
 use Rattle.std.proofs.lemmas.Bool.{and_from, and_right, eqb-true, lt-ltb}
 use Rattle.std.proofs.lemmas.Str.{IsUtf8-drop, IsCharBoundary-after_ascii, chars-encodes}
 use Rattle.clap.specs.Lexer.{long_of, short_of}
@@ -59,7 +59,7 @@ first_char x xs text = go rest.0 rest.1.0 rest.1.1
     rest : IsUtf8 (x ∷ xs)
     rest = IsUtf8-drop (45 ∷ x ∷ xs) 1 text (IsCharBoundary-after_ascii (45 ∷ x ∷ xs) 0 text (omega arith) (omega arith))
 
-    go : (cs : List ℕ) → Rattle.std.specs.Str.all_scalars cs ≡ true → encode_utf8_all cs ≡ x ∷ xs → (c : ℕ) × (slice_get (chars (x ∷ xs)) 0 ≡ Some c)
+    go : (cs : List ℕ) → all_scalars cs ≡ true → encode_utf8_all cs ≡ x ∷ xs → (c : ℕ) × (slice_get (chars (x ∷ xs)) 0 ≡ Some c)
     go [] good e = absurd (length_apart (ap length e))
       where
         length_apart : 0 ≡ length (x ∷ xs) → ⊥

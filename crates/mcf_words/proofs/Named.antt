@@ -7,8 +7,8 @@ use Rattle.std.proofs.lemmas.Bool.{and_from, le-ltb, lt-ltb}
 use Rattle.std.proofs.lemmas.List.{take_all}
 use Rattle.clap.specs.Lexer.{has_byte, name_and_value}
 use Rattle.clap.specs.Walk.{Text}
-use Rattle.mcf_words.specs.Items.{Items, Reading, Open, Waiting, Step, no_items, joined, setting_item, is_equals, is_option, step_at, step_of, items_from}
-use Rattle.mcf_words.proofs.Fitting.{AllMisfit, all_misfit, dashed, misfits_unknown}
+use Rattle.mcf_words.specs.Items.{Items, Open, Waiting, Closed, Step, no_items, joined, setting_item, word_item, is_equals, is_option, step_at, step_of, items_from}
+use Rattle.mcf_words.proofs.Fitting.{AllMisfit, all_misfit, dashed, joined-map, misfits_unknown}
 use Rattle.mcf_words.proofs.Looks.{IsShortWord}
 
 -- an option of that name, with its value or without
@@ -69,14 +69,14 @@ module _ (x : ℕ) (xs : Text) where
 
   -- a word that begins with two dashes and has more is an option by its name
   pub long_is : step_of Open (dashed rest) ≡ named_step (dashed (name_and_value rest).0) (name_and_value rest).1
-  long_is = ap (λ b. cond b (step_at (dashed rest) (position is_equals (dashed rest))) (record { items = Rattle.mcf_words.specs.Items.word_item (dashed rest); next = Open })) option_here ∙ named
+  long_is = ap (λ b. cond b (step_at (dashed rest) (position is_equals (dashed rest))) (record { items = word_item (dashed rest); next = Open })) option_here ∙ named
 
 -- an option that no command has, with its value or before it
 pub unknown_misfits : (names : List Text) (items : Items) (name : Text) (v : Option Text) (ws : List Text) → list_any (bytes_eq name) names ≡ false
     → AllMisfit names (option_map (joined (joined items (named_step name v).items)) (items_from (named_step name v).next ws))
 unknown_misfits names items name (Some v) ws unknown = all_misfit names _ (items_from Open ws) (misfits_unknown names items name v unknown)
 unknown_misfits names items name None [] unknown = tt
-unknown_misfits names items name None (w ∷ ws) unknown = subst (AllMisfit names) (Rattle.mcf_words.proofs.Fitting.joined-map (joined items no_items) (setting_item name w) (items_from Open ws))
+unknown_misfits names items name None (w ∷ ws) unknown = subst (AllMisfit names) (joined-map (joined items no_items) (setting_item name w) (items_from Open ws))
     (all_misfit names _ (items_from Open ws) (misfits_unknown names (joined items no_items) name w unknown))
 
 -- an option by a short name
@@ -114,9 +114,9 @@ module _ (names : List Text) (x : ℕ) (xs : Text) (apart : (x == 45) ≡ false)
 
   pub short_is : IsShortWord (45 ∷ x ∷ xs) (x ∷ xs) → step_of Open (45 ∷ x ∷ xs) ≡ short_case (nat_lt (suc here) (length (45 ∷ x ∷ xs)))
   short_is short =
-      let other : Step = record { items = Rattle.mcf_words.specs.Items.word_item (45 ∷ x ∷ xs); next = Open } in
+      let other : Step = record { items = word_item (45 ∷ x ∷ xs); next = Open } in
       let found : Step = step_at (45 ∷ x ∷ xs) (position is_equals (45 ∷ x ∷ xs)) in
-      ap (λ b. cond b (record { items = no_items; next = Rattle.mcf_words.specs.Items.Closed }) (cond (is_option (45 ∷ x ∷ xs)) found other)) short.not_end
+      ap (λ b. cond b (record { items = no_items; next = Closed }) (cond (is_option (45 ∷ x ∷ xs)) found other)) short.not_end
       ∙ ap (λ b. cond b found other) short.option ∙ short_place
 
   pub short_misfits : (items : Items) (ws : List Text) → IsShortWord (45 ∷ x ∷ xs) (x ∷ xs)

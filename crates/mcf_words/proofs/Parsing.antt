@@ -1,7 +1,8 @@
--- What clap makes of all the words, and what the grammar makes of them.
+-- The law that ties clap's parse to the grammar: `parse_agrees`, at the end. It goes word by word, from any place where the walk may stand.
 use Rattle.std.proofs.Common.{◌≡◌, ◌∙◌, ◌⊎◌, inl, inr, ℕ, Bool, cond, true, false, refl, sym, ap, ap₂, subst, List, [], ◌∷◌, map, Option, Some, None, is_some, option_map}
 use Rattle.std.specs.Prelude.{fold, position}
 use Rattle.std.specs.Str.{IsUtf8}
+use Rattle.std.proofs.lemmas.Bool.{false≢true}
 use Rattle.clap.specs.Lexer.{name_and_value}
 use Rattle.clap.specs.Kinds.{Kinds, or_else}
 use Rattle.clap.specs.Walk.{Held, Row, Text, Waiting, idle, option, positional, Walk, finished, has_row, nothing_held, rows_after, settled, walked}
@@ -77,7 +78,7 @@ module _ (names : List Text) (own : has_name names words_id ≡ false) where
       → IsFault (fault_held names own rows p) → IsFault (outcome (at rows p wt trailed) ws)
   doomed [] text rows p wt trailed at_rest f = subst IsFault (sym (outcome_nil (at rows p wt trailed))) (fault_first (fault_held names own rows p) _ f)
   doomed (word ∷ ws) text rows p wt true at_rest f = outcome-fault (at rows p wt true) word ws (subst IsFault (sym (trailing_fault names own rows p word wt)) f)
-  doomed (word ∷ ws) text rows p wt false (inl e) f = absurd (Rattle.std.proofs.lemmas.Bool.false≢true e)
+  doomed (word ∷ ws) text rows p wt false (inl e) f = absurd (false≢true e)
   doomed (word ∷ ws) text rows p wt false (inr rest) f =
       looked (λ w. IsUtf8 w → IsFault (outcome (at rows p wt false) (w ∷ ws)))
       (λ t. subst IsFault (sym (outcome-step (at rows p wt false) (at rows p wt true) (45 ∷ 45 ∷ []) ws (end_fault names own rows p wt) (end_walk names own rows p wt)))

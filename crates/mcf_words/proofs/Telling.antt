@@ -1,12 +1,13 @@
 -- What the parse of a command's words tells.
-use Rattle.std.proofs.Common.{◌≡◌, ◌∙◌, ◌⊎◌, inl, inr, ℕ, Bool, true, false, refl, sym, ap, subst, List, [], ◌∷◌, map, Option, Some, None, Result, Ok, Err, IfOk, option_map}
+use Rattle.std.proofs.Common.{◌≡◌, ◌∙◌, ◌⊎◌, inl, inr, ℕ, cond, true, false, refl, sym, ap, subst, List, [], ◌∷◌, map, Option, Some, None, option_map}
 use Rattle.std.specs.Prelude.{IsSomeAnd, codes, option_and_then, slice_get, string_bytes, String}
 use Rattle.std.specs.List.{find}
 use Rattle.std.specs.Option.{unwrap_or}
 use Rattle.std.specs.Str.{bytes_eq}
+use Rattle.std.proofs.lemmas.Bool.{false≢true}
 use Rattle.std.proofs.lemmas.Str.{IsUtf8-string_bytes}
 use Rattle.clap.specs.Words.{App, HasMatchesOf, IsAmong, fault_of, found_of, is_simple, is_simple_and_free, kind_of, matches_of, rows_of}
-use Rattle.clap.specs.Simple.{built}
+use Rattle.clap.specs.Simple.{built, names_of as app_names}
 use Rattle.clap.specs.Faults.{built_fault}
 use Rattle.clap.specs.Walk.{Row, Text, all_of, first_of, nothing_held, rows_after}
 use Rattle.clap.specs.declared.error.Error.{Error}
@@ -77,7 +78,7 @@ agrees : (command : Command) (words : List Text) → AreUtf8 words
     → Agrees (options_of command) (items_of words) (fault_of (app_of_names (names_of command)) words) (matches_of (app_of_names (names_of command)) words)
 agrees command words text =
     subst (λ os. Agrees os (items_of words) (fault_of (app_of_names (names_of command)) words) (matches_of (app_of_names (names_of command)) words)) (options_are command)
-    (subst (λ (a : App). Agrees (map dashed (names_of command)) (items_of words) (built_fault a nothing_held words) (rows_after a.top.rules (Rattle.clap.specs.Simple.names_of a) words)) (sym (app_is command))
+    (subst (λ (a : App). Agrees (map dashed (names_of command)) (items_of words) (built_fault a nothing_held words) (rows_after a.top.rules (app_names a) words)) (sym (app_is command))
     (parse_agrees (names_of command) (no_words command) words text))
 
 -- ---- what the matches have
@@ -92,7 +93,7 @@ first_of_all id rows = go (find (λ (r : Row). bytes_eq r.id id) rows)
 only_value : (vs : List Text) → at_most_one vs ≡ true → single vs ≡ Some (option_and_then (λ xs. slice_get xs 0) (some_values vs))
 only_value [] e = refl
 only_value (v ∷ []) e = refl
-only_value (v ∷ w ∷ more) e = absurd (Rattle.std.proofs.lemmas.Bool.false≢true e)
+only_value (v ∷ w ∷ more) e = absurd (false≢true e)
 
 all_values : (vs : List Text) → vs ≡ unwrap_or (some_values vs) []
 all_values [] = refl
@@ -164,7 +165,7 @@ module _ (command : Command) (items : Items) (found : Found) (t : Tells command 
 
   request_told : request_from command items ≡ request_in command found
   unfolding request_from request_in
-  request_told = λ i. Rattle.std.proofs.Common.cond (t.known i) (choices_told i >>= λ choices. numbers_of command (t.words i) >>= λ numbers. files_of command (t.words i) >>= λ names.
+  request_told = λ i. cond (t.known i) (choices_told i >>= λ choices. numbers_of command (t.words i) >>= λ numbers. files_of command (t.words i) >>= λ names.
       Some (record { command = command; names = names; numbers = numbers; net = choices.net; gap = choices.gap; phases = choices.phases; workers = choices.workers; step = choices.step })) None
 
 -- the matches ask for what the words ask for

@@ -5,7 +5,7 @@ use Rattle.std.specs.Option.{option_map_or}
 use Rattle.std.specs.Str.{IsUtf8, bytes_eq, chars}
 use Rattle.clap.specs.Lexer.{long_of, name_and_value}
 use Rattle.clap.specs.Kinds.{Kinds, or_else}
-use Rattle.clap.specs.Walk.{Held, Row, Rule, Step, Text, Waiting, idle, option, positional, Walk, after_flag, after_step, arg_by_id, arg_by_index, arg_by_long, arg_by_short, at_row, finished, has_row, is_pending, long_met, long_or_other, long_word, next, plain_word, positional_held, pushed, settled, settled_rows, short_or_plain, subcommand_met, takes_several, to_positional, trailing, used, value, walked, with_values, without, word_met, reading_by, option_word}
+use Rattle.clap.specs.Walk.{Held, Row, Rule, Step, Text, Waiting, idle, option, positional, Walk, after_flag, after_step, arg_by_id, arg_by_long, has_row, is_pending, long_met, long_or_other, next, plain_word, pushed, settled, settled_rows, short_or_plain, to_positional, trailing, used_by_id, value, walked, with_values, without, word_met, option_word}
 use Rattle.clap.specs.Faults.{bundle_fault, bundle_step_fault, flag_word_fault, flags_fault, long_fault, other_fault, positional_fault, settle_fault, short_fault, step_fault, stray_fault, turn_fault, use_fault, word_fault}
 use Rattle.clap.specs.declared.builder.value_parser.Reading.TheVariants as readings
 use Rattle.clap.specs.declared.error.kind.ErrorKind.TheVariants as kind
@@ -66,10 +66,10 @@ module _ (names : List Text) (own : has_name names words_id ≡ false) where
   -- ---- what is pending
 
   pub held_option : (rows : List Row) (name v : Text) → has_name names name ≡ true → rows_held rows (Some (name, v ∷ [])) ≡ with_option name v rows
-  held_option rows name v known = ap (λ o. Rattle.clap.specs.Walk.used_by_id o (v ∷ []) rows) (by_name names name known)
+  held_option rows name v known = ap (λ o. used_by_id o (v ∷ []) rows) (by_name names name known)
 
   pub held_word : (rows : List Row) (v : Text) → rows_held rows (Some (words_id, v ∷ [])) ≡ with_word v rows
-  held_word rows v = ap (λ o. Rattle.clap.specs.Walk.used_by_id o (v ∷ []) rows) (by_words names own)
+  held_word rows v = ap (λ o. used_by_id o (v ∷ []) rows) (by_words names own)
 
   use_once : (rows : List Row) (name v : Text) → has_row name rows ≡ false → use_fault false (option_built name) (v ∷ []) rows ≡ []
   use_once rows name v first = ap (λ b. or_else (cond (b && true) (kind.ArgumentConflict ∷ []) []) []) first

@@ -1,15 +1,15 @@
 //! The words after the command, parsed by `clap`.
 
-ghost use Rattle.std.specs.Prelude.{◌≡◌, ◌∷◌, [], ◌++◌, ℕ, List, map, string_bytes, IfOk, Some, option_map, false};
-ghost use Rattle.clap.specs.Words.{app_of, kind_of, rule_of};
-ghost use Rattle.mcf_words.specs.Parse.{Parses, app_of_names, app_with, names_of, option_rule, words_rule};
-ghost use Rattle.clap.specs.declared.error.kind.ErrorKind.TheVariants.{OutOfMemory};
-ghost use Rattle.mcf_words.specs.declared.request.WordsEnd.TheVariants.{Memory, Usage};
+ghost use Rattle.std.specs.Prelude.{◌≡◌, [], map, string_bytes, IfOk, false};
+ghost use Rattle.clap.specs.Words.{app_of, rule_of};
+ghost use Rattle.mcf_words.specs.Parse.{Parses, app_of_names, app_with, names_of, option_rule};
 
 use crate::request::{Command, WordsEnd};
 use clap::error::ErrorKind;
 use clap::{Arg, ArgAction, ArgMatches};
 use std::alloc::{AllocError, Global};
+
+// The options by their names, which are also their ids.
 
 pub const LINKS: &str = "links";
 
