@@ -1,1 +1,10 @@
-pub mod Found
+pub mod Rows
+pub mod Fitting
+pub mod Looks
+pub mod Table
+pub mod Turns
+pub mod Named
+pub mod Parsing
+pub mod Adding
+pub mod Refusing
+pub mod Telling

@@ -1,9 +1,11 @@
 //! The words of the command line, and what they ask for.
 #![tactic(auto)]
 
-mod items;
+mod parse;
 mod read;
 mod request;
+#[cfg(test)]
+mod tests;
 mod values;
 
 pub use read::read_words;

@@ -1,20 +1,21 @@
 //! What the words ask for, read.
 
-ghost use Rattle.std.specs.Prelude.{◌≡◌, ◌∷◌, [], ℕ, List, Some, None, Option, map, string_bytes, slice_index_or, length, IfOk, IfSome, ◌≤◌};
-ghost use Rattle.std.specs.List.{list_all, list_any};
+ghost use Rattle.std.specs.Prelude.{◌≡◌, ◌∷◌, [], ℕ, List, Some, None, Option, map, string_bytes, length, IfOk, IfSome, ◌≤◌};
 ghost use Rattle.std.specs.Option.{option_map};
-ghost use Rattle.std.specs.Str.{bytes_eq};
+ghost use Rattle.clap.specs.Words.{found_of};
 ghost use Rattle.mcf_words.specs.Answers.{Answers};
-ghost use Rattle.mcf_words.specs.Request.{are_known as are_known_lem, choices_of as choices_of_lem, command_of as command_of_lem, file_count as file_count_lem, IsBudget, AreWithinLimits, IsWithinLimits, AreDrawn, four_numbers as four_numbers_lem, numbers_of as numbers_of_lem, files_of as files_of_lem, options_of as options_of_lem, request_from as request_from_lem, request_of};
-ghost use Rattle.mcf_words.specs.Values.{gap_of as gap_of_lem, number_in as number_in_lem, values_of, choice};
+ghost use Rattle.mcf_words.specs.Parse.{choices_in, read_in, request_in, words_in};
+ghost use Rattle.mcf_words.specs.Request.{command_of as command_of_lem, file_count as file_count_lem, IsBudget, AreWithinLimits, IsWithinLimits, AreDrawn, four_numbers as four_numbers_lem, numbers_of as numbers_of_lem, files_of as files_of_lem, request_of};
+ghost use Rattle.mcf_words.specs.Values.{gap_of as gap_of_lem, number_in as number_in_lem};
 ghost use Rattle.net_options.specs.Modes.{link_mode_of as link_mode_of_lem, module_mode_of as module_mode_of_lem};
-ghost use Rattle.mcf_words.specs.Views.{items_view, setting_view, choices_view};
+ghost use Rattle.mcf_words.specs.Views.{choices_view};
 ghost use Rattle.net_options.specs.declared.modes.LinkMode.TheVariants.{Undirected};
 ghost use Rattle.net_options.specs.declared.modes.ModuleMode.TheVariants.{Largest};
 
-use crate::items::{Items, Setting, items_of};
+use crate::parse::{GAP, LINKS, MODULES, PHASES, STEP, WORDS, WORKERS, parsed};
 use crate::request::{Command, Names, Request, WordsEnd};
-use crate::values::{gap_of, number_in, value_of};
+use crate::values::{gap_of, number_in};
+use clap::ArgMatches;
 use mcf_limits::{MAX_DEMANDS, MAX_GAP, MAX_LINKS, MAX_NODES, MAX_PHASES, MAX_STEP, MAX_WORKERS};
 use net_options::{LinkMode, ModuleMode, NetOptions, link_mode_of, module_mode_of};
 use std::alloc::{AllocError, Global};
@@ -30,18 +31,6 @@ const PRINT: &[u8] = b"print";
 const GEN: &[u8] = b"gen";
 
 const TRIAL: &[u8] = b"trial";
-
-const LINKS: &[u8] = b"--links";
-
-const MODULES: &[u8] = b"--modules";
-
-const GAP: &[u8] = b"--gap";
-
-const PHASES: &[u8] = b"--phases";
-
-const WORKERS: &[u8] = b"--workers";
-
-const STEP: &[u8] = b"--step";
 
 /// The gap where none is asked: 0.05.
 const DEFAULT_GAP: u64 = 50_000;
@@ -95,141 +84,102 @@ fn file_count(command: Command) -> usize
     }
 }
 
-// Whether the command has the option.
-fn has_option(command: Command, name: &[u8]) -> bool
-    ensures { result ≡ list_any (bytes_eq name.now) (options_of_lem command) }
+fn links_choice(matches: &ArgMatches<'_>) -> Option<LinkMode>
+    ensures { result ≡ read_in (found_of matches.now) LINKS.now link_mode_of_lem Undirected }
 {
-    match command {
-        Command::Solve | Command::Trial => {
-            name == LINKS
-                || name == MODULES
-                || name == GAP
-                || name == PHASES
-                || name == WORKERS
-                || name == STEP
-        }
-        _ => false,
+    match matches.get_str(LINKS) {
+        Some(value) => link_mode_of(value.as_bytes()),
+        None => Some(LinkMode::Undirected),
     }
 }
 
-// Whether every option is one of the command's.
-fn are_known(command: Command, settings: &[Setting<'_>]) -> bool
-    ensures { result ≡ are_known_lem command (map setting_view settings.now) }
+fn modules_choice(matches: &ArgMatches<'_>) -> Option<ModuleMode>
+    ensures { result ≡ read_in (found_of matches.now) MODULES.now module_mode_of_lem Largest }
 {
-    for setting in settings {
-        if !has_option(command, setting.name) {
-            return false;
-        }
-    }
-    true
-}
-
-fn links_choice(settings: &[Setting<'_>]) -> Option<LinkMode>
-    ensures { result ≡ choice link_mode_of_lem Undirected (values_of LINKS.now (map setting_view settings.now)) }
-{
-    match value_of(settings, LINKS) {
-        Some(Some(value)) => link_mode_of(value),
-        Some(None) => Some(LinkMode::Undirected),
-        None => None,
+    match matches.get_str(MODULES) {
+        Some(value) => module_mode_of(value.as_bytes()),
+        None => Some(ModuleMode::Largest),
     }
 }
 
-fn modules_choice(settings: &[Setting<'_>]) -> Option<ModuleMode>
-    ensures { result ≡ choice module_mode_of_lem Largest (values_of MODULES.now (map setting_view settings.now)) }
-{
-    match value_of(settings, MODULES) {
-        Some(Some(value)) => module_mode_of(value),
-        Some(None) => Some(ModuleMode::Largest),
-        None => None,
-    }
-}
-
-fn gap_choice(settings: &[Setting<'_>]) -> Option<u64>
-    ensures value { result ≡ choice gap_of_lem DEFAULT_GAP (values_of GAP.now (map setting_view settings.now)) }
+fn gap_choice(matches: &ArgMatches<'_>) -> Option<u64>
+    ensures value { result ≡ read_in (found_of matches.now) GAP.now gap_of_lem DEFAULT_GAP }
     ensures limit { IfSome result (λ n. n ≤ MAX_GAP) }
 {
-    match value_of(settings, GAP) {
-        Some(Some(value)) => gap_of(value),
-        Some(None) => Some(DEFAULT_GAP),
-        None => None,
+    match matches.get_str(GAP) {
+        Some(value) => gap_of(value.as_bytes()),
+        None => Some(DEFAULT_GAP),
     }
 }
 
 // The value of an option that is a number from 1 on.
-fn number_choice(settings: &[Setting<'_>], name: &[u8], most: u64, default: u64) -> Option<u64>
+fn number_choice(matches: &ArgMatches<'_>, name: &str, most: u64, default: u64) -> Option<u64>
     requires { (1 ≤ default) × (default ≤ most) }
-    ensures value { result ≡ choice (number_in_lem 1 most) default (values_of name.now (map setting_view settings.now)) }
+    ensures value { result ≡ read_in (found_of matches.now) name.now (number_in_lem 1 most) default }
     ensures limits { IfSome result (λ n. (1 ≤ n) × (n ≤ most)) }
 {
-    match value_of(settings, name) {
-        Some(Some(value)) => number_in(1, most, value),
-        Some(None) => Some(default),
-        None => None,
+    match matches.get_str(name) {
+        Some(value) => number_in(1, most, value.as_bytes()),
+        None => Some(default),
     }
 }
 
 // The phase budget, if one is asked.
-fn phases_choice(settings: &[Setting<'_>]) -> Option<Option<u32>>
-    ensures value { result ≡ choice (λ w. option_map Some (number_in_lem 1 MAX_PHASES w)) None (values_of PHASES.now (map setting_view settings.now)) }
+fn phases_choice(matches: &ArgMatches<'_>) -> Option<Option<u32>>
+    ensures value { result ≡ read_in (found_of matches.now) PHASES.now (λ w. option_map Some (number_in_lem 1 MAX_PHASES w)) None }
     ensures limits { IfSome result IsBudget }
 {
-    match value_of(settings, PHASES) {
-        Some(Some(value)) => match number_in(1, MAX_PHASES as u64, value) {
+    match matches.get_str(PHASES) {
+        Some(value) => match number_in(1, MAX_PHASES as u64, value.as_bytes()) {
             Some(phases) => Some(Some(phases as u32)),
             None => None,
         },
-        Some(None) => Some(None),
-        None => None,
+        None => Some(None),
     }
 }
 
-fn workers_choice(settings: &[Setting<'_>]) -> Option<u16>
-    ensures value { result ≡ choice (number_in_lem 1 MAX_WORKERS) DEFAULT_WORKERS (values_of WORKERS.now (map setting_view settings.now)) }
+fn workers_choice(matches: &ArgMatches<'_>) -> Option<u16>
+    ensures value { result ≡ read_in (found_of matches.now) WORKERS.now (number_in_lem 1 MAX_WORKERS) DEFAULT_WORKERS }
     ensures limits { IfSome result (λ n. (1 ≤ n) × (n ≤ MAX_WORKERS)) }
 {
-    match number_choice(
-        settings,
-        WORKERS,
-        MAX_WORKERS as u64,
-        DEFAULT_WORKERS as u64,
-    ) {
+    match number_choice(matches, WORKERS, MAX_WORKERS as u64, DEFAULT_WORKERS as u64) {
         Some(workers) => Some(workers as u16),
         None => None,
     }
 }
 
-fn step_choice(settings: &[Setting<'_>]) -> Option<u32>
-    ensures value { result ≡ choice (number_in_lem 1 MAX_STEP) DEFAULT_STEP (values_of STEP.now (map setting_view settings.now)) }
+fn step_choice(matches: &ArgMatches<'_>) -> Option<u32>
+    ensures value { result ≡ read_in (found_of matches.now) STEP.now (number_in_lem 1 MAX_STEP) DEFAULT_STEP }
     ensures limits { IfSome result (λ n. (1 ≤ n) × (n ≤ MAX_STEP)) }
 {
-    match number_choice(settings, STEP, MAX_STEP as u64, DEFAULT_STEP as u64) {
+    match number_choice(matches, STEP, MAX_STEP as u64, DEFAULT_STEP as u64) {
         Some(step) => Some(step as u32),
         None => None,
     }
 }
 
 // What the options say, or nothing where one of them is out of form.
-#[tactic(auto, unfolding(crate::specs::Request::choices_of))]
-fn choices_of(settings: &[Setting<'_>]) -> Option<Choices>
-    ensures value { option_map choices_view result ≡ choices_of_lem (map setting_view settings.now) }
+#[tactic(auto, unfolding(crate::specs::Parse::choices_in))]
+fn choices_of(matches: &ArgMatches<'_>) -> Option<Choices>
+    ensures value { option_map choices_view result ≡ choices_in (found_of matches.now) }
     ensures limits { IfSome result (λ c. AreWithinLimits c.gap c.phases c.workers c.step) }
 {
-    let Some(links) = links_choice(settings) else {
+    let Some(links) = links_choice(matches) else {
         return None;
     };
-    let Some(modules) = modules_choice(settings) else {
+    let Some(modules) = modules_choice(matches) else {
         return None;
     };
-    let Some(gap) = gap_choice(settings) else {
+    let Some(gap) = gap_choice(matches) else {
         return None;
     };
-    let Some(phases) = phases_choice(settings) else {
+    let Some(phases) = phases_choice(matches) else {
         return None;
     };
-    let Some(workers) = workers_choice(settings) else {
+    let Some(workers) = workers_choice(matches) else {
         return None;
     };
-    let Some(step) = step_choice(settings) else {
+    let Some(step) = step_choice(matches) else {
         return None;
     };
     Some(Choices {
@@ -300,25 +250,27 @@ fn files_of(alloc: Global, command: Command, positional: &[&str]) -> Result<Name
     Ok(names_of(alloc, positional)?)
 }
 
-// The request of a command with these items.
-#[tactic(auto, unfolding(crate::specs::Request::request_from))]
-fn request_from(alloc: Global, command: Command, items: &Items<'_>) -> Result<Request, WordsEnd>
+// The request of a command with these matches and these positional words, which are theirs.
+#[tactic(auto, unfolding(crate::specs::Parse::request_in))]
+fn request_with(
+    alloc: Global,
+    command: Command,
+    matches: &ArgMatches<'_>,
+    words: &[&str],
+) -> Result<Request, WordsEnd>
+    requires { map (λ w. w.now) words.now ≡ words_in (found_of matches.now) }
     ensures count { IfOk result (λ r. length r.names ≡ file_count_lem r.command) }
-    ensures command { IfOk result (λ r. r.command ≡ command) }
     ensures limits { IfOk result IsWithinLimits }
     ensures drawn { IfOk result (λ r. file_count_lem r.command ≡ 0 → AreDrawn r.numbers) }
-    ensures value { Answers (λ r. r) result (request_from_lem command (items_view items.now)) }
+    ensures value { Answers (λ r. r) result (request_in command (found_of matches.now)) }
 {
-    if !are_known(command, &items.settings) {
-        return Err(WordsEnd::Usage);
-    }
-    let Some(choices) = choices_of(&items.settings) else {
+    let Some(choices) = choices_of(matches) else {
         return Err(WordsEnd::Usage);
     };
-    let Some(numbers) = numbers_of(command, &items.positional) else {
+    let Some(numbers) = numbers_of(command, words) else {
         return Err(WordsEnd::Usage);
     };
-    let names = files_of(alloc, command, &items.positional)?;
+    let names = files_of(alloc, command, words)?;
     Ok(Request {
         command,
         names,
@@ -329,6 +281,23 @@ fn request_from(alloc: Global, command: Command, items: &Items<'_>) -> Result<Re
         workers: choices.workers,
         step: choices.step,
     })
+}
+
+// The request of a command with these matches.
+fn request_from(
+    alloc: Global,
+    command: Command,
+    matches: &ArgMatches<'_>,
+) -> Result<Request, WordsEnd>
+    ensures count { IfOk result (λ r. length r.names ≡ file_count_lem r.command) }
+    ensures limits { IfOk result IsWithinLimits }
+    ensures drawn { IfOk result (λ r. file_count_lem r.command ≡ 0 → AreDrawn r.numbers) }
+    ensures value { Answers (λ r. r) result (request_in command (found_of matches.now)) }
+{
+    match matches.get_strs(WORDS) {
+        Some(words) => request_with(alloc, command, matches, words),
+        None => request_with(alloc, command, matches, &[]),
+    }
 }
 
 /// What the words ask for. `Usage` exactly where they are not in the grammar of the command line.
@@ -344,6 +313,6 @@ pub fn read_words(alloc: Global, words: &[String]) -> Result<Request, WordsEnd>
     let Some(command) = command_of(first.as_bytes()) else {
         return Err(WordsEnd::Usage);
     };
-    let items = items_of(alloc, others)?;
-    request_from(alloc, command, &items)
+    let matches = parsed(alloc, command, others)?;
+    request_from(alloc, command, &matches)
 }

@@ -1,14 +1,10 @@
 //! The values of options and of positional words that are numbers.
 
-ghost use Rattle.std.specs.Prelude.{◌≡◌, ◌<◌, ◌≤◌, ◌^◌, ◌&&◌, ℕ, Some, None, Option, IfSome, if◌then◌else◌, length, map, nat_le};
-ghost use Rattle.std.specs.Option.{option_copied, option_map};
+ghost use Rattle.std.specs.Prelude.{◌≡◌, ◌<◌, ◌≤◌, ◌^◌, ◌&&◌, ℕ, Some, None, Option, IfSome, if◌then◌else◌, length, nat_le};
 ghost use Rattle.std.specs.Char.{digit_value, is_ascii_digit};
 ghost use Rattle.std.specs.Str.Parse.{digits_value};
-ghost use Rattle.mcf_words.specs.Items.{Setting as SettingIs};
-ghost use Rattle.mcf_words.specs.Values.{is_whole, number_in as number_in_lem, gap_of as gap_of_lem, values_of, single};
-ghost use Rattle.mcf_words.specs.Views.{setting_view};
+ghost use Rattle.mcf_words.specs.Values.{is_whole, number_in as number_in_lem, gap_of as gap_of_lem};
 
-use crate::items::Setting;
 use mcf_limits::MAX_GAP;
 use unit_scale::{Decimal, read_decimal};
 
@@ -61,21 +57,4 @@ pub fn gap_of(word: &[u8]) -> Option<u64>
         Some(Decimal::Millionths(gap)) if gap <= MAX_GAP => Some(gap),
         _ => None,
     }
-}
-
-/// The value of the option of that name, if it stands; nothing where it stands twice.
-pub fn value_of<'a>(settings: &[Setting<'a>], name: &[u8]) -> Option<Option<&'a [u8]>>
-    ensures { option_map option_copied result ≡ single (values_of name.now (map setting_view settings.now)) }
-{
-    let mut found = None;
-    for setting in settings {
-        if setting.name != name {
-            continue;
-        }
-        if found.is_some() {
-            return None;
-        }
-        found = Some(setting.value);
-    }
-    Some(found)
 }
