@@ -1,0 +1,122 @@
+//! Every proper front of a small text of each kind.
+
+use crate::running::{File, answer_to, expect, judged};
+use crate::texts::{
+    CERTIFICATE, CHECK, ONE_LINK, PRINT, ROUTING, SCRIPT, VALID, WHAT_IF, last_line,
+};
+use std::alloc::Global;
+use std::process::Abort;
+use std::test::Fail;
+use std::thread::Threads;
+
+/// How many bytes of a network's header are wanted.
+const NET_HEADER: usize = 37;
+
+// The front of the network of one link: refused at its end, or accepted without its last line feed.
+fn expect_net(
+    rt: &(impl Abort + Threads + Sync),
+    alloc: Global,
+    count: usize,
+    front: &[u8],
+) -> Result<(), Fail> {
+    let given = answer_to(rt, alloc, PRINT, &[("net", front)])?;
+    if count < NET_HEADER {
+        assert!(rt; given.is(3, b"refused net N1 line 1\n"), "{count}");
+    } else if front.ends_with(b"\n)") && last_line(front) == 11 {
+        assert!(rt; given.is(0, ONE_LINK), "{count}");
+    } else {
+        let line = format!(in alloc; "refused net N3 line {}\n", last_line(front))?;
+        assert!(rt; given.is(3, line.as_bytes()), "{count}");
+    }
+    Ok(())
+}
+
+// A network that is cut off is refused in each command that reads it.
+#[test]
+fn fronts_of_a_network(rt: HostRuntime) -> Result<(), Fail> {
+    for i in 0..ONE_LINK.len() {
+        expect_net(&rt, rt.alloc(), i, &ONE_LINK[..i])?;
+    }
+    Ok(())
+}
+
+// The front of a certificate or a routing: no header of so many bytes, or cut off in its last line.
+fn expect_cert(
+    rt: &(impl Abort + Threads + Sync),
+    alloc: Global,
+    header: usize,
+    count: usize,
+    front: &[u8],
+) -> Result<(), Fail> {
+    let given = judged(rt, alloc, ONE_LINK, front)?;
+    if count < header {
+        assert!(rt; given.is(3, b"refused cert K1 line 1\n"), "{count}");
+    } else {
+        let line = format!(in alloc; "refused cert K2 line {}\n", last_line(front))?;
+        assert!(rt; given.is(3, line.as_bytes()), "{count}");
+    }
+    Ok(())
+}
+
+#[test]
+fn fronts_of_a_certificate(rt: HostRuntime) -> Result<(), Fail> {
+    for i in 0..CERTIFICATE.len() {
+        expect_cert(&rt, rt.alloc(), 17, i, &CERTIFICATE[..i])?;
+    }
+    let files: [File<'_>; 2] = [("net", ONE_LINK), ("cert", CERTIFICATE)];
+    expect(&rt, rt.alloc(), "whole", CHECK, &files, 0, VALID)
+}
+
+#[test]
+fn fronts_of_a_routing(rt: HostRuntime) -> Result<(), Fail> {
+    for i in 0..ROUTING.len() {
+        expect_cert(&rt, rt.alloc(), 13, i, &ROUTING[..i])?;
+    }
+    Ok(())
+}
+
+/// What comes of each front of the script: the number of the refusal, or a point where the front is itself a script.
+const ENDS: &[u8] = b".1111211...111..1111112..111";
+
+const SHOWN: &[u8] =
+    b"show lower 14/4 3.500000 upper 63050394783186944/18014398509481984 3.500000\nshow lower 0/4 0.000000 upper 0/18014398509481984 0.000000\n";
+
+/// How many bytes the line of the first `show` has.
+const FIRST: usize = 76;
+
+// The front of the script: refused in its last line, or a script that shows so much.
+fn expect_script(
+    rt: &(impl Abort + Threads + Sync),
+    alloc: Global,
+    end: u8,
+    front: &[u8],
+) -> Result<(), Fail> {
+    let files: [File<'_>; 3] = [("net", ONE_LINK), ("cert", CERTIFICATE), ("script", front)];
+    let given = answer_to(rt, alloc, WHAT_IF, &files)?;
+    if end == b'.' {
+        let shown = if last_line(front) == 1 || !front.contains(&b'w') {
+            0
+        } else {
+            FIRST
+        };
+        assert!(rt;
+            given.is(0, &SHOWN[..shown.min(SHOWN.len())]),
+            "{}",
+            front.len()
+        );
+    } else {
+        let kind = end.saturating_sub(b'0');
+        let line = format!(in alloc; "refused script S{kind} line {}\n", last_line(front))?;
+        assert!(rt; given.is(3, line.as_bytes()), "{}", front.len());
+    }
+    Ok(())
+}
+
+#[test]
+fn fronts_of_a_script(rt: HostRuntime) -> Result<(), Fail> {
+    for i in 0..SCRIPT.len().min(ENDS.len()) {
+        expect_script(&rt, rt.alloc(), ENDS[i], &SCRIPT[..i])?;
+    }
+    let files: [File<'_>; 3] = [("net", ONE_LINK), ("cert", CERTIFICATE), ("script", SCRIPT)];
+    expect(&rt, rt.alloc(), "whole", WHAT_IF, &files, 0, SHOWN)
+}

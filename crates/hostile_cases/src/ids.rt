@@ -1,0 +1,141 @@
+//! Ids of unusual bytes, through every command; and words at and past their limit.
+
+use crate::running::{File, expect};
+use crate::texts::{CERTIFICATE, CHECK, ONE_LINK, PRINT, WHAT_IF, filled, repeated};
+use std::alloc::Global;
+use std::process::Abort;
+use std::test::Fail;
+use std::thread::Threads;
+
+/// A node, a link and a demand of one id, which stands for each `@`.
+const NETWORK: &[u8] =
+    b"?SNDlib native format; type: network; version: 1.0\nNODES (\n  @\n  B\n)\nLINKS (\n  @ ( @ B ) 10 0 0 0 ( )\n)\nDEMANDS (\n  @ ( @ B ) 1 4 UNLIMITED\n)\n";
+
+/// What is solved of it.
+const SOLVED: &[u8] =
+    b"mcf-certificate 1\nverdict closed\nlinks directed\nmodules largest\nnet nodes 2 cells 1 commodities 1 decimals 0 skipped 0 left 0 hops 0\ngap 0.050000\nphases 1\nscale 10 4\nlower 10/4 2.500000\nupper 45035996273704960/18014398509481984 2.500000\npath @ 4 @\nlength @ 4503599627370496\npotential @ 0 4503599627370496\nend\n";
+
+const SAID: &[u8] =
+    b"valid closed directed largest lower 10/4 2.500000 upper 45035996273704960/18014398509481984 2.500000\n";
+
+const SCRIPT: &[u8] = b"set @ 10 add @ 2 sub @ 12\nclose @ show";
+
+const SHOWN: &[u8] = b"show lower 0/4 0.000000 upper 0/18014398509481984 0.000000\n";
+
+const SOLVE: &[&str] = &["solve", "net", "--links", "directed"];
+
+/// Words of the formats, digits, signs, control bytes, and bytes that are no UTF-8.
+const IDS: &[&[u8]] = &[
+    b"NODES",
+    b"LINKS",
+    b"DEMANDS",
+    b"UNLIMITED",
+    b"META",
+    b"?SNDlib",
+    b"mcf-certificate",
+    b"path",
+    b"length",
+    b"potential",
+    b"end",
+    b"show",
+    b"set",
+    b"close",
+    b"0",
+    b"007",
+    b"1.5",
+    b"1E9",
+    b"-1",
+    b"--",
+    b"--gap",
+    b"/",
+    b"=",
+    b"\"",
+    b"'",
+    b"\\",
+    b"%s",
+    b"\0",
+    b"\x01\x02",
+    b"\x0b\x0c",
+    b"\x1b[31m",
+    b"\x7f",
+    b"\xff\xfe",
+    b"\xc3A",
+    b"\xc3\xa9",
+    b"\xe2\x80\xa8",
+    b"\xed\xa0\x80",
+    b"\xf0\x9f\x9a\x80",
+];
+
+// The id goes through every command unchanged.
+fn expect_id(
+    rt: &(impl Abort + Threads + Sync),
+    alloc: Global,
+    shows: &str,
+    id: &[u8],
+) -> Result<(), Fail> {
+    let net = filled(alloc, NETWORK, b'@', id)?;
+    let cert = filled(alloc, SOLVED, b'@', id)?;
+    let script = filled(alloc, SCRIPT, b'@', id)?;
+    let files: [File<'_>; 3] = [("net", &net), ("cert", &cert), ("script", &script)];
+    expect(rt, alloc, shows, PRINT, &files, 0, &net)?;
+    expect(rt, alloc, shows, SOLVE, &files, 0, &cert)?;
+    expect(rt, alloc, shows, CHECK, &files, 0, SAID)?;
+    expect(rt, alloc, shows, WHAT_IF, &files, 0, SHOWN)
+}
+
+#[test]
+fn ids_of_unusual_bytes(rt: HostRuntime) -> Result<(), Fail> {
+    for id in IDS {
+        expect_id(&rt, rt.alloc(), "unusual", id)?;
+    }
+    Ok(())
+}
+
+// A word has at most 255 bytes.
+fn expect_long_words(rt: &(impl Abort + Threads + Sync), alloc: Global) -> Result<(), Fail> {
+    let longest = repeated(alloc, b"x", 255)?;
+    expect_id(rt, alloc, "longest", &longest)?;
+    let too_long = repeated(alloc, b"x", 256)?;
+    let net = filled(alloc, NETWORK, b'@', &too_long)?;
+    let cert = filled(alloc, SOLVED, b'@', &too_long)?;
+    let script = filled(alloc, SCRIPT, b'@', &too_long)?;
+    let files: [File<'_>; 1] = [("net", &net)];
+    expect(
+        rt,
+        alloc,
+        "network",
+        PRINT,
+        &files,
+        3,
+        b"refused net N2 line 3\n",
+    )?;
+    let files: [File<'_>; 2] = [("net", ONE_LINK), ("cert", &cert)];
+    expect(
+        rt,
+        alloc,
+        "certificate",
+        CHECK,
+        &files,
+        3,
+        b"refused cert K3 line 11\n",
+    )?;
+    let files: [File<'_>; 3] = [
+        ("net", ONE_LINK),
+        ("cert", CERTIFICATE),
+        ("script", &script),
+    ];
+    expect(
+        rt,
+        alloc,
+        "script",
+        WHAT_IF,
+        &files,
+        3,
+        b"refused script S1 line 1\n",
+    )
+}
+
+#[test]
+fn words_at_and_past_their_limit(rt: HostRuntime) -> Result<(), Fail> {
+    expect_long_words(&rt, rt.alloc())
+}

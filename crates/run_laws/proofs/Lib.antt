@@ -1,0 +1,4 @@
+pub mod Given
+pub mod Forms
+pub mod Answered
+pub mod Asked

@@ -1,0 +1,92 @@
+-- When the words of a run are in the grammar, and each file that it reads is accepted.
+use Rattle.std.specs.Prelude.{◌≡◌, ℕ, List, Some, Ok}
+use Rattle.mcf_limits.specs.declared.TheConstants.{MAX_NET_BYTES, MAX_CERT_BYTES, MAX_SCRIPT_BYTES}
+use Rattle.mcf_base.specs.Shelf.{Holding}
+use Rattle.text_lines.specs.Lines.{lines_of}
+use Rattle.flow_paths.specs.declared.certificate.Proof.{Proof}
+use Rattle.flow_paths.specs.Certificate.{IsValid}
+use Rattle.sndlib_grammar.specs.Rows.{NetRows}
+use Rattle.sndlib_grammar.specs.Net.{rows_of}
+use Rattle.unit_scale.specs.Scaling.{ScaledNet, scaled_of}
+use Rattle.cert_names.specs.Sheet.{sheet_of}
+use Rattle.cert_text.specs.declared.opening.CertHead.{CertHead}
+use Rattle.cert_text.specs.declared.papers.Paper.{Paper}
+use Rattle.cert_text.specs.declared.papers.Paper.TheVariants.{Full}
+use Rattle.cert_text.specs.Whole.{head_in, paper_in}
+use Rattle.cert_judge.specs.Judgement.{options_of}
+use Rattle.net_solve.specs.Asked.{IsTooMuch}
+use Rattle.script.specs.declared.step.Step.{Step}
+use Rattle.script.specs.Reading.{script_of}
+use Rattle.mcf_words.specs.declared.request.Command.{Command}
+use Rattle.mcf_words.specs.declared.request.Command.TheVariants.{Solve, Check, WhatIf, Print, Gen, Trial}
+use Rattle.mcf_words.specs.declared.request.Request.{Request}
+use Rattle.mcf_words.specs.Request.{request_of}
+use Rattle.mcf_cli.specs.Files.{IsText}
+use Rattle.mcf_cli.specs.Run.{file_at}
+use Rattle.mcf_cli.specs.Solve.{asked_of}
+use Rattle.mcf_cli.specs.Drawn.{text_drawn}
+
+-- the file of that name is a network text within its limit, and these are its rows
+pub record IsNetFile (files : Holding) (name : List ℕ) (rows : NetRows) : Type 0 where
+  pub text : List ℕ
+  pub given : IsText MAX_NET_BYTES (Some files) name text
+  pub read : rows_of text ≡ Ok rows
+
+-- the rows are a network in whole units under the options, and the work that is asked is within its limit
+pub record IsSolvable (rows : NetRows) (request : Request) : Type 0 where
+  pub net : ScaledNet
+  pub scaled : scaled_of rows request.net ≡ Ok net
+  pub work : (n : ℕ) → ¬ (IsTooMuch net.net (asked_of request) n)
+
+-- The file of that name is the text of this certificate or routing within its limit: its head is read, the rows are this network in whole
+-- units under the head's options, and the rest is read with the network's names.
+pub record IsPaperFile (files : Holding) (name : List ℕ) (rows : NetRows) (net : ScaledNet) (paper : Paper) : Type 0 where
+  pub text : List ℕ
+  pub given : IsText MAX_CERT_BYTES (Some files) name text
+  pub head : CertHead
+  pub head_read : head_in (lines_of text) ≡ Ok head
+  pub scaled : scaled_of rows (options_of head) ≡ Ok net
+  pub rest_read : paper_in (sheet_of rows net) (lines_of text) ≡ Ok paper
+
+-- the file of that name is a script within its limit, all of whose steps the network has and allows
+pub record IsScriptFile (files : Holding) (name : List ℕ) (rows : NetRows) (net : ScaledNet) : Type 0 where
+  pub text : List ℕ
+  pub given : IsText MAX_SCRIPT_BYTES (Some files) name text
+  pub steps : List Step
+  pub read : script_of rows net text ≡ Ok steps
+
+-- a network
+abbrev pub AcceptsPrint : Holding → Request → Type 0
+AcceptsPrint files request = (rows : NetRows) × IsNetFile files (file_at request 0) rows
+
+-- a network that can be solved as asked
+abbrev pub AcceptsSolve : Holding → Request → Type 0
+AcceptsSolve files request = (rows : NetRows) × IsNetFile files (file_at request 0) rows × IsSolvable rows request
+
+-- a network, and a certificate or routing for it
+abbrev pub AcceptsCheck : Holding → Request → Type 0
+AcceptsCheck files request = (rows : NetRows) × IsNetFile files (file_at request 0) rows × (net : ScaledNet) × (paper : Paper) × IsPaperFile files (file_at request 1) rows net paper
+
+-- a network, a certificate for it, and, where that is valid, so that the script is read, a script
+abbrev pub AcceptsWhatIf : Holding → Request → Type 0
+AcceptsWhatIf files request = (rows : NetRows) × IsNetFile files (file_at request 0) rows × (net : ScaledNet) × (proof : Proof) × IsPaperFile files (file_at request 1) rows net (Full proof)
+    × (IsValid net.net proof → IsScriptFile files (file_at request 2) rows net)
+
+-- no file is read; the network that is drawn can be solved as asked
+abbrev pub AcceptsTrial : Request → Type 0
+AcceptsTrial request = (rows : NetRows) × (rows_of (text_drawn request.numbers) ≡ Ok rows) × IsSolvable rows request
+
+-- each file that the command reads is accepted, and the work is within its limit
+abbrev pub Accepts : Command → Holding → Request → Type 0
+Accepts Solve files request = AcceptsSolve files request
+Accepts Check files request = AcceptsCheck files request
+Accepts WhatIf files request = AcceptsWhatIf files request
+Accepts Print files request = AcceptsPrint files request
+Accepts Gen files request = Unit {0}
+Accepts Trial files request = AcceptsTrial request
+
+-- the words are in the grammar, each file that the command reads is accepted, and the work is within its limit
+pub record IsAccepted (files : Holding) (words : List (List ℕ)) : Type 0 where
+  pub request : Request
+  pub asked : request_of words ≡ Some request
+  pub accepts : Accepts request.command files request

@@ -1,0 +1,6 @@
+//! Laws of whole runs, over the contract of the top call: a run of accepted words and files answers in full.
+#![tactic(auto)]
+
+mod laws;
+
+pub use laws::{accepted_runs_are_whole, only_accepted_runs_are};
