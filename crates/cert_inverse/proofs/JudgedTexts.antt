@@ -21,6 +21,7 @@ use Rattle.cert_text.specs.declared.opening.CertHead.{CertHead}
 use Rattle.cert_text.specs.Whole.{head_in, paper_in}
 use Rattle.cert_writer.specs.Text.{FitsProof, FitsRouting, certificate_text, routing_text}
 use Rattle.cert_laws.specs.Fits.{FitsPaper}
+use Rattle.cert_laws.proofs.PaperFits.{papers_fit}
 use Rattle.cert_check.specs.declared.verdict.Fault.{Fault}
 use Rattle.cert_check.specs.declared.verdict.Fault.TheVariants.{C1, C2, C3, C4, C5, C6, C7, C8, C9, C10}
 use Rattle.cert_check.specs.Verdict.{IsFirstRouteFault, IsFirstFault}
@@ -101,6 +102,7 @@ record IsReached (rows : NetRows) (text : List ℕ) (judged : Judged) : Type 0 w
   net : ScaledNet
   paper : Paper
   scaled : scaled_of rows net.options ≡ Ok net
+  fits : FitsPaper (sheet_of rows net) paper
   spelled : text ≡ paper_text (sheet_of rows net) paper
   said : IsSaidOf net.options net.net paper judged
 
@@ -119,7 +121,7 @@ IsOfPaper (Feasible options value) = Unit {0}
 IsOfPaper (Valid options closed lower upper) = Unit {0}
 
 on_paper : (rows : NetRows) (text : List ℕ) (judged : Judged) (net : ScaledNet) → IsOfPaper judged → scaled_of rows net.options ≡ Ok net → (read : Result Paper CertRefusal) → paper_in (sheet_of rows net) (lines_of text) ≡ read → OnPaper net.options net.net read judged → IsReached rows text judged
-on_paper rows text judged net own scaled (Ok paper) e said = record { net = net; paper = paper; scaled = scaled; spelled = text_is (sheet_of rows net) text paper e; said = said }
+on_paper rows text judged net own scaled (Ok paper) e said = record { net = net; paper = paper; scaled = scaled; fits = papers_fit (sheet_of rows net) (lines_of text) paper e; spelled = text_is (sheet_of rows net) text paper e; said = said }
 on_paper rows text judged net own scaled (Err r) e said = absurd (subst IsOfPaper said own)
 
 on_net : (rows : NetRows) (text : List ℕ) (judged : Judged) (o : NetOptions) → IsOfPaper judged → (read : Result ScaledNet NetRefusal) → scaled_of rows o ≡ read → OnNet rows (lines_of text) o read judged → IsReached rows text judged
@@ -133,26 +135,26 @@ on_head : (rows : NetRows) (text : List ℕ) (judged : Judged) → IsOfPaper jud
 on_head rows text judged own (Ok head) said = on_net rows text judged (options_of head) own (scaled_of rows (options_of head)) refl said
 on_head rows text judged own (Err r) said = absurd (subst IsOfPaper said own)
 
-as_certificate : (rows : NetRows) (text : List ℕ) (net : ScaledNet) (options : NetOptions) (closed : Bool) (lower upper : Fraction) → scaled_of rows net.options ≡ Ok net → (paper : Paper) → text ≡ paper_text (sheet_of rows net) paper
+as_certificate : (rows : NetRows) (text : List ℕ) (net : ScaledNet) (options : NetOptions) (closed : Bool) (lower upper : Fraction) → scaled_of rows net.options ≡ Ok net → (paper : Paper) → FitsPaper (sheet_of rows net) paper → text ≡ paper_text (sheet_of rows net) paper
     → IsSaidOf net.options net.net paper (Valid options closed lower upper) → IsValidText rows text (Valid options closed lower upper)
-as_certificate rows text net options closed lower upper scaled (papers.Full p) spelled said =
+as_certificate rows text net options closed lower upper scaled (papers.Full p) fits spelled said =
     let is : Valid options closed lower upper ≡ valid_of net p = (let o = said.0 in let c = said.1 in let l = said.2 in let u = said.3 in cc) in
-    record { net = net; proof = p; scaled = scaled; spelled = spelled; valid = said.4; certified = said.5; said = is }
-as_certificate rows text net options closed lower upper scaled (papers.Routing r) spelled said = absurd said
+    record { net = net; proof = p; scaled = scaled; fits = fits; spelled = spelled; valid = said.4; certified = said.5; said = is }
+as_certificate rows text net options closed lower upper scaled (papers.Routing r) fits spelled said = absurd said
 
 pub judged_certificate : (rows : NetRows) (text : List ℕ) (options : NetOptions) (closed : Bool) (lower upper : Fraction) → IsJudgement rows text (Valid options closed lower upper) → IsValidText rows text (Valid options closed lower upper)
 judged_certificate rows text options closed lower upper said =
     let r = on_head rows text (Valid options closed lower upper) tt (head_in (lines_of text)) said in
-    as_certificate rows text r.net options closed lower upper r.scaled r.paper r.spelled r.said
+    as_certificate rows text r.net options closed lower upper r.scaled r.paper r.fits r.spelled r.said
 
-as_routing : (rows : NetRows) (text : List ℕ) (net : ScaledNet) (options : NetOptions) (value : Fraction) → scaled_of rows net.options ≡ Ok net → (paper : Paper) → text ≡ paper_text (sheet_of rows net) paper
+as_routing : (rows : NetRows) (text : List ℕ) (net : ScaledNet) (options : NetOptions) (value : Fraction) → scaled_of rows net.options ≡ Ok net → (paper : Paper) → FitsPaper (sheet_of rows net) paper → text ≡ paper_text (sheet_of rows net) paper
     → IsSaidOf net.options net.net paper (Feasible options value) → IsFeasibleText rows text (Feasible options value)
-as_routing rows text net options value scaled (papers.Routing r) spelled said =
+as_routing rows text net options value scaled (papers.Routing r) fits spelled said =
     let is : Feasible options value ≡ feasible_of net r = (let o = said.0 in let v = said.1 in cc) in
-    record { net = net; routing = r; scaled = scaled; spelled = spelled; valid = said.2; feasible = subst (λ (f : Fraction). IsFeasible net.net (routing_of r) f.num f.den) said.1 said.3; said = is }
-as_routing rows text net options value scaled (papers.Full p) spelled said = absurd said
+    record { net = net; routing = r; scaled = scaled; fits = fits; spelled = spelled; valid = said.2; feasible = subst (λ (f : Fraction). IsFeasible net.net (routing_of r) f.num f.den) said.1 said.3; said = is }
+as_routing rows text net options value scaled (papers.Full p) fits spelled said = absurd said
 
 pub judged_routing : (rows : NetRows) (text : List ℕ) (options : NetOptions) (value : Fraction) → IsJudgement rows text (Feasible options value) → IsFeasibleText rows text (Feasible options value)
 judged_routing rows text options value said =
     let r = on_head rows text (Feasible options value) tt (head_in (lines_of text)) said in
-    as_routing rows text r.net options value r.scaled r.paper r.spelled r.said
+    as_routing rows text r.net options value r.scaled r.paper r.fits r.spelled r.said
