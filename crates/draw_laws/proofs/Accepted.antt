@@ -1,6 +1,6 @@
 -- The rows of a drawn text are scaled to the network that was drawn.
-use Rattle.std.proofs.Common.{◌≡◌, ◌≢◌, ℕ, suc, ◌+◌, ◌*◌, ◌%◌, ◌<◌, ◌≤◌, ◌^◌, Bool, true, false, List, [], ◌∷◌, ◌++◌, length, map, refl, sym, ap, subst, ◌∙◌, arith, lit≤}
-use Rattle.std.specs.Prelude.{◌==◌, ◌&&◌, Option, Some, None, Result, Ok, Err, if◌then◌else◌, count_by}
+use Rattle.std.proofs.Common.{◌≡◌, ◌≢◌, ℕ, suc, ◌+◌, ◌*◌, ◌%◌, ◌<◌, ◌≤◌, ◌^◌, Bool, true, false, List, [], ◌∷◌, length, map, refl, sym, ap, subst, ◌∙◌, arith, lit≤}
+use Rattle.std.specs.Prelude.{◌==◌, None, Result, Ok, Err, if◌then◌else◌}
 use Rattle.std.specs.List.{list_all, flat_map, filter_map, range_with_len}
 use Rattle.std.proofs.Math.Nat.{mod-lt}
 use Rattle.std.proofs.lemmas.List.Folds.{list_all-append}
@@ -8,20 +8,18 @@ use Rattle.std.proofs.lemmas.List.FromFn.{get_or-map-range_with_len, length-map-
 use Rattle.mcf_limits.specs.declared.TheConstants.{MAX_DEMANDS}
 use Rattle.flow_model.specs.declared.net.Cell.{Cell}
 use Rattle.flow_model.specs.declared.net.Commodity.{Commodity}
-use Rattle.flow_model.specs.Network.{Network}
 use Rattle.net_options.specs.declared.modes.LinkMode.{LinkMode}
 use Rattle.net_options.specs.declared.modes.LinkMode.TheVariants.{Directed, Undirected}
 use Rattle.net_options.specs.declared.modes.ModuleMode.{ModuleMode}
-use Rattle.net_options.specs.declared.modes.ModuleMode.TheVariants.{Ignore, Largest, Sum}
 use Rattle.net_options.specs.declared.options.NetOptions.{NetOptions}
 use Rattle.rand_pcg.specs.Lcg.{Lcg}
 use Rattle.sndlib_grammar.specs.declared.refusal.NetRefusal.{NetRefusal}
 use Rattle.sndlib_grammar.specs.Net.{rows_of}
-use Rattle.sndlib_grammar.specs.Rows.{NetNode, NetLink, NetDemand, NetRows, no_demand}
+use Rattle.sndlib_grammar.specs.Rows.{NetLink, NetDemand, NetRows, no_demand}
 use Rattle.sndlib_text.specs.Canonical.{link_without_line, demand_without_line, without_lines}
 use Rattle.sndlib_text.proofs.ReadBack.{reads_back}
-use Rattle.unit_scale.specs.Sizes.{decimals_of, sizes, serves, capacity, counted, in_units, is_left_out}
-use Rattle.unit_scale.specs.Scaling.{ScaledNet, scaled_of, scaled_with, unless_refused, refusal, cells_of_link, link_cells, commodity_of, net_of, kept_from, has_hops}
+use Rattle.unit_scale.specs.Sizes.{decimals_of, sizes, serves, capacity, counted, in_units}
+use Rattle.unit_scale.specs.Scaling.{ScaledNet, scaled_of, scaled_with, unless_refused, refusal, cells_of_link, link_cells, commodity_of}
 use Rattle.net_gen.specs.Draws.{generator_of, past, drawn, drawn_below}
 use Rattle.net_gen.specs.Generated.{AreCounts, generated_node, generated_link, generated_demand, generated_rows, generated_text, link_capacity, words_of_ends, words_before_link}
 use Rattle.net_gen.proofs.Differing.{all_demands_differ}

@@ -1,18 +1,16 @@
 -- What holds of each row, whatever line it stands in, holds of all.
-use Rattle.std.proofs.Common.{cond, ◌≡◌, ◌≢◌, ℕ, zero, suc, ◌+◌, ◌*◌, ◌<◌, ◌≤◌, Bool, true, false, List, [], ◌∷◌, ◌++◌, length, map, nat_lt, refl, sym, ap, subst, ◌∙◌, arith}
-use Rattle.std.specs.Prelude.{◌||◌, ◌&&◌, Option, Some, None, count_by, if◌then◌else◌}
-use Rattle.std.specs.List.{list_all, flat_map, filter_map, range_with_len, sum_by}
+use Rattle.std.proofs.Common.{cond, ◌≡◌, ℕ, zero, suc, ◌+◌, ◌*◌, ◌<◌, ◌≤◌, Bool, true, false, List, [], ◌∷◌, length, map, nat_lt, refl, ap, arith}
+use Rattle.std.specs.Prelude.{Option, Some, None, count_by}
+use Rattle.std.specs.List.{list_all, flat_map, filter_map, range_with_len}
 use Rattle.std.proofs.lemmas.List.Sums.{sum_by-cons}
 use Rattle.mcf_limits.specs.declared.TheConstants.{MAX_TOTAL}
-use Rattle.flow_model.specs.declared.net.Commodity.{Commodity}
-use Rattle.flow_model.specs.declared.net.Cell.{Cell}
 use Rattle.net_options.specs.declared.modes.ModuleMode.{ModuleMode}
 use Rattle.net_options.specs.declared.modes.ModuleMode.TheVariants.{Ignore, Largest, Sum}
 use Rattle.sndlib_grammar.specs.Rows.{NetLink, NetDemand}
 use Rattle.sndlib_text.specs.Canonical.{link_without_line, demand_without_line}
 use Rattle.unit_scale.specs.Units.{most}
-use Rattle.unit_scale.specs.Sizes.{capacity, counted, serves, is_fine_link, is_fine_demand, is_left_out, is_over}
-use Rattle.unit_scale.specs.Scaling.{first_line, first_large, is_large_link, is_large_demand, counted_units, kept_from, has_hops}
+use Rattle.unit_scale.specs.Sizes.{capacity, counted, serves, is_fine_link, is_fine_demand, is_left_out}
+use Rattle.unit_scale.specs.Scaling.{first_line, first_large, is_large_link, counted_units, kept_from, has_hops}
 use Rattle.draw_laws.proofs.Words.{nat_lt-false}
 use Rattle.draw_laws.proofs.Rows.{IsWholeLink, IsWholeDemand}
 

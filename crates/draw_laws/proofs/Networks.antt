@@ -1,15 +1,15 @@
 -- What is drawn is a network, of the counts that were asked for.
-use Rattle.std.proofs.Common.{◌≡◌, ℕ, zero, suc, ◌+◌, ◌*◌, ◌%◌, ◌≤◌, List, [], ◌∷◌, length, map, refl, sym, ap, subst, ◌∙◌, arith}
-use Rattle.std.specs.List.{range_with_len, sum_by, filter_map}
+use Rattle.std.proofs.Common.{◌≡◌, ℕ, ◌+◌, ◌*◌, ◌%◌, ◌≤◌, List, [], ◌∷◌, length, map, refl, sym, ap, subst, ◌∙◌, arith}
+use Rattle.std.specs.List.{range_with_len, sum_by}
 use Rattle.std.proofs.lemmas.List.FromFn.{length-map-range_with_len}
 use Rattle.std.proofs.lemmas.List.Sums.{sum_by-cons}
 use Rattle.flow_model.specs.declared.net.Commodity.{Commodity}
-use Rattle.flow_model.specs.Network.{Network, IsNetwork}
+use Rattle.flow_model.specs.Network.{IsNetwork}
 use Rattle.net_options.specs.declared.modes.LinkMode.{LinkMode}
 use Rattle.net_options.specs.declared.modes.ModuleMode.TheVariants.{Ignore}
 use Rattle.net_options.specs.declared.options.NetOptions.{NetOptions}
 use Rattle.unit_scale.specs.Scaling.{net_of}
-use Rattle.unit_scale.specs.Sizes.{AreDecimals, sizes, decimals_of}
+use Rattle.unit_scale.specs.Sizes.{AreDecimals, sizes}
 use Rattle.unit_scale.proofs.NetworkFacts.{network_ok}
 use Rattle.unit_scale.proofs.WholeScaling.{decimals_are}
 use Rattle.net_gen.specs.Draws.{generator_of, past}
@@ -17,7 +17,7 @@ use Rattle.net_gen.specs.Generated.{AreCounts, generated_node, generated_rows, w
 use Rattle.net_gen.proofs.Printing.{rows_printable}
 use Rattle.draw_laws.specs.Drawn.{drawn_cell, drawn_commodity, drawn_network}
 use Rattle.draw_laws.proofs.Each.{small_links, small_demands}
-use Rattle.draw_laws.proofs.Accepted.{AreWhole, drawn_whole, no_decimals, cells_drawn, commodities_drawn}
+use Rattle.draw_laws.proofs.Accepted.{drawn_whole, no_decimals, cells_drawn, commodities_drawn}
 
 pub cells_count : (mode : LinkMode) (seed nodes links demands : ℕ) → length (drawn_network mode seed nodes links demands).cells ≡ links
 cells_count mode seed nodes links demands = length-map-range_with_len (λ i. drawn_cell mode (past (words_before_link nodes i) (generator_of seed)) nodes i) 0 links

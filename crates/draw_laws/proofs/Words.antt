@@ -1,6 +1,6 @@
 -- The numbers that drawn words write, in millionths.
-use Rattle.std.proofs.Common.{◌≡◌, ℕ, ◌+◌, ◌-◌, ◌*◌, ◌/◌, ◌%◌, ◌<◌, ◌≤◌, ◌^◌, true, false, List, [], ◌∷◌, ◌++◌, length, take, drop, nat_lt, refl, sym, ap, ◌∙◌, arith}
-use Rattle.std.specs.Prelude.{◌==◌, Option, Some, None}
+use Rattle.std.proofs.Common.{◌≡◌, ℕ, ◌+◌, ◌*◌, ◌<◌, ◌≤◌, ◌^◌, true, false, List, [], ◌∷◌, length, take, drop, nat_lt, refl, ap, ◌∙◌, arith}
+use Rattle.std.specs.Prelude.{◌==◌, Option, Some}
 use Rattle.std.specs.Option.{unwrap_or, is_none}
 use Rattle.std.specs.Char.{is_ascii_digit}
 use Rattle.std.specs.Fmt.{decimal}
@@ -13,7 +13,7 @@ use Rattle.std.proofs.lemmas.List.{append-nil}
 use Rattle.std.proofs.lemmas.Str.Parse.{digit_from_value}
 use Rattle.std.proofs.Math.Seq.{drop-length, take-length}
 use Rattle.sndlib_number.specs.Number.{number_of, plain, front_digits, behind_digits}
-use Rattle.unit_scale.specs.Units.{units_of, most}
+use Rattle.unit_scale.specs.Units.{most}
 use Rattle.unit_scale.specs.Sizes.{millionths, millionths_of, value, is_fine, is_over}
 use Rattle.unit_scale.proofs.UnitLaws.{units_raise}
 
