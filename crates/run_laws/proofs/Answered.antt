@@ -1,5 +1,5 @@
 -- What each command answers to accepted files: an answer with status 0 or 1.
-use Rattle.std.proofs.Common.{◌≡◌, ℕ, ◌≤◌, Bool, true, false, List, Some, Result, Ok, Err, ap, subst, sym, ◌∙◌, arith}
+use Rattle.std.proofs.Common.{◌≡◌, ℕ, ◌≤◌, Bool, true, false, List, Some, Result, Ok, Err, inl, inr, ap, subst, sym, ◌∙◌, arith}
 use Rattle.std.specs.Prelude.{if◌then◌else◌}
 use Rattle.mcf_limits.specs.declared.TheConstants.{MAX_NET_BYTES, MAX_CERT_BYTES, MAX_SCRIPT_BYTES}
 use Rattle.mcf_base.specs.Faults.{Rose, Faults}
@@ -45,7 +45,7 @@ use Rattle.mcf_cli.specs.Print.{printed, print_answer}
 use Rattle.mcf_cli.specs.Check.{OnTexts, OnRows, OfCheck}
 use Rattle.mcf_cli.specs.Solve.{asked_of, solving_answer, SolvesRows, SolvesRead, OfSolve}
 use Rattle.mcf_cli.specs.WhatIf.{scripted_answer, OnScript, OnCertified, OnCertificate, OnNetwork, OfWhatIf}
-use Rattle.mcf_cli.specs.Drawn.{text_drawn, trial_answer, TriesRows, OfTrial}
+use Rattle.mcf_cli.specs.Drawn.{net_drawn, trial_line, OfTrial}
 use Rattle.mcf_cli.specs.Run.{file_at, OfPrint, OfCommand}
 use Rattle.run_laws.specs.Accepted.{IsSolvable, IsPaperFile, IsScriptFile, AcceptsPrint, AcceptsSolve, AcceptsCheck, AcceptsWhatIf, AcceptsTrial, Accepts}
 use Rattle.run_laws.proofs.Given.{of_text}
@@ -90,18 +90,9 @@ solve_low files first last request answer calm (rows, net, can) of =
     let on = of_text MAX_NET_BYTES kinds.Network files first last (file_at request 0) net.text (λ text given. SolvesRead request (rows_of text) given) answer calm net.given of in
     solves_low rows request answer can (subst (λ (r : Result NetRows NetRefusal). SolvesRead request r answer) net.read on)
 
-trying_low : (rows : NetRows) (request : Request) (solving : Solving) → IsSolvable rows request → IsSolving rows request.net (asked_of request) solving → (trial_answer solving).status ≤ 1
-trying_low rows request (solvings.Refused r) can is = absurd (clash (scaled_of rows request.net) can.net r can.scaled is)
-trying_low rows request (solvings.TooMuch n) can is =
-    absurd (can.work n (subst (λ (net : ScaledNet). IsTooMuch net.net (asked_of request) n) (one_value (scaled_of rows request.net) is.0 can.net is.1 can.scaled) is.2))
-trying_low rows request (solvings.Done net s) can is = verdict_low s.proof.closed
-
-tries_low : (rows : NetRows) (request : Request) (answer : Answer) → IsSolvable rows request → TriesRows request rows answer → answer.status ≤ 1
-tries_low rows request answer can (solving, is, e) = status_is answer (trial_answer solving) e (trying_low rows request solving can is)
-
 trial_low : (request : Request) (answer : Answer) → AcceptsTrial request → OfTrial request answer → answer.status ≤ 1
-trial_low request answer (rows, read, can) (drawn, was, tries) =
-    tries_low rows request answer can (subst (λ (r : NetRows). TriesRows request r answer) (one_value (rows_of (text_drawn request.numbers)) drawn rows was read) tries)
+trial_low request answer can (rows, read, inl (n, is, same)) = absurd (can n is)
+trial_low request answer can (rows, read, inr (s, done, same)) = status_is answer (trial_line (net_drawn request).net s) same (verdict_low s.proof.closed)
 
 -- ---- check
 

@@ -50,7 +50,7 @@ use Rattle.mcf_cli.specs.Print.{printed, print_answer}
 use Rattle.mcf_cli.specs.Check.{OnTexts, OnRows, OfCheck}
 use Rattle.mcf_cli.specs.Solve.{asked_of, solving_answer, SolvesRead, OfSolve}
 use Rattle.mcf_cli.specs.WhatIf.{scripted_answer, OnScript, OnCertified, OnCertificate, OnNetwork, OfWhatIf}
-use Rattle.mcf_cli.specs.Drawn.{trial_answer, OfTrial}
+use Rattle.mcf_cli.specs.Drawn.{OfTrial}
 use Rattle.mcf_cli.specs.Run.{file_at, OfPrint, OfCommand, OfRequest, RunEnds}
 use Rattle.run_laws.specs.Accepted.{IsSolvable, IsPaperFile, IsScriptFile, AcceptsPrint, AcceptsSolve, AcceptsCheck, AcceptsWhatIf, AcceptsTrial, Accepts, IsAccepted}
 use Rattle.run_laws.specs.Whole.{HasNoFault, EndsWhole}
@@ -109,13 +109,9 @@ solve_accepts files first last request answer full of =
     let r = rows_solved t.0 request answer (rows_of t.0) refl t.2 full in
     (r.0, record { text = t.0; given = t.1; read = r.1 }, r.2)
 
-trying_can : (rows : NetRows) (request : Request) (solving : Solving) → IsSolving rows request.net (asked_of request) solving → (trial_answer solving).status ≤ 1 → IsSolvable rows request
-trying_can rows request (solvings.Refused r) is low = absurd (not_full (answer_of (outcomes.NetRefused r)) (outcomes.NetRefused r) refl low (omega arith))
-trying_can rows request (solvings.TooMuch n) is low = absurd (not_full (answer_of (outcomes.TooMuch n)) (outcomes.TooMuch n) refl low (omega arith))
-trying_can rows request (solvings.Done net s) is low = record { net = net; scaled = is.network; work = is.work }
-
 trial_accepts : (request : Request) (answer : Answer) → answer.status ≤ 1 → OfTrial request answer → AcceptsTrial request
-trial_accepts request answer full (rows, read, (solving, is, same)) = (rows, read, trying_can rows request solving is (other_is answer (trial_answer solving) same full))
+trial_accepts request answer full (rows, read, inl (n, is, same)) = absurd (not_full answer (outcomes.TooMuch n) same full (omega arith))
+trial_accepts request answer full (rows, read, inr (s, done, same)) = done.work
 
 -- ---- check
 

@@ -24,7 +24,7 @@ use Rattle.mcf_words.specs.Request.{request_of}
 use Rattle.mcf_cli.specs.Files.{IsText}
 use Rattle.mcf_cli.specs.Run.{file_at}
 use Rattle.mcf_cli.specs.Solve.{asked_of}
-use Rattle.mcf_cli.specs.Drawn.{text_drawn}
+use Rattle.mcf_cli.specs.Drawn.{net_drawn}
 
 -- the file of that name is a network text within its limit, and these are its rows
 pub record IsNetFile (files : Holding) (name : List ℕ) (rows : NetRows) : Type 0 where
@@ -72,9 +72,9 @@ abbrev pub AcceptsWhatIf : Holding → Request → Type 0
 AcceptsWhatIf files request = (rows : NetRows) × IsNetFile files (file_at request 0) rows × (net : ScaledNet) × (proof : Proof) × IsPaperFile files (file_at request 1) rows net (Full proof)
     × (IsValid net.net proof → IsScriptFile files (file_at request 2) rows net)
 
--- no file is read; the network that is drawn can be solved as asked
+-- no file is read; the work that is asked on the network that is drawn is within its limit
 abbrev pub AcceptsTrial : Request → Type 0
-AcceptsTrial request = (rows : NetRows) × (rows_of (text_drawn request.numbers) ≡ Ok rows) × IsSolvable rows request
+AcceptsTrial request = (n : ℕ) → ¬ (IsTooMuch (net_drawn request).net (asked_of request) n)
 
 -- each file that the command reads is accepted, and the work is within its limit
 abbrev pub Accepts : Command → Holding → Request → Type 0
