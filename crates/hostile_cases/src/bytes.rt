@@ -1,9 +1,10 @@
 //! Single bytes exchanged, removed and doubled at every place of a small text of each kind.
 
-use crate::running::{Answer, File, answer_to, judged};
+use crate::running::{is_line, judged};
 use crate::texts::{
     CERTIFICATE, ONE_LINK, PRINT, ROUTING, SCRIPT, VALID, WHAT_IF, last_line, spliced,
 };
+use run_rows::{Answer, File, ample_answer};
 use std::alloc::Global;
 use std::process::Abort;
 use std::test::Fail;
@@ -30,14 +31,14 @@ fn expect_solved(
     place: usize,
     net: &[u8],
 ) -> Result<(), Fail> {
-    let solved = answer_to(rt, alloc, SOLVE, &[("net", net)])?;
+    let solved = ample_answer(rt, alloc, SOLVE, &[("net", net)])?;
     if solved.status == 3 {
-        assert!(rt; solved.is_line(3, b"refused net N"), "{place}");
+        assert!(rt; is_line(&solved, 3, b"refused net N"), "{place}");
         return Ok(());
     }
     assert!(rt; solved.status <= 1, "{place}");
     let said = judged(rt, alloc, net, solved.text())?;
-    assert!(rt; said.is_line(0, b"valid "), "{place}");
+    assert!(rt; is_line(&said, 0, b"valid "), "{place}");
     Ok(())
 }
 
@@ -48,12 +49,12 @@ fn expect_net(
     place: usize,
     net: &[u8],
 ) -> Result<(), Fail> {
-    let printed = answer_to(rt, alloc, PRINT, &[("net", net)])?;
+    let printed = ample_answer(rt, alloc, PRINT, &[("net", net)])?;
     if printed.status == 3 {
-        assert!(rt; printed.is_line(3, b"refused net N"), "{place}");
+        assert!(rt; is_line(&printed, 3, b"refused net N"), "{place}");
         return Ok(());
     }
-    let again = answer_to(rt, alloc, PRINT, &[("net", printed.text())])?;
+    let again = ample_answer(rt, alloc, PRINT, &[("net", printed.text())])?;
     assert!(rt;
         printed.status == 0 && again.is(0, printed.text()),
         "{place}"
@@ -64,8 +65,10 @@ fn expect_net(
 // The last word of a line as a number of millionths.
 fn millionths(line: &[u8]) -> u64 {
     let mut value = 0u64;
-    for b in &line[line.len().saturating_sub(10)..] {
-        if b.is_ascii_digit() {
+    for b in line {
+        if *b == b' ' {
+            value = 0;
+        } else if b.is_ascii_digit() {
             value = value
                 .saturating_mul(10)
                 .saturating_add(u64::from(b.saturating_sub(b'0')));
@@ -77,9 +80,9 @@ fn millionths(line: &[u8]) -> u64 {
 // Whether this may be said of a routing on the network of one link: no routing carries more than 10/4.
 fn is_sane_routing(said: &Answer) -> bool {
     match said.status {
-        0 => said.is_line(0, b"feasible directed none ") && millionths(said.text()) <= 2_500_000,
-        1 => said.is_line(1, b"invalid C"),
-        _ => said.is_line(3, b"refused cert K"),
+        0 => is_line(said, 0, b"feasible directed none ") && millionths(said.text()) <= 2_500_000,
+        1 => is_line(said, 1, b"invalid C"),
+        _ => is_line(said, 3, b"refused cert K"),
     }
 }
 
@@ -87,8 +90,8 @@ fn is_sane_routing(said: &Answer) -> bool {
 fn is_sane_certificate(said: &Answer) -> bool {
     match said.status {
         0 => said.text() == VALID,
-        1 => said.is_line(1, b"invalid C"),
-        _ => said.is_line(3, b"refused cert K"),
+        1 => is_line(said, 1, b"invalid C"),
+        _ => is_line(said, 3, b"refused cert K"),
     }
 }
 
@@ -108,7 +111,7 @@ fn shows(script: &[u8]) -> u64 {
 // A script is refused, or it shows a line for each `show`.
 fn is_sane_script(script: &[u8], said: &Answer) -> bool {
     if said.status == 3 {
-        return said.is_line(3, b"refused script S");
+        return is_line(said, 3, b"refused script S");
     }
     let begins = said.text().is_empty() || said.text().starts_with(b"show lower ");
     said.status == 0 && begins && last_line(said.text()) == shows(script)
@@ -134,7 +137,7 @@ fn expect_sane(
             assert!(rt; is_sane_routing(&said), "{place}");
         }
         Kind::Script => {
-            let said = answer_to(rt, alloc, WHAT_IF, &script)?;
+            let said = ample_answer(rt, alloc, WHAT_IF, &script)?;
             assert!(rt; is_sane_script(text, &said), "{place}");
         }
     }

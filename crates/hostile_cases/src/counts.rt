@@ -2,8 +2,9 @@
 
 ghost use Rattle.std.specs.Prelude.{◌≤◌};
 
-use crate::running::{File, answer_within, expect, judged};
+use crate::running::{answer_within, expect, is_line, judged};
 use crate::texts::PRINT;
+use run_rows::File;
 use std::alloc::{AllocError, Global};
 use std::process::Abort;
 use std::test::Fail;
@@ -96,7 +97,8 @@ fn expect_solved(rt: &(impl Abort + Threads + Sync), alloc: Global) -> Result<()
     assert!(rt; solved.status == 1);
     let said = judged(rt, alloc, &net, solved.text())?;
     assert!(rt;
-        said.is_line(
+        is_line(
+            &said,
             0,
             b"valid open undirected largest lower 10/1024 0.009765 upper "
         )

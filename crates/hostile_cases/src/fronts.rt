@@ -1,9 +1,10 @@
 //! Every proper front of a small text of each kind.
 
-use crate::running::{File, answer_to, expect, judged};
+use crate::running::{expect, judged};
 use crate::texts::{
     CERTIFICATE, CHECK, ONE_LINK, PRINT, ROUTING, SCRIPT, VALID, WHAT_IF, last_line,
 };
+use run_rows::{File, ample_answer};
 use std::alloc::Global;
 use std::process::Abort;
 use std::test::Fail;
@@ -19,7 +20,7 @@ fn expect_net(
     count: usize,
     front: &[u8],
 ) -> Result<(), Fail> {
-    let given = answer_to(rt, alloc, PRINT, &[("net", front)])?;
+    let given = ample_answer(rt, alloc, PRINT, &[("net", front)])?;
     if count < NET_HEADER {
         assert!(rt; given.is(3, b"refused net N1 line 1\n"), "{count}");
     } else if front.ends_with(b"\n)") && last_line(front) == 11 {
@@ -92,7 +93,7 @@ fn expect_script(
     front: &[u8],
 ) -> Result<(), Fail> {
     let files: [File<'_>; 3] = [("net", ONE_LINK), ("cert", CERTIFICATE), ("script", front)];
-    let given = answer_to(rt, alloc, WHAT_IF, &files)?;
+    let given = ample_answer(rt, alloc, WHAT_IF, &files)?;
     if end == b'.' {
         let shown = if last_line(front) == 1 || !front.contains(&b'w') {
             0

@@ -1,7 +1,8 @@
 //! Ids of unusual bytes, through every command; and words at and past their limit.
 
-use crate::running::{File, expect};
+use crate::running::expect;
 use crate::texts::{CERTIFICATE, CHECK, ONE_LINK, PRINT, WHAT_IF, filled, repeated};
+use run_rows::File;
 use std::alloc::Global;
 use std::process::Abort;
 use std::test::Fail;

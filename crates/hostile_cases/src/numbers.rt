@@ -1,7 +1,8 @@
 //! Numbers at their limits and one past them: of a network, of a certificate, and of the command line.
 
-use crate::running::{File, answer_to, answer_within, expect};
+use crate::running::{answer_within, expect};
 use crate::texts::{CERTIFICATE, CHECK, ONE_LINK, VALID, WHAT_IF, edited, repeated};
+use run_rows::{File, ample_answer};
 use std::test::Fail;
 
 const SOLVE: &[&str] = &["solve", "net", "--workers", "1"];
@@ -130,7 +131,7 @@ const NETWORKS: &[Row] = &[
 fn numbers_of_a_network(rt: HostRuntime) -> Result<(), Fail> {
     for (shows, part, by, status, front) in NETWORKS {
         let net = edited(rt.alloc(), ONE_LINK, part, by)?;
-        let given = answer_to(&rt, rt.alloc(), SOLVE, &[("net", &net)])?;
+        let given = ample_answer(&rt, rt.alloc(), SOLVE, &[("net", &net)])?;
         assert_eq!(&rt; given.status, *status, "{shows}");
         assert!(&rt; given.text().starts_with(front), "{shows}");
     }

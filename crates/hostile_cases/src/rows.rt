@@ -1,7 +1,8 @@
 //! Rows that other tables have not: each an edit of a small text, and its answer.
 
-use crate::running::{File, expect};
+use crate::running::expect;
 use crate::texts::{CERTIFICATE, CHECK, ONE_LINK, PRINT, WHAT_IF, edited};
+use run_rows::File;
 use std::test::Fail;
 
 // What a row shows, the words, a part of the network of one link and what takes its place, the status, and the text.
