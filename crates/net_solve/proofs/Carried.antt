@@ -57,7 +57,7 @@ mapped_count f [] = refl
 mapped_count f (x ∷ xs) = ap suc (mapped_count f xs)
 
 pub run-phases : (net : Network) (o : SolveOptions) (s : SolvedView) → IsSolverRun net o s → length s.history ≡ s.proof.routing.phases
-run-phases net o s (inl cut) = ap (length {A = List Entry}) cut.1.0 ∙ sym cut.1.1.phases
+run-phases net o s (inl cut) = ap (length {A = List Entry}) cut.1 ∙ sym cut.2.phases
 run-phases net o s (inr phased) = sym (mapped_count (routed_in s.proof.routing.paths) s.history) ∙ sym phased.1.proof.phases_are
 
 pub routes-of-phases : (net : Network) (o : SolveOptions) (s : SolvedView) → IsSolved net o s → routes_of s ≡ s.proof.routing.phases * length net.commodities
