@@ -15,7 +15,7 @@ ghost use Rattle.cert_judge.specs.Judgement.{IsJudgement};
 ghost use Rattle.cert_inverse.specs.Judging.{valid_of};
 ghost use Rattle.net_solve.specs.declared.asked.Asked.{Asked};
 ghost use Rattle.net_solve.specs.Solving.{IsDone};
-ghost use Rattle.net_solve.specs.Tally.{routes_of};
+ghost use Rattle.net_solve.specs.Tally.{total_of, routes_of, carried_of};
 
 use solve_texts::solved_is_judged_valid;
 
@@ -31,4 +31,11 @@ pub fn solves_check()
 /// Each phase routes each commodity once.
 pub fn routes_are_of_phases()
     ensures { (net : Network) (o : SolveOptions) (s : SolvedView) → IsSolved net o s → routes_of s ≡ length net.commodities * length s.history }
+{}
+
+/// In the certificate's own number of phases: the history has as many, the routes are phases times commodities, and all rows together carry phases times the total amount.
+pub fn carried_is_of_phases()
+    ensures phases { (net : Network) (o : SolveOptions) (s : SolvedView) → IsSolved net o s → length s.history ≡ s.proof.routing.phases }
+    ensures routes { (net : Network) (o : SolveOptions) (s : SolvedView) → IsSolved net o s → routes_of s ≡ s.proof.routing.phases * length net.commodities }
+    ensures carried { (net : Network) (o : SolveOptions) (s : SolvedView) → IsSolved net o s → carried_of s.proof.routing.paths ≡ s.proof.routing.phases * total_of net }
 {}

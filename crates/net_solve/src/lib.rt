@@ -7,6 +7,6 @@ mod solving;
 mod tally;
 
 pub use asked::Asked;
-pub use laws::{routes_are_of_phases, solves_check};
+pub use laws::{carried_is_of_phases, routes_are_of_phases, solves_check};
 pub use solving::{Solving, solve_rows};
 pub use tally::{carried_amount, route_count, total_amount};
