@@ -1,23 +1,28 @@
 -- The line of a trial, and how a trial ends.
-use Rattle.std.proofs.Common.{◌≡◌, ℕ, List, [], ◌∷◌, Option, Ok, inl, inr, refl, subst, length}
-use Rattle.std.specs.Prelude.{codes}
+use Rattle.std.proofs.Common.{◌≡◌, ◌∙◌, ℕ, List, [], ◌∷◌, Option, Result, Ok, inl, inr, refl, sym, ap, subst, length}
+use Rattle.std.specs.Prelude.{codes, slice_index}
 use Rattle.std.specs.Fmt.{decimal}
 use Rattle.text_lines.specs.Lines.{Line}
 use Rattle.flow_model.specs.Network.{Network}
 use Rattle.sndlib_grammar.specs.Rows.{NetRows}
 use Rattle.sndlib_grammar.specs.Net.{rows_of}
-use Rattle.unit_scale.specs.Scaling.{ScaledNet}
+use Rattle.sndlib_grammar.specs.declared.refusal.NetRefusal.{NetRefusal}
+use Rattle.unit_scale.specs.Scaling.{ScaledNet, scaled_of}
 use Rattle.solver_run.specs.History.{SolvedView}
-use Rattle.net_solve.specs.declared.solving.Solving.TheVariants.{Done}
-use Rattle.net_solve.specs.Solving.{IsSolving}
+use Rattle.net_gen.specs.Generated.{AreCounts}
+use Rattle.net_solve.specs.declared.solving.Solving.TheVariants.{TooMuch}
+use Rattle.net_solve.specs.Asked.{IsTooMuch}
+use Rattle.net_solve.specs.Solving.{IsSolving, IsDone}
 use Rattle.net_solve.specs.Tally.{total_of, routes_of, carried_of}
 use Rattle.mcf_words.specs.declared.request.Request.{Request}
+use Rattle.mcf_words.specs.Request.{AreDrawn}
+use Rattle.mcf_cli.specs.declared.outcome.Outcome.TheVariants.{TooMuch as TooMuchWork}
 use Rattle.mcf_cli.specs.declared.ended.Ended.{Ended}
-use Rattle.mcf_cli.specs.Answer.{Writes}
+use Rattle.mcf_cli.specs.Answer.{Writes, answer_of}
 use Rattle.mcf_cli.specs.Check.{IsTold}
 use Rattle.mcf_cli.specs.Judged.{verdict_word}
 use Rattle.mcf_cli.specs.Solve.{asked_of}
-use Rattle.mcf_cli.specs.Drawn.{text_drawn, trial_words, trial_line, TriesRows, OfTrial}
+use Rattle.mcf_cli.specs.Drawn.{text_drawn, trial_words, trial_line, net_drawn, TriesRows, OfTrial}
 
 -- the words that were written are those of the line
 pub trial_line_is : (net : Network) (s : SolvedView) (nodes links commodities total phases routes carried verdict : List ℕ)
@@ -27,12 +32,30 @@ pub trial_line_is : (net : Network) (s : SolvedView) (nodes links commodities to
     ∷ codes "routes" ∷ routes ∷ codes "carried" ∷ carried ∷ verdict ∷ [] ≡ trial_words net s
 trial_line_is net s nodes links commodities total phases routes carried verdict a b c d e f g h = rw (a, b, c, d, e, f, g, h) refl
 
+pub counts_are : (numbers : List ℕ) → AreDrawn numbers → AreCounts (slice_index numbers 1) (slice_index numbers 2) (slice_index numbers 3)
+counts_are numbers (a, b, c, d, e, f) = record { some_nodes = a; most_nodes = b; some_links = c; most_links = d; some_demands = e; most_demands = f }
+
+abbrev scaled_to : ScaledNet → Result ScaledNet NetRefusal
+scaled_to net = Ok net
+
+scaled_is : (a b : ScaledNet) → scaled_to a ≡ scaled_to b → a ≡ b
+scaled_is a b e = cc
+
 -- a solve of the rows was told
 pub told_done : (request : Request) (rows : NetRows) (net : ScaledNet) (s : SolvedView) (n : Network) (old new : Option (List ℕ)) (before after : ℕ) (ended : Ended)
-    → IsSolving rows request.net (asked_of request) (Done net s) → n ≡ net.net → Writes old new before after ended (trial_line n s)
+    → scaled_of rows request.net ≡ Ok (net_drawn request) → IsDone rows request.net (asked_of request) net s → n ≡ net.net → Writes old new before after ended (trial_line n s)
     → IsTold (TriesRows request rows) old new before after ended
-told_done request rows net s n old new before after ended solving same written =
-    (trial_line net.net s, inr (Done net s, solving, refl), subst (λ m. Writes old new before after ended (trial_line m s)) same written)
+told_done request rows net s n old new before after ended drawn done same written =
+    let is : net ≡ net_drawn request = scaled_is net (net_drawn request) (sym done.network ∙ drawn) in
+    (trial_line (net_drawn request).net s, inr (inr (s, subst (λ m. IsDone rows request.net (asked_of request) m s) is done, refl)), subst (λ m. Writes old new before after ended (trial_line m s)) (same ∙ ap (λ (m : ScaledNet). m.net) is) written)
+
+-- and so was the work
+pub told_work : (request : Request) (rows : NetRows) (n : ℕ) (old new : Option (List ℕ)) (before after : ℕ) (ended : Ended)
+    → scaled_of rows request.net ≡ Ok (net_drawn request) → IsSolving rows request.net (asked_of request) (TooMuch n) → Writes old new before after ended (answer_of (TooMuchWork n))
+    → IsTold (TriesRows request rows) old new before after ended
+told_work request rows n old new before after ended drawn (net, scaled, work) written =
+    let is : net ≡ net_drawn request = scaled_is net (net_drawn request) (sym scaled ∙ drawn) in
+    (answer_of (TooMuchWork n), inr (inl (n, subst (λ m. IsTooMuch m.net (asked_of request) n) is work, refl)), written)
 
 -- and so was the trial, where the rows are those of the text that was drawn
 pub told_text : (request : Request) (text : List ℕ) (rows : NetRows) (old new : Option (List ℕ)) (before after : ℕ) (ended : Ended)

@@ -1,5 +1,5 @@
 -- What `gen` and `trial` answer.
-use Rattle.std.specs.Prelude.{◌≡◌, ℕ, List, [], ◌∷◌, Some, None, Ok, length, slice_index, codes, if◌then◌else◌}
+use Rattle.std.specs.Prelude.{◌≡◌, ◌⊎◌, ℕ, List, [], ◌∷◌, Some, None, Ok, length, slice_index, codes, if◌then◌else◌}
 use Rattle.std.specs.Fmt.{decimal}
 use Rattle.text_lines.specs.Lines.{Line, spelled}
 use Rattle.flow_model.specs.Network.{Network}
@@ -8,12 +8,12 @@ use Rattle.sndlib_grammar.specs.Net.{rows_of}
 use Rattle.unit_scale.specs.Scaling.{ScaledNet}
 use Rattle.solver_run.specs.History.{SolvedView}
 use Rattle.net_gen.specs.Generated.{generated_text}
-use Rattle.net_solve.specs.declared.solving.Solving.{Solving}
-use Rattle.net_solve.specs.declared.solving.Solving.TheVariants.{Refused, TooMuch, Done}
-use Rattle.net_solve.specs.Solving.{IsSolving}
+use Rattle.draw_laws.specs.Drawn.{drawn_net}
+use Rattle.net_solve.specs.Asked.{IsTooMuch}
+use Rattle.net_solve.specs.Solving.{IsDone}
 use Rattle.net_solve.specs.Tally.{total_of, routes_of, carried_of}
 use Rattle.mcf_words.specs.declared.request.Request.{Request}
-use Rattle.mcf_cli.specs.declared.outcome.Outcome.TheVariants.{NetRefused, TooMuch as TooMuchWork}
+use Rattle.mcf_cli.specs.declared.outcome.Outcome.TheVariants.{TooMuch as TooMuchWork}
 use Rattle.mcf_cli.specs.Judged.{verdict_word}
 use Rattle.mcf_cli.specs.Answer.{Answer, answer_of}
 use Rattle.mcf_cli.specs.Solve.{asked_of}
@@ -36,14 +36,15 @@ trial_words net s =
 abbrev pub trial_line : Network → SolvedView → Answer
 trial_line net s = record { status = if s.proof.closed then 0 else 1; text = spelled (trial_words net s); solved = Some s }
 
-abbrev pub trial_answer : Solving → Answer
-trial_answer (Refused r) = answer_of (NetRefused r)
-trial_answer (TooMuch n) = answer_of (TooMuchWork n)
-trial_answer (Done net s) = trial_line net.net s
+-- the network that is drawn from the seed, under the options of the request
+abbrev pub net_drawn : Request → ScaledNet
+net_drawn request = drawn_net request.net (slice_index request.numbers 0) (slice_index request.numbers 1) (slice_index request.numbers 2) (slice_index request.numbers 3)
 
--- the answer is that of a solve of the rows
+-- the work where a given budget makes it too much, or the line of a solve of the rows, which stand for the network that was drawn
 abbrev pub TriesRows : Request → NetRows → Answer → Type 0
-TriesRows request rows answer = (solving : Solving) × IsSolving rows request.net (asked_of request) solving × (answer ≡ trial_answer solving)
+TriesRows request rows answer =
+    ((n : ℕ) × IsTooMuch (net_drawn request).net (asked_of request) n × (answer ≡ answer_of (TooMuchWork n)))
+    ⊎ ((s : SolvedView) × IsDone rows request.net (asked_of request) (net_drawn request) s × (answer ≡ trial_line (net_drawn request).net s))
 
 -- the answer of the rows of the text that is drawn
 abbrev pub OfTrial : Request → Answer → Type 0

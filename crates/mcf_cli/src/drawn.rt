@@ -1,6 +1,6 @@
 //! The commands `gen` and `trial`: networks that are drawn from a seed.
 
-ghost use Rattle.std.specs.Prelude.{◌≡◌, ◌≤◌, None, IfOk, OnOk, OnErr, length, string_bytes};
+ghost use Rattle.std.specs.Prelude.{◌≡◌, ◌≤◌, None, Ok, IfOk, OnOk, OnErr, length, string_bytes};
 ghost use Rattle.std.specs.Io.KnownBytes.{Appends};
 ghost use Rattle.mcf_base.specs.Faults.{HasCause};
 ghost use Rattle.mcf_base.specs.Sink.{AppendsFront};
@@ -8,6 +8,7 @@ ghost use Rattle.mcf_limits.specs.declared.TheConstants.{MAX_NET_BYTES};
 ghost use Rattle.text_lines.specs.Lines.{spelled};
 ghost use Rattle.solver_run.specs.declared.options.SolveOptions.{SolveOptions};
 ghost use Rattle.solver_run.specs.Headline.{IsSolved};
+ghost use Rattle.sndlib_grammar.specs.Net.{rows_of};
 ghost use Rattle.sndlib_grammar.specs.Rows.{AreNetRows};
 ghost use Rattle.net_solve.specs.Asked.{IsAsked};
 ghost use Rattle.mcf_words.specs.Request.{AreDrawn};
@@ -23,6 +24,7 @@ use crate::say::write_line;
 use crate::solve::{asked_by, verdict_status};
 use crate::tell::tell;
 use crate::tell_judged::verdict_word;
+use draw_laws::drawn_networks_are_scaled;
 use flow_model::Net;
 use flow_solver::Solved;
 use line_writer::Word;
@@ -120,7 +122,7 @@ fn tell_trial<K: Sink>(net: &Net, solved: Solved, out: &mut K) -> Ended
     }
 }
 
-// Solves the network of the rows, and writes the line of what came of it.
+// Solves the network of the rows, and writes the line of what came of it. They are drawn rows, which are never refused.
 fn try_rows<K: Sink, G: Gate, R: Threads + Sync>(
     rt: &R,
     alloc: Global,
@@ -131,11 +133,14 @@ fn try_rows<K: Sink, G: Gate, R: Threads + Sync>(
 ) -> Ended
     requires rows { AreNetRows raw.now }
     requires asked { IsAsked (asked_of request.now) }
+    requires drawn { AreDrawn request.now.numbers }
+    requires text { rows_of (text_drawn request.now.numbers) ≡ Ok raw.now }
     ensures { IsTold (TriesRows request.now raw.now) (K.written out.old) (K.written out.new) (K.faults out.old) (K.faults out.new) result }
 {
+    drawn_networks_are_scaled();
     match solve_rows(rt, alloc, raw, request.net, &asked_by(request), gate) {
         Ok(Solving::Done(net, solved)) => tell_trial(net.net(), solved, out),
-        Ok(Solving::Refused(refusal)) => tell(out, Outcome::NetRefused(refusal)),
+        Ok(Solving::Refused(_)) => unreachable!(),
         Ok(Solving::TooMuch(work)) => tell(out, Outcome::TooMuch(work)),
         Err(_) => tell(out, Outcome::Memory),
     }
