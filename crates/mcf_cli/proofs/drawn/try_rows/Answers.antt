@@ -1,4 +1,5 @@
-use Rattle.std.proofs.Common.{rules}
+use Rattle.std.proofs.Common.{rules, ◌≡◌, Err}
+use Rattle.unit_scale.specs.Scaling.{scaled_of}
 use Rattle.mcf_cli.proofs.Trying.{counts_are, told_done, told_work}
 use Rattle.mcf_cli.proofs.drawn.try_rows.Goals as goal
 
@@ -14,4 +15,5 @@ returns-in-Ok-TooMuch g c =
 
 pub unreachable-requires : goal.unreachable-requires
 unreachable-requires g c =
-    c.drawn_networks_are_scaled.ensures.accepted _ _ _ _ c.args.raw.now c.args.request.now.net _ (counts_are c.args.request.now.numbers c.requires.drawn) c.requires.text (search rules)
+    let refused : scaled_of c.args.raw.now c.args.request.now.net ≡ Err c.in-Ok-Refused.field-0-0 = search rules in
+    c.drawn_networks_are_scaled.ensures.accepted _ _ _ _ c.args.raw.now c.args.request.now.net c.in-Ok-Refused.field-0-0 (counts_are c.args.request.now.numbers c.requires.drawn) c.requires.text refused
