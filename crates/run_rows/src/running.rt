@@ -1,6 +1,6 @@
 //! A run over files and output in memory, and its answer.
 
-ghost use Rattle.std.specs.Prelude.{◌≡◌, ◌≤◌, ◌×◌, ◌↔◌, IsTrue};
+ghost use Rattle.std.specs.Prelude.{◌≡◌, ◌≤◌, ◌↔◌, IsTrue};
 
 use mcf_base::{MemShelf, MemSink, OpenGate};
 use mcf_cli::run;
