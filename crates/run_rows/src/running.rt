@@ -40,7 +40,7 @@ pub struct Answer {
 impl Answer {
     /// Whether these are its status and its text.
     pub fn is(&self, status: u8, text: &[u8]) -> bool
-        ensures { IsTrue result ↔ ((self.status ≡ status) × (self.sink.written ≡ text.now)) }
+        ensures { IsTrue result ↔ ((self.now.status ≡ status) × (self.now.sink.written ≡ text.now)) }
     {
         self.status == status && self.sink.written() == text
     }
