@@ -32,7 +32,7 @@ fn expect_net(
     Ok(())
 }
 
-// A network that is cut off is refused in each command that reads it.
+// A network that is cut off is refused, but where its last line feed alone is missing.
 #[test]
 fn fronts_of_a_network(rt: HostRuntime) -> Result<(), Fail> {
     for i in 0..ONE_LINK.len() {

@@ -1,29 +1,26 @@
 //! Files and output that fail: at each read, at each write, and where nothing stands.
 
 use crate::expected::expect;
-use crate::running::{AMPLE, File, Outside, answer_to};
+use crate::running::{AMPLE, File, Outside, ample_answer, answer_to};
 use crate::texts::{CERTIFICATE, FREE_LAYOUT, FREE_LAYOUT_PRINTED, ONE_LINK, ROUTING};
+use crate::whatifs::{OPEN, TWO_LINKS};
 use std::alloc::Global;
 use std::process::Abort;
 use std::test::Fail;
 use std::thread::Threads;
 
-/// A run that answers with status 0, and how often it reads and writes.
+/// A run that answers with status 0, and how often it reads.
 struct Run {
     words: &'static [&'static str],
     files: &'static [File<'static>],
     text: &'static [u8],
     reads: u64,
-    writes: u64,
 }
 
-const READ: usize = 64;
-
-const WRITTEN: usize = 24;
-
+/// A read takes 64 bytes at most, and a write one byte.
 const SMALL: Outside = Outside {
-    most_read: READ,
-    most_written: WRITTEN,
+    most_read: 64,
+    most_written: 1,
     ..AMPLE
 };
 
@@ -33,7 +30,6 @@ const CHECK: Run = Run {
     files: &[("net", ONE_LINK), ("cert", CERTIFICATE)],
     text: b"valid closed directed largest lower 10/4 2.500000 upper 45035996273704960/18014398509481984 2.500000\n",
     reads: 12,
-    writes: 5,
 };
 
 const PRINT: Run = Run {
@@ -41,7 +37,6 @@ const PRINT: Run = Run {
     files: &[("net", FREE_LAYOUT)],
     text: FREE_LAYOUT_PRINTED,
     reads: 5,
-    writes: 8,
 };
 
 const SOLVE: Run = Run {
@@ -49,19 +44,17 @@ const SOLVE: Run = Run {
     files: &[("net", ONE_LINK)],
     text: CERTIFICATE,
     reads: 5,
-    writes: 13,
 };
 
 const WHAT_IF: Run = Run {
     words: &["whatif", "net", "cert", "script"],
     files: &[
-        ("net", ONE_LINK),
-        ("cert", CERTIFICATE),
-        ("script", b"show"),
+        ("net", TWO_LINKS),
+        ("cert", OPEN),
+        ("script", b"set L2 14 show close L2 show"),
     ],
-    text: b"show lower 10/4 2.500000 upper 45035996273704960/18014398509481984 2.500000\n",
-    reads: 15,
-    writes: 4,
+    text: b"show lower 14/10 1.400000 upper 33776997205278708/19301141260159260 1.750001\nshow lower 0/10 0.000000 upper 6755399441055744/19301141260159260 0.350001\n",
+    reads: 16,
 };
 
 // Where the read of that number fails, the fault is told; a fault behind the last read changes nothing.
@@ -83,22 +76,21 @@ fn reads_fail(rt: &(impl Abort + Threads + Sync), alloc: Global, case: &Run) -> 
     Ok(())
 }
 
-// Where the write of that number fails, what the writes before it took stands there; a fault behind the last write
-// changes nothing.
+// Where the write of that number fails, the bytes of the writes before it stand there; a fault behind the last write changes
+// nothing.
 fn writes_fail(rt: &(impl Abort + Threads + Sync), alloc: Global, case: &Run) -> Result<(), Fail> {
-    let mut front = 0usize;
-    for number in 1..=case.writes {
+    let mut number = 1u64;
+    for front in 0..case.text.len() {
         let outside = Outside {
             failing_write: number,
             ..SMALL
         };
         let given = answer_to(rt, alloc, case.words, case.files, outside)?;
-        assert!(rt; front <= case.text.len());
         assert!(rt; given.is(5, &case.text[..front]), "write {number}");
-        front = front.saturating_add(WRITTEN);
+        number = number.saturating_add(1);
     }
     let outside = Outside {
-        failing_write: case.writes.saturating_add(1),
+        failing_write: number,
         ..SMALL
     };
     let given = answer_to(rt, alloc, case.words, case.files, outside)?;
@@ -141,6 +133,34 @@ fn print_fails(rt: HostRuntime) -> Result<(), Fail> {
     reads_fail(&rt, rt.alloc(), &PRINT)?;
     writes_fail(&rt, rt.alloc(), &PRINT)?;
     rooms_end(&rt, rt.alloc(), &PRINT)
+}
+
+// Ten bytes a write, and the second fails.
+#[test]
+fn second_write_fails(rt: HostRuntime) -> Result<(), Fail> {
+    let outside = Outside {
+        most_written: 10,
+        failing_write: 2,
+        ..AMPLE
+    };
+    let given = answer_to(&rt, rt.alloc(), SOLVE.words, SOLVE.files, outside)?;
+    assert!(&rt; given.is(5, b"mcf-certif"));
+    Ok(())
+}
+
+// A read fault whose line cannot be written ends as a write that failed.
+#[test]
+fn read_and_write_fail(rt: HostRuntime) -> Result<(), Fail> {
+    for case in [&CHECK, &PRINT, &SOLVE, &WHAT_IF] {
+        let outside = Outside {
+            failing_read: case.reads,
+            failing_write: 6,
+            ..SMALL
+        };
+        let given = answer_to(&rt, rt.alloc(), case.words, case.files, outside)?;
+        assert!(&rt; given.is(5, b"read "));
+    }
+    Ok(())
 }
 
 // What a row shows, the words, the files that stand, the status, and the line.
@@ -215,11 +235,11 @@ fn files_that_do_not_stand(rt: HostRuntime) -> Result<(), Fail> {
 // A program that always answers want of memory meets its contract, and fails here.
 #[test]
 fn always_memory(rt: HostRuntime) -> Result<(), Fail> {
-    for case in [&CHECK, &PRINT] {
-        let given = answer_to(&rt, rt.alloc(), case.words, case.files, AMPLE)?;
+    for case in [&CHECK, &PRINT, &SOLVE, &WHAT_IF] {
+        let given = ample_answer(&rt, rt.alloc(), case.words, case.files)?;
         assert!(&rt; given.is(0, case.text));
     }
-    let given = answer_to(&rt, rt.alloc(), &["help"], &[], AMPLE)?;
+    let given = ample_answer(&rt, rt.alloc(), &["help"], &[])?;
     assert!(&rt; given.is(2, b"usage\n"));
     Ok(())
 }

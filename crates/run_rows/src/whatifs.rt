@@ -9,14 +9,14 @@ use std::test::Fail;
 use std::thread::Threads;
 
 /// Links of 3 and 7 side by side, and a demand of 10.
-const TWO_LINKS: &[u8] =
+pub const TWO_LINKS: &[u8] =
     b"?SNDlib native format; type: network; version: 1.0\nNODES (\n  A\n  B\n)\nLINKS (\n  L1 ( A B ) 3 0 0 0 ( )\n  L2 ( A B ) 7 0 0 0 ( )\n)\nDEMANDS (\n  D1 ( A B ) 1 10 UNLIMITED\n)\n";
 
 /// The header of a routing, without the end of its line.
 const HEADER_OF_A_ROUTING: &[u8] = b"mcf-routing 1";
 
 /// A certificate of one phase over the second link.
-const OPEN: &[u8] =
+pub const OPEN: &[u8] =
     b"mcf-certificate 1\nverdict open\nlinks directed\nmodules largest\nnet nodes 2 cells 2 commodities 1 decimals 0 skipped 0 left 0 hops 0\ngap 0.050000\nphases 1\nscale 7 10\nlower 7/10 0.700000\nupper 20266198323167226/19301141260159260 1.050001\npath D1 10 L2\nlength L1 2251799813685248\nlength L2 1930114126015926\npotential A 0 1930114126015926\nend\n";
 
 /// A certificate of a phase over each link.
@@ -120,7 +120,7 @@ const ROWS: &[Row] = &[
         b"show lower 21/20 1.050000 upper 81064793292668922/19301141260159260 4.200001\n",
     ),
     (
-        "word_that_is_no_command",
+        "command_cut_off",
         ONE_LINK,
         CERTIFICATE,
         b"set L1",
