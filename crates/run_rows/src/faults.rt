@@ -10,6 +10,7 @@ use std::test::Fail;
 use std::thread::Threads;
 
 /// A run that answers with status 0, and how often it reads.
+#[derive(Drop)]
 struct Run {
     words: &'static [&'static str],
     files: &'static [File<'static>],
