@@ -7,7 +7,7 @@ use Rattle.dijkstra_paths.specs.declared.search.Step.{Step}
 use Rattle.dijkstra_paths.specs.Tree.{step_at}
 use Rattle.dijkstra_paths.specs.Heap.{AreInverse}
 use Rattle.flow_model.specs.Least.{AreDifferent}
-use Rattle.mcf_limits.specs.declared.TheConstants.{MAX_LENGTH, MAX_NODES}
+use Rattle.mcf_limits.specs.declared.TheConstants.{MAX_LENGTH}
 
 -- the cells of the steps that lead to a node, at most so many
 unfoldable pub trail : List Step → ℕ → ℕ → ℕ → List ℕ
@@ -42,7 +42,6 @@ path_at s v = slice_index_or s.paths v None
 
 -- all lists have an item for each node, and the order is one of all nodes
 pub record IsReady (nodes from : ℕ) (dist : List ℕ) (via : List Step) (order place keys path : List ℕ) : Type 0 where
-  pub small : nodes ≤ MAX_NODES
   pub dists : length dist ≡ nodes
   pub steps : length via ≡ nodes
   pub orders : length order ≡ nodes

@@ -5,12 +5,13 @@ ghost use Rattle.dijkstra_paths.specs.Searched.{trail, Ends};
 ghost use Rattle.flow_model.specs.Lengths.{AreLengths};
 
 use crate::search::{Step, search};
-use mcf_limits::{MAX_LENGTH, MAX_NODES};
+use mcf_limits::MAX_LENGTH;
 use net_graph::Graph;
 use std::alloc::{AllocError, Global};
 use std::marker::Model;
 
-/// Distances from one node. It is seen as its numbers of nodes and cells, and each node's distance.
+/// Distances from one node. It is seen as its numbers of nodes and cells, and the distance
+/// of each node and a path to it, if it was reached.
 #[derive(Drop)]
 pub struct Scratch {
     nodes: u16,
@@ -67,7 +68,6 @@ impl Scratch {
 
     /// Room for searches over so many nodes. Before the first search no node has a distance or a path.
     pub fn new(alloc: Global, nodes: u16, cells: u16) -> Result<Self, AllocError>
-        requires { nodes ≤ MAX_NODES }
         ensures nodes { IfOk result (λ s. s.nodes ≡ nodes) }
         ensures cells { IfOk result (λ s. s.cells ≡ cells) }
         ensures blank { IfOk result (λ s. (v : ℕ) → (dist_at s v ≡ None) × (path_at s v ≡ None)) }

@@ -81,8 +81,8 @@ impl LengthTable {
         powers.lengths(net, setting, &self.loads, &mut self.lengths);
     }
 
-    /// Takes other loads, one for each cell. It takes no memory, and its time goes by the number of loads that changed,
-    /// where the greatest exponent stays.
+    /// Takes other loads, one for each cell. It takes no memory. Every load is compared with the one of before; an
+    /// exponent and a length are computed where it changed, and all lengths only where the greatest exponent moved.
     pub fn update(&mut self, powers: &Powers, net: &Net, loads: &[u64])
         requires net { net.now ≡ self.old.net }
         requires loads { length loads.now ≡ length net.now.cells }

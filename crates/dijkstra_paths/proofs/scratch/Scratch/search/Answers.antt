@@ -87,7 +87,6 @@ invariant_of-self c =
     let w5 : length c.search.new.keys ≡ i.keys.len = omega (arith, size) in
     rw (with_items_is i.dist c.search.new.dist w1, with_items_is i.steps c.search.new.steps w2, with_items_is i.order c.search.new.order w3, with_items_is i.place c.search.new.place w4, with_items_is i.keys c.search.new.keys w5)
     (record {
-      small = c.self.invariant.small;
       dists = omega (arith, c.self.invariant.dists);
       steps = omega (arith, c.self.invariant.steps);
       orders = omega (arith, c.self.invariant.orders);
