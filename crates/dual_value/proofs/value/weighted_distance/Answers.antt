@@ -2,8 +2,8 @@ use Rattle.std.proofs.Common.{◌*◌, sym, ap, ◌∙◌, arith}
 use Rattle.std.specs.List.{sum_by}
 use Rattle.std.proofs.lemmas.List.{take_all}
 use Rattle.flow_paths.specs.Certificate.{distance_of}
-use Rattle.dual_bound.proofs.Products.{weighted_sum-map}
-use Rattle.dual_bound.proofs.value.weighted_distance.Goals as goal
+use Rattle.dual_value.proofs.Products.{weighted_sum-map}
+use Rattle.dual_value.proofs.value.weighted_distance.Goals as goal
 
 pub returns-clause-value : goal.returns-clause-value
 returns-clause-value c =

@@ -1,7 +1,7 @@
 use Rattle.std.proofs.Common.{◌≡◌, ℕ, ◌<◌, ◌≤◌, eqb, length, get_or, take, Some}
 use Rattle.std.specs.Prelude.{count_by, find}
 use Rattle.flow_paths.specs.DualRows.{potential_at}
-use Rattle.dual_bound.proofs.value.row_places.Given as goal
+use Rattle.dual_value.proofs.places.row_places.Given as goal
 
 abbrev pub invariant-loop-i : goal.invariant-loop-i
 invariant-loop-i l = record {

@@ -1,7 +1,7 @@
 use Rattle.std.proofs.Common.{◌≡◌, ◌*◌, ◌≤◌, take}
 use Rattle.std.specs.List.{sum_by}
 use Rattle.flow_paths.specs.Certificate.{distance_of}
-use Rattle.cert_check.proofs.bound.weighted_distance.Given as goal
+use Rattle.dual_value.proofs.value.weighted_distance.Given as goal
 use Rattle.mcf_limits.specs.declared.TheConstants.{MAX_LENGTH}
 
 abbrev pub invariant-loop-k : goal.invariant-loop-k

@@ -1,8 +1,8 @@
 use Rattle.std.proofs.Common.{◌≤◌, get_or, arith}
 use Rattle.std.proofs.lemmas.Nat.{mul-le}
-use Rattle.cert_check.proofs.WalkSteps.{no_cell}
-use Rattle.cert_check.proofs.Products.{weighted_sum-more}
-use Rattle.cert_check.proofs.bound.volume.Goals as goal
+use Rattle.flow_model.proofs.Duality.{no_cell}
+use Rattle.dual_value.proofs.Products.{weighted_sum-more}
+use Rattle.dual_value.proofs.value.volume.Goals as goal
 use Rattle.mcf_limits.specs.declared.TheConstants.{MAX_LENGTH, MAX_UNITS}
 
 pub loop-c-preserved : goal.loop-c-preserved

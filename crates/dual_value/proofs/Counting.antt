@@ -7,10 +7,10 @@ use Rattle.std.proofs.lemmas.List.{get_or-set_same, get_or-set_other, take_more}
 use Rattle.std.proofs.lemmas.List.Folds.{find-append}
 use Rattle.std.proofs.lemmas.List.Sums.{sum_by-cons, count_by_more_yes, count_by_more_no, sum_by-take-le}
 
-set_here : (table : List ℕ) (at n k : ℕ) → at < length table → at ≡ k → get_or (set table at n) k 0 ≡ n
+pub set_here : (table : List ℕ) (at n k : ℕ) → at < length table → at ≡ k → get_or (set table at n) k 0 ≡ n
 set_here table at n k inside e = subst (λ (j : ℕ). get_or (set table at n) j 0 ≡ n) e (get_or-set_same table at n 0 inside)
 
-set_there : (table : List ℕ) (at n k : ℕ) → at ≢ k → get_or (set table at n) k 0 ≡ get_or table k 0
+pub set_there : (table : List ℕ) (at n k : ℕ) → at ≢ k → get_or (set table at n) k 0 ≡ get_or table k 0
 set_there table at n k ne = get_or-set_other table at k n 0 (λ e. ne (sym e))
 
 none_of_count : {X : Type 0} (p : X → Bool) (xs : List X) → count_by p xs ≡ 0 → find p xs ≡ None
@@ -28,14 +28,14 @@ or_none (Some x) = refl
 find_more : {X : Type 0} (p : X → Bool) (xs : List X) (i : ℕ) (d : X) → i < length xs → find p (take (i + 1) xs) ≡ option_or (find p (take i xs)) (cond (p (get_or xs i d)) (Some (get_or xs i d)) None)
 find_more p xs i d lt = ap (find p) (take_more xs i d lt) ∙ find-append p (take i xs) (get_or xs i d ∷ [])
 
-find_more_yes : {X : Type 0} (p : X → Bool) (xs : List X) (i : ℕ) (d : X) → i < length xs → p (get_or xs i d) ≡ true → count_by p xs ≤ 1 → find p (take (i + 1) xs) ≡ Some (get_or xs i d)
+pub find_more_yes : {X : Type 0} (p : X → Bool) (xs : List X) (i : ℕ) (d : X) → i < length xs → p (get_or xs i d) ≡ true → count_by p xs ≤ 1 → find p (take (i + 1) xs) ≡ Some (get_or xs i d)
 find_more_yes p xs i d lt passes once =
     let more = count_by_more_yes p xs i d lt passes in
     let whole = sum_by-take-le (λ x. cond (p x) 1 0) xs (i + 1) in
     let none = none_of_count p (take i xs) (omega arith) in
     find_more p xs i d lt ∙ rw (none, passes) refl
 
-find_more_no : {X : Type 0} (p : X → Bool) (xs : List X) (i : ℕ) (d : X) → i < length xs → p (get_or xs i d) ≡ false → find p (take (i + 1) xs) ≡ find p (take i xs)
+pub find_more_no : {X : Type 0} (p : X → Bool) (xs : List X) (i : ℕ) (d : X) → i < length xs → p (get_or xs i d) ≡ false → find p (take (i + 1) xs) ≡ find p (take i xs)
 find_more_no p xs i d lt fails = find_more p xs i d lt ∙ rw fails (or_none (find p (take i xs)))
 
 -- one more row's number, where no number names two rows

@@ -1,46 +1,15 @@
-//! Potentials, the volume and the weighted distance.
+//! The volume and the weighted distance.
 
-ghost use Rattle.std.specs.Prelude.{◌≡◌, ℕ, ◌+◌, ◌-◌, ◌*◌, ◌^◌, ◌<◌, ◌≤◌, ◌↔◌, ◌==◌, All, Some, length, map, find, IsTrue, slice_get, slice_index};
+ghost use Rattle.std.specs.Prelude.{◌≡◌, ℕ, ◌-◌, ◌*◌, ◌^◌, ◌<◌, ◌≤◌, ◌==◌, All, Some, length, map, find, slice_index};
 ghost use Rattle.std.specs.List.{sum_by};
-ghost use Rattle.flow_model.specs.declared.net.Commodity.{Commodity as CommodityIs};
-ghost use Rattle.flow_model.specs.Walk.{Goes};
-ghost use Rattle.flow_model.specs.Network.{IsCell, IsCommodity};
-ghost use Rattle.flow_model.specs.Bound.{IsPotential, volume, weighted_distance};
+ghost use Rattle.flow_model.specs.Network.{IsCommodity};
+ghost use Rattle.flow_model.specs.Bound.{volume, weighted_distance};
 ghost use Rattle.flow_paths.specs.DualRows.{potential_at};
 ghost use Rattle.flow_paths.specs.Certificate.{distance_of};
 
 use flow_model::{Cell, Commodity};
 use flow_paths::Dual;
 use mcf_limits::{MAX_CELLS, MAX_LENGTH, MAX_TOTAL, MAX_UNITS};
-
-// Whether no traversal of the cell raises the potential by more than the length.
-fn holds_over(cell: Cell, size: u64, potential: &[u64]) -> bool
-    requires tail { cell.tail < length potential.now }
-    requires head { cell.head < length potential.now }
-    requires size { size ≤ MAX_LENGTH }
-    requires limit { All (λ p. p ≤ MAX_LENGTH) potential.now }
-    ensures { IsTrue result ↔ ((u v : ℕ) → Goes cell u v → slice_index potential.now v ≤ slice_index potential.now u + size) }
-{
-    let tail = potential[cell.tail as usize];
-    let head = potential[cell.head as usize];
-    head <= tail + size && (!cell.both || tail <= head + size)
-}
-
-/// Whether no traversal of a cell raises the potential by more than the cell's length.
-pub fn is_potential(cells: &[Cell], lengths: &[u64], potential: &[u64]) -> bool
-    requires ends { All (IsCell (length potential.now)) cells.now }
-    requires sizes { length lengths.now ≡ length cells.now }
-    requires size_limit { All (λ n. n ≤ MAX_LENGTH) lengths.now }
-    requires limit { All (λ p. p ≤ MAX_LENGTH) potential.now }
-    ensures { IsTrue result ↔ IsPotential cells.now lengths.now potential.now }
-{
-    for (c, cell) in cells.iter().enumerate() {
-        if !holds_over(*cell, lengths[c], potential) {
-            return false;
-        }
-    }
-    true
-}
 
 /// Capacity times length, over all cells.
 pub fn volume(cells: &[Cell], lengths: &[u64]) -> u128
@@ -58,7 +27,7 @@ pub fn volume(cells: &[Cell], lengths: &[u64]) -> u128
     total
 }
 
-// The difference of a commodity's potentials, or 0 where that is negative.
+/// The difference of a commodity's potentials, or 0 where that is negative.
 fn difference(k: Commodity, potential: &[u64]) -> u64
     requires from { k.from < length potential.now }
     requires to { k.to < length potential.now }
@@ -81,7 +50,7 @@ pub fn weighted_distance(commodities: &[Commodity], places: &[usize], dual: &Dua
     let mut total = 0u128;
     for k in commodities {
         let potential = dual.row(places[k.from as usize]);
-        total += k.amount as u128 * difference(*k, potential) as u128;
+        total += u128::from(k.amount) * u128::from(difference(*k, potential));
     }
     total
 }
