@@ -1,8 +1,7 @@
 //! Length rows and potential rows, looked up by cell and by node.
 
-ghost use Rattle.std.specs.Prelude.{◌≡◌, ℕ, ◌^◌, ◌<◌, ◌≤◌, ◌↔◌, ◌==◌, All, Some, length, map, find, count_by, IsTrue, IfOk, slice_index, if◌then◌else◌};
+ghost use Rattle.std.specs.Prelude.{◌≡◌, ℕ, ◌^◌, ◌<◌, ◌≤◌, ◌↔◌, ◌==◌, All, length, map, count_by, IsTrue, IfOk, slice_index, if◌then◌else◌};
 ghost use Rattle.std.specs.List.{range_with_len};
-ghost use Rattle.flow_paths.specs.DualRows.{potential_at};
 ghost use Rattle.flow_paths.specs.Certificate.{length_of};
 ghost use Rattle.flow_model.specs.Groups.{is_source};
 
@@ -52,20 +51,6 @@ pub fn row_counts(alloc: Global, nodes: usize, dual: &Dual) -> Result<Vec<u64>, 
         counts[dual.row_node(i) as usize] += 1;
     }
     Ok(counts)
-}
-
-/// The number of each node's row of potentials, where none has two.
-pub fn row_places(alloc: Global, nodes: usize, dual: &Dual) -> Result<Vec<usize>, AllocError>
-    requires named { All (λ r. r.node < nodes) dual.now.potentials }
-    requires once { (v : ℕ) → v < nodes → count_by (λ r. r.node == v) dual.now.potentials ≤ 1 }
-    ensures len { IfOk result (λ v. length v.items ≡ nodes) }
-    ensures value { IfOk result (λ places. (v : ℕ) → v < nodes → count_by (λ r. r.node == v) dual.now.potentials ≡ 1 → (slice_index places.items v < length dual.now.potentials) × (find (λ r. r.node == v) dual.now.potentials ≡ Some (potential_at dual.now.potentials (slice_index places.items v)))) }
-{
-    let mut places = vec![in alloc; 0usize; nodes]?;
-    for i in 0..dual.rows() {
-        places[dual.row_node(i) as usize] = i;
-    }
-    Ok(places)
 }
 
 /// How many rows of potentials each node is to have: one where some commodity starts there.

@@ -8,11 +8,10 @@ ghost use Rattle.flow_model.specs.Bound.{IsPotential, weighted_distance};
 ghost use Rattle.flow_paths.specs.DualRows.{potential_at};
 ghost use Rattle.cert_check.specs.Verdict.{IsVerdictOn, CertifiesIfValid};
 
-use crate::bound::{is_potential, volume, weighted_distance};
-use crate::tables::{
-    are_ones, are_wanted, cell_lengths, length_counts, row_counts, row_places, wanted_counts,
-};
+use crate::potentials::is_potential;
+use crate::tables::{are_ones, are_wanted, cell_lengths, length_counts, row_counts, wanted_counts};
 use crate::verdict::{Fault, Verdict, lower, route_fault};
+use dual_value::{row_places, volume, weighted_distance};
 use flow_model::Net;
 use flow_paths::{Dual, Printed, Proof};
 use gap_fraction::{Frac, Shown};

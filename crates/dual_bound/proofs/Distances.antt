@@ -20,7 +20,7 @@ use Rattle.mcf_limits.specs.declared.TheConstants.{MAX_LENGTH}
 use Rattle.net_graph.proofs.Spreading.{walk-more}
 use Rattle.dijkstra_paths.proofs.Least.{length-more, length-first}
 use Rattle.dual_bound.specs.Bounds.{IsRowWith, IsDistance, IsCutPotential, cut_lengths}
-use Rattle.dual_bound.proofs.Products.{weighted_sum-map}
+use Rattle.dual_value.proofs.Products.{weighted_sum-map}
 
 -- over a positive cell a distance grows by at most the cell's length
 step : (cells : List Cell) (lengths : List ℕ) (from u v c : ℕ) (a b : Option ℕ) → IsLeast cells lengths from u a → IsLeast cells lengths from v b → PassesOver cells c u v → far_or b ≤ MAX_LENGTH → far_or b ≤ far_or a + get_or lengths c 0

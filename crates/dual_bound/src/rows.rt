@@ -155,7 +155,7 @@ pub fn fill_all<R: Threads + Sync>(
         fill_rows(alloc, graph, lengths, rows);
         return;
     }
-    thread::for_each_chunk_mut(
+    thread_chain::for_each_chunk_mut(
         rt,
         rows,
         rows.len().div_ceil(threads),

@@ -14,7 +14,6 @@ use load_table::{Loads, Pass};
 use mcf_base::Gate;
 use net_graph::Graph;
 use std::alloc::Global;
-use std::thread;
 use std::thread::Threads;
 
 /// Takes what stands in the turn.
@@ -110,7 +109,8 @@ fn take_turns<G: Gate>(
     }
 }
 
-/// The work of all hands, each in a thread of its own. Where there is one hand, no thread is started.
+/// The work of all hands: the last one's in the caller's thread, and each other's in a thread of its own. Where there is
+/// one hand, no thread is started.
 pub(crate) fn run_all<G: Gate, R: Threads + Sync>(
     rt: &R,
     alloc: Global,
@@ -127,13 +127,7 @@ pub(crate) fn run_all<G: Gate, R: Threads + Sync>(
     requires ready { (k : ℕ) (d : _) → k < length hands.old → IsReady loads.now (slice_index_or hands.old k d) }
     ensures { (k : ℕ) (d : _) → k < length hands.old → Runs loads.now (slice_index_or hands.old k d) (slice_index_or hands.new k d) }
 {
-    if hands.len() < 2 {
-        take_turns(
-            alloc, net, groups, graph, powers, setting, loads, gate, hands,
-        );
-        return;
-    }
-    thread::for_each_chunk_mut(
+    thread_chain::for_each_chunk_mut(
         rt,
         hands,
         1,
