@@ -7,4 +7,5 @@ pub mod Whole
 pub mod Scanned
 pub mod Judged
 pub mod WordLaws
+pub mod RowWords
 pub mod RowFacts

@@ -1,8 +1,7 @@
 -- What holds of the rows of every text.
 use Rattle.std.proofs.Common.{◌≡◌, ◌≢◌, ℕ, zero, suc, ◌+◌, ◌<◌, ◌≤◌, List, [], ◌∷◌, ◌++◌, length, get_or, refl, ap, sym, subst, ◌∙◌, arith, append_assoc, append-nil, Option, Some, None, Result, Ok, Err, Bool, true, false, cond}
-use Rattle.std.specs.Prelude.{not, ◌||◌, map, find, codes, slice_get, if◌then◌else◌, All, IfSome}
-use Rattle.std.specs.List.{flat_map, AllByRecursion, list_any, position_or_len}
-use Rattle.std.specs.Option.{option_map}
+use Rattle.std.specs.Prelude.{not, ◌||◌, map, find, codes, slice_get, if◌then◌else◌, All}
+use Rattle.std.specs.List.{AllByRecursion, list_any, position_or_len}
 use Rattle.std.specs.Str.{bytes_eq}
 use Rattle.std.proofs.lemmas.List.{length-map}
 use Rattle.std.proofs.lemmas.List.Elements.{All-from_recursion}
@@ -13,13 +12,15 @@ use Rattle.sndlib_number.specs.Number.{is_number}
 use Rattle.sndlib_grammar.specs.declared.refusal.NetKind.{NetKind}
 use Rattle.sndlib_grammar.specs.declared.refusal.NetKind.TheVariants as netkinds
 use Rattle.sndlib_grammar.specs.declared.refusal.NetRefusal.{NetRefusal}
-use Rattle.sndlib_grammar.specs.Grammar.{Symbol, Right, Word, Module, NodeEntry, LinkEntry, DemandEntry, Entries, names, place, pair, node, link, demand}
+use Rattle.sndlib_grammar.specs.Grammar.{Word, NodeEntry, LinkEntry, DemandEntry, Entries, node, link, demand}
 use Rattle.sndlib_grammar.specs.Faults.{node_ids, link_ids, demand_ids, texts, is_among, or_else, line_of, first_of, too_many, first_repeated, repeated, first_unknown, unknown_of_link, unknown_of_demand, unknown, is_bad, is_bad_longest, bad_module, bad_of_link, bad_of_demand, bad_number, at_line, fault_of}
-use Rattle.sndlib_grammar.specs.Rows.{NetNode, NetLink, NetDemand, NetRows, node_number, module_words, net_node, net_link, net_demand, net_rows, IsWord, AreDistinct, IsNetNode, IsNetLink, IsNetDemand, AreNetRows}
-use Rattle.sndlib_grammar.specs.Words.{AreWordSymbols, AreWordEntries}
+use Rattle.sndlib_grammar.specs.Rows.{NetNode, NetLink, NetDemand, NetRows, node_number, net_node, net_link, net_demand, net_rows, IsWord, AreDistinct, IsNetNode, IsNetLink, IsNetDemand, AreNetRows}
+use Rattle.sndlib_grammar.specs.Words.{OnSymbols, AreWordEntries}
+use Rattle.sndlib_grammar.specs.Slices.{IsSliceOf, AreSlicesOf}
 use Rattle.sndlib_grammar.specs.Text.{end_of, read_of}
 use Rattle.sndlib_grammar.specs.Net.{unless_fault, judged, rows_of}
-use Rattle.sndlib_grammar.proofs.WordLaws.{text_words}
+use Rattle.sndlib_grammar.proofs.WordLaws.{text_words, text_slices}
+use Rattle.sndlib_grammar.proofs.RowWords.{on_node, on_link, on_demand, on_rows, through}
 
 -- ---- no fault, kind by kind
 
@@ -159,62 +160,48 @@ demand_numbers d h =
 
 -- ---- rows
 
-words_of_names : (ws : List Word) (rest : List Symbol) → AreWordSymbols (names ws ++ rest) → AllByRecursion IsWord (texts ws)
-words_of_names [] rest h = tt
-words_of_names (w ∷ ws) rest h = (h.0, words_of_names ws rest h.1)
+node_row : (n : NodeEntry) → OnSymbols IsWord (node n) → IsNetNode (net_node n)
+node_row n h = let words = on_node IsWord n h in record { id = words.id; place = words.place }
 
-words_of_modules : (ms : List Module) (rest : List Symbol) → AreWordSymbols (flat_map pair ms ++ rest) → AllByRecursion IsWord (flat_map module_words ms)
-words_of_modules [] rest h = tt
-words_of_modules (m ∷ ms) rest h = (h.0, (h.1.0, words_of_modules ms rest h.1.1))
-
-node_row : (n : NodeEntry) → AreWordSymbols (node n) → IsNetNode (net_node n)
-node_row n h = record { id = h.0; place = place_row n.place h.1 }
-  where
-    place_row : (p : Option (List Word)) → AreWordSymbols (place p) → IfSome (option_map texts p) (All IsWord)
-    place_row None h = tt
-    place_row (Some ws) h = All-from_recursion IsWord (texts ws) (words_of_names ws (Right ∷ []) h.1)
-
-link_row : (known : List (List ℕ)) (l : LinkEntry) → AreWordSymbols (link l) → unknown_of_link known l ≡ None → bad_of_link l ≡ None → IsNetLink (length known) (net_link known l)
+link_row : (known : List (List ℕ)) (l : LinkEntry) → OnSymbols IsWord (link l) → unknown_of_link known l ≡ None → bad_of_link l ≡ None → IsNetLink (length known) (net_link known l)
 link_row known l h ends numbers =
+    let words = on_link IsWord known l h in
     let e = ends_known known l.source l.target ends in
     let n = good l.installed [] (first_none (line_of (find is_bad (l.installed ∷ []))) (bad_module l.modules) numbers) in
     record {
-      id = h.0;
+      id = words.id;
       source = is_node known l.source e.0;
       target = is_node known l.target e.1;
-      installed = h.1.1.1.1.1.0;
-      costs = All-from_recursion IsWord (texts (l.installed_cost ∷ l.routing_cost ∷ l.setup_cost ∷ [])) (h.1.1.1.1.1.1.0, (h.1.1.1.1.1.1.1.0, (h.1.1.1.1.1.1.1.1.0, tt)));
+      installed = words.installed;
+      costs = words.costs;
       cost_count = refl;
-      modules = All-from_recursion IsWord (flat_map module_words l.modules) (words_of_modules l.modules (Right ∷ []) h.1.1.1.1.1.1.1.1.1.1);
+      modules = words.modules;
       number = n.0;
     }
 
-demand_row : (known : List (List ℕ)) (d : DemandEntry) → AreWordSymbols (demand d) → unknown_of_demand known d ≡ None → bad_of_demand d ≡ None → IsNetDemand (length known) (net_demand known d)
+demand_row : (known : List (List ℕ)) (d : DemandEntry) → OnSymbols IsWord (demand d) → unknown_of_demand known d ≡ None → bad_of_demand d ≡ None → IsNetDemand (length known) (net_demand known d)
 demand_row known d h ends numbers =
+    let words = on_demand IsWord known d h in
     let e = ends_known known d.source d.target ends in
     let n = demand_numbers d numbers in
     record {
-      id = h.0;
+      id = words.id;
       source = is_node known d.source e.0;
       target = is_node known d.target e.1;
-      unit = h.1.1.1.1.1.0;
-      value = h.1.1.1.1.1.1.0;
-      longest = h.1.1.1.1.1.1.1.0;
+      unit = words.unit;
+      value = words.value;
+      longest = words.longest;
       unit_number = n.unit;
       value_number = n.value;
       longest_number = n.longest;
     }
 
-node_rows : (ns : List NodeEntry) → AllByRecursion (λ n. AreWordSymbols (node n)) ns → AllByRecursion IsNetNode (map net_node ns)
-node_rows [] h = tt
-node_rows (n ∷ ns) h = (node_row n h.0, node_rows ns h.1)
-
-link_rows : (known : List (List ℕ)) (ls : List LinkEntry) → AllByRecursion (λ l. AreWordSymbols (link l)) ls → AllByRecursion (λ l. unknown_of_link known l ≡ None) ls → AllByRecursion (λ l. bad_of_link l ≡ None) ls
+link_rows : (known : List (List ℕ)) (ls : List LinkEntry) → AllByRecursion (λ l. OnSymbols IsWord (link l)) ls → AllByRecursion (λ l. unknown_of_link known l ≡ None) ls → AllByRecursion (λ l. bad_of_link l ≡ None) ls
     → AllByRecursion (IsNetLink (length known)) (map (net_link known) ls)
 link_rows known [] h e n = tt
 link_rows known (l ∷ ls) h e n = (link_row known l h.0 e.0 n.0, link_rows known ls h.1 e.1 n.1)
 
-demand_rows : (known : List (List ℕ)) (ds : List DemandEntry) → AllByRecursion (λ d. AreWordSymbols (demand d)) ds → AllByRecursion (λ d. unknown_of_demand known d ≡ None) ds → AllByRecursion (λ d. bad_of_demand d ≡ None) ds
+demand_rows : (known : List (List ℕ)) (ds : List DemandEntry) → AllByRecursion (λ d. OnSymbols IsWord (demand d)) ds → AllByRecursion (λ d. unknown_of_demand known d ≡ None) ds → AllByRecursion (λ d. bad_of_demand d ≡ None) ds
     → AllByRecursion (IsNetDemand (length known)) (map (net_demand known) ds)
 demand_rows known [] h e n = tt
 demand_rows known (d ∷ ds) h e n = (demand_row known d h.0 e.0 n.0, demand_rows known ds h.1 e.1 n.1)
@@ -260,21 +247,39 @@ rows_hold end e words none =
       node_names = subst AreDistinct (node_ids-net e) (distinct (node_ids e) (first_none n_twice (or_else l_twice d_twice) sound.names));
       link_names = subst AreDistinct (link_ids-net known e) (distinct (link_ids e) (first_none l_twice d_twice twice));
       demand_names = subst AreDistinct (demand_ids-net known e) (distinct (demand_ids e) (second_none l_twice d_twice twice));
-      nodes = All-from_recursion IsNetNode (map net_node e.nodes) (node_rows e.nodes words.nodes);
+      nodes = All-from_recursion IsNetNode (map net_node e.nodes) (through net_node (λ n. OnSymbols IsWord (node n)) IsNetNode node_row e.nodes words.nodes);
       links = subst (λ (k : ℕ). All (IsNetLink k) (map (net_link known) e.links)) size (All-from_recursion (IsNetLink (length known)) (map (net_link known) e.links) (link_rows known e.links words.links (all_none (unknown_of_link known) e.links (first_none l_ends d_ends sound.ends)) (all_none bad_of_link e.links (first_none l_bad d_bad sound.numbers))));
       demands = subst (λ (k : ℕ). All (IsNetDemand k) (map (net_demand known) e.demands)) size (All-from_recursion (IsNetDemand (length known)) (map (net_demand known) e.demands) (demand_rows known e.demands words.demands (all_none (unknown_of_demand known) e.demands (second_none l_ends d_ends sound.ends)) (all_none bad_of_demand e.demands (second_none l_bad d_bad sound.numbers))));
     }
 
--- the rows of a text are as they should be
-pub text_rows_hold : (text : List ℕ) (rows : NetRows) → rows_of text ≡ Ok rows → AreNetRows rows
-text_rows_hold text rows h =
-    let go = elim (read_of text) as (λ (r : Result Entries NetRefusal). read_of text ≡ r → judged (end_of text) r ≡ Ok rows → AreNetRows rows) [
+-- these entries of the text have nothing wrong, and the rows are theirs
+record AreAccepted (text : List ℕ) (rows : NetRows) : Type 0 where
+  found : Entries
+  reads : read_of text ≡ Ok found
+  sound : fault_of found ≡ None
+  same : net_rows (end_of text) found ≡ rows
+
+accepted : (text : List ℕ) (rows : NetRows) → rows_of text ≡ Ok rows → AreAccepted text rows
+accepted text rows h =
+    let go = elim (read_of text) as (λ (r : Result Entries NetRefusal). read_of text ≡ r → judged (end_of text) r ≡ Ok rows → AreAccepted text rows) [
       | Ok found ↦ λ e a.
-          (let sound = elim (fault_of found) as (λ (o : Option NetRefusal). fault_of found ≡ o → unless_fault (end_of text) found o ≡ Ok rows → AreNetRows rows) [
-            | None ↦ λ none b. (let same : net_rows (end_of text) found ≡ rows = cc in subst AreNetRows same (rows_hold (end_of text) found (text_words text found e) none))
+          (let sound = elim (fault_of found) as (λ (o : Option NetRefusal). fault_of found ≡ o → unless_fault (end_of text) found o ≡ Ok rows → AreAccepted text rows) [
+            | None ↦ λ none b. record { found = found; reads = e; sound = none; same = cc }
             | Some r ↦ λ some b. absurd cc
           ] in
           sound refl a)
       | Err r ↦ λ e a. absurd cc
     ] in
     go refl h
+
+-- the rows of a text are as they should be
+pub text_rows_hold : (text : List ℕ) (rows : NetRows) → rows_of text ≡ Ok rows → AreNetRows rows
+text_rows_hold text rows h =
+    let is = accepted text rows h in
+    subst AreNetRows is.same (rows_hold (end_of text) is.found (text_words text is.found is.reads) is.sound)
+
+-- their words are slices of the text's bytes
+pub text_rows_slices : (text : List ℕ) (rows : NetRows) → rows_of text ≡ Ok rows → AreSlicesOf text rows
+text_rows_slices text rows h =
+    let is = accepted text rows h in
+    subst (AreSlicesOf text) is.same (on_rows (IsSliceOf text) (end_of text) is.found (text_slices text is.found is.reads))

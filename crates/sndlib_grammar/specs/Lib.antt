@@ -6,4 +6,5 @@ pub mod Text
 pub mod Faults
 pub mod Rows
 pub mod Words
+pub mod Slices
 pub mod Net

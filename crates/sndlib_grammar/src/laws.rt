@@ -5,6 +5,7 @@ ghost use Rattle.sndlib_grammar.specs.declared.refusal.NetRefusal.{NetRefusal};
 ghost use Rattle.sndlib_grammar.specs.Grammar.{Symbol, Entries, IsNetwork};
 ghost use Rattle.sndlib_grammar.specs.Net.{rows_of, IsNetOf};
 ghost use Rattle.sndlib_grammar.specs.Rows.{NetRows, AreNetRows};
+ghost use Rattle.sndlib_grammar.specs.Slices.{AreSlicesOf};
 
 /// The answer to a text is what the grammar and the order of refusals say of it.
 pub fn answer_is_of_the_grammar()
@@ -24,4 +25,9 @@ pub fn entries_are_unique()
 /// The rows of a text are within the limits, with no id twice in a section, ends that are nodes, and words and numbers where these are wanted.
 pub fn rows_are_sound()
     ensures { (text : List ℕ) (rows : NetRows) → rows_of text ≡ Ok rows → AreNetRows rows }
+{}
+
+/// Each word of the rows of a text is a slice of the text's own bytes.
+pub fn words_are_slices()
+    ensures { (text : List ℕ) (rows : NetRows) → rows_of text ≡ Ok rows → AreSlicesOf text rows }
 {}

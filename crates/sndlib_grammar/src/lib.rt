@@ -5,6 +5,9 @@ mod laws;
 mod mode;
 mod refusal;
 
-pub use laws::{answer_is_of_the_grammar, answer_is_unique, entries_are_unique, rows_are_sound};
+pub use laws::{
+    answer_is_of_the_grammar, answer_is_unique, entries_are_unique, rows_are_sound,
+    words_are_slices,
+};
 pub use mode::{Mode, Part, closed, named, opened};
 pub use refusal::{NetKind, NetRefusal};

@@ -1,8 +1,9 @@
 //! From what is kept of a text to its network: the refusals behind those of the grammar, in their order.
 
-ghost use Rattle.std.specs.Prelude.{◌≡◌, ◌≤◌, length, OnOk, Result};
+ghost use Rattle.std.specs.Prelude.{◌≡◌, ◌≤◌, length, IfOk, OnOk, Result};
 ghost use Rattle.sndlib_grammar.specs.declared.refusal.NetRefusal.{NetRefusal};
 ghost use Rattle.sndlib_grammar.specs.Net.{rows_of};
+ghost use Rattle.sndlib_grammar.specs.Slices.{AreSlicesOf};
 ghost use Rattle.sndlib_grammar.specs.Text.{end_of};
 ghost use Rattle.sndlib_read.specs.Answer.{Answers};
 ghost use Rattle.sndlib_read.specs.Steps.{Gives};
@@ -72,11 +73,12 @@ fn rows_of_text(alloc: Global, text: &[u8]) -> Result<RawNet<'_>, ReadNetEnd>
     }
 }
 
-/// The rows of a network text, or its first refusal: no header (N1); a long word or a token that no text of the grammar has there, whichever comes first (N2, N3); too many rows (N4); an id twice in a section (N5); an end that is no node (N6); a word that is no number (N7). After `Memory` nothing is known of the text.
+/// The rows of a network text, whose words are slices of it, or its first refusal: no header (N1); a long word or a token that no text of the grammar has there, whichever comes first (N2, N3); too many rows (N4); an id twice in a section (N5); an end that is no node (N6); a word that is no number (N7). After `Memory` nothing is known of the text.
 pub fn read_net(alloc: Global, text: &[u8]) -> Result<RawNet<'_>, ReadNetEnd>
     requires { length text.now ≤ MAX_NET_BYTES }
     ensures rows { Gives (λ n. n) result (rows_of text.now) }
     ensures answer { Answers text.now result }
+    ensures slices { IfOk result (λ raw. AreSlicesOf text.now raw) }
 {
     rows_of_text(alloc, text)
 }
