@@ -22,7 +22,7 @@ use Rattle.net_options.specs.declared.modes.ModuleMode.TheVariants.{Largest}
 use Rattle.mcf_words.specs.declared.request.Command.{Command}
 use Rattle.mcf_words.specs.declared.request.Command.TheVariants.{Solve, Check, WhatIf, Print, Gen, Trial}
 use Rattle.mcf_words.specs.Items.{Items, items_of}
-use Rattle.mcf_words.specs.Parse.{Tells, app_of_names, asked_of, choices_in, names_of, read_in, request_in, words_id}
+use Rattle.mcf_words.specs.Parse.{Tells, app_of_names, choices_in, names_of, read_in, request_after, request_in, words_id}
 use Rattle.mcf_words.specs.Request.{◌>>=◌, choices_of, command_of, files_of, numbers_of, options_of, request_from, request_of}
 use Rattle.mcf_words.specs.Values.{choice, gap_of, number_in, read_or, single, values_of}
 use Rattle.mcf_words.proofs.Fitting.{HasItems, Suits, at_most_one, dashed, some_values}
@@ -132,7 +132,7 @@ taken command words app m text is has passes = go (items_of words) (agrees comma
 
 -- words at which a parse fails ask for nothing
 pub refused : (command : Command) (words : List Text) (app : App) (e : Error) → AreUtf8 words → app ≡ app_of_names (names_of command)
-    → (is_simple_and_free app ≡ true → (kind_of e ≡ OutOfMemory) ⊎ IsAmong (kind_of e) (fault_of app words)) → (kind_of e ≡ OutOfMemory → ⊥) → asked_of command words ≡ None
+    → (is_simple_and_free app ≡ true → (kind_of e ≡ OutOfMemory) ⊎ IsAmong (kind_of e) (fault_of app words)) → (kind_of e ≡ OutOfMemory → ⊥) → request_after command words ≡ None
 refused command words app e text is fails other = go (items_of words) (agrees command words text)
   where
     whole : App
@@ -169,7 +169,7 @@ module _ (command : Command) (items : Items) (found : Found) (t : Tells command 
       Some (record { command = command; names = names; numbers = numbers; net = choices.net; gap = choices.gap; phases = choices.phases; workers = choices.workers; step = choices.step })) None
 
 -- the matches ask for what the words ask for
-pub asked : (command : Command) (words : List Text) (found : Found) → IsSomeAnd (items_of words) (λ items. Tells command items found) → request_in command found ≡ asked_of command words
+pub asked : (command : Command) (words : List Text) (found : Found) → IsSomeAnd (items_of words) (λ items. Tells command items found) → request_in command found ≡ request_after command words
 asked command words found h = go (items_of words) h
   where
     go : (o : Option Items) → IsSomeAnd o (λ items. Tells command items found) → request_in command found ≡ (o >>= request_from command)
@@ -177,5 +177,5 @@ asked command words found h = go (items_of words) h
     go (Some items) h = sym (request_told command items found h)
 
 -- what the words after the command ask for is what all the words ask for
-pub requested : (first : Text) (others words : List Text) (command : Command) → words ≡ first ∷ others → command_of first ≡ Some command → asked_of command others ≡ request_of words
+pub requested : (first : Text) (others words : List Text) (command : Command) → words ≡ first ∷ others → command_of first ≡ Some command → request_after command others ≡ request_of words
 requested first others words command split is = ap (λ o. o >>= λ c. items_of others >>= request_from c) (sym is) ∙ ap request_of (sym split)

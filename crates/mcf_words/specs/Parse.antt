@@ -56,13 +56,13 @@ pub record Tells (command : Command) (items : Items) (found : Found) : Type 0 wh
   pub words : items.positional ≡ words_in found
 
 -- what the words after the command ask for
-abbrev pub asked_of : Command → List Text → Option Request
-asked_of command words = items_of words >>= request_from command
+abbrev pub request_after : Command → List Text → Option Request
+request_after command words = items_of words >>= request_from command
 
 -- The matches tell the items of the words; where the words are refused, they ask for nothing.
 abbrev pub Parses : Command → List Text → Result ArgMatches WordsEnd → Type 0
 Parses command words (Ok m) = IsSomeAnd (items_of words) (λ items. Tells command items (found_of m))
-Parses command words (Err Usage) = asked_of command words ≡ None
+Parses command words (Err Usage) = request_after command words ≡ None
 Parses command words (Err Memory) = Unit {0}
 
 -- what is read of an option's value, or the default

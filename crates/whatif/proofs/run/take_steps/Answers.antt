@@ -1,6 +1,8 @@
-use Rattle.std.proofs.Common.{◌≡◌, ◌+◌, ◌∙◌, ap, sym, subst, arith, length, ℕ, get_or, take}
+use Rattle.std.proofs.Common.{◌≡◌, ◌∙◌, Some, ap, inr, sym, subst, arith, length, ℕ, get_or, take}
+use Rattle.std.proofs.lemmas.Option.{slice_get-get_or}
 use Rattle.script.specs.declared.step.Step.TheVariants.{Edit}
 use Rattle.script.specs.Steps.{IsStep}
+use Rattle.whatif.specs.Planned.{after_step}
 use Rattle.whatif.proofs.Lines.{step_puts, step_stops, after_more, caps_count}
 use Rattle.whatif.proofs.run.take_steps.Goals as goal
 
@@ -18,9 +20,10 @@ returns-in-Err-clause-puts g c =
 
 pub returns-in-Err-clause-front : goal.returns-in-Err-clause-front
 returns-in-Err-clause-front g c = record {
-  count = c.loop-step.step-index + 1;
+  count = c.loop-step.step-index;
   within = omega (arith, c.loop-step-test.true);
-  same = after_more c.args.plan.now c.args.steps.now c.loop-step.step-index _ c.loop-step.plan c.take_step.new.plan c.loop-step-test.true c.loop-step.invariant.plan_is c.in-Err.ensures.plan;
+  next = inr (slice_get-get_or c.args.steps.now c.loop-step.step-index _ c.loop-step-test.true ∙ ap Some c.in-Err.ensures.stop);
+  same = c.in-Err.ensures.plan ∙ ap (after_step c.loop-step.plan) c.in-Err.ensures.stop ∙ c.loop-step.invariant.plan_is;
 }
 
 pub loop-step-preserved : goal.loop-step-preserved
