@@ -1,6 +1,6 @@
 //! The dual that lengths and rows make.
 
-ghost use Rattle.std.specs.Prelude.{◌≡◌, ℕ, ◌≤◌, All, IsTrue, IfOk, length, slice_index_or, []};
+ghost use Rattle.std.specs.Prelude.{◌≡◌, ℕ, ◌≤◌, ◌↔◌, All, IsTrue, IfOk, length, slice_index_or, []};
 ghost use Rattle.flow_paths.specs.DualRows.{DualRows};
 ghost use Rattle.dual_bound.specs.Bounds.{length_rows};
 ghost use Rattle.dual_bound.specs.Rows.{dual_of, potentials_of};
@@ -39,7 +39,7 @@ pub fn assembled(alloc: Global, lengths: &[u64], rows: &[Row]) -> Result<Dual, A
 
 /// Whether every row was filled.
 pub fn are_filled(rows: &[Row]) -> bool
-    ensures { IsTrue result → All (λ row. IsTrue row.is_filled) rows.now }
+    ensures { IsTrue result ↔ All (λ row. IsTrue row.is_filled) rows.now }
 {
     for row in rows {
         if !row.is_filled {
