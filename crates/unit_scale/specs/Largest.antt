@@ -2,6 +2,7 @@
 use Rattle.std.specs.Prelude.{◌≡◌, ℕ, ◌+◌, ◌-◌, ◌*◌, ◌/◌, ◌%◌, ◌^◌, ◌<◌, ◌⊎◌, ◌++◌, true, length, Option, Some, None, nat_lt, if◌then◌else◌}
 use Rattle.std.specs.Option.{unwrap_or, is_some}
 use Rattle.std.specs.Str.Parse.{AllDigits, digits_value}
+use Rattle.mcf_limits.specs.declared.TheConstants.{MAX_DECIMALS}
 use Rattle.sndlib_number.specs.declared.parse.NumberParts.{NumberParts}
 use Rattle.sndlib_number.specs.Number.{Number, AreDigits}
 use Rattle.sndlib_number.specs.Views.{number_view}
@@ -11,12 +12,12 @@ use Rattle.unit_scale.specs.declared.compare.LongNumber.{LongNumber}
 
 -- the number in millionths
 abbrev pub amount_of : Number → ℕ
-amount_of n = unwrap_or (units_of 6 n) 0
+amount_of n = unwrap_or (units_of MAX_DECIMALS n) 0
 
 -- the parts of a number that is a whole number of millionths
 pub record IsFit (p : NumberParts) : Type 0 where
   pub digits : AreDigits (number_view p)
-  pub some : is_some (units_of 6 (number_view p)) ≡ true
+  pub some : is_some (units_of MAX_DECIMALS (number_view p)) ≡ true
   pub small : length p.whole.now + length p.fraction.now < 2 ^ 63
 
 -- the greatest number so far, and 0 before the first

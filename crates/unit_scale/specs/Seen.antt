@@ -1,8 +1,8 @@
 -- What is kept of the size of a row: enough for the decimals, and all where no number is over the limit.
-use Rattle.std.specs.Prelude.{ℕ, ◌+◌, ◌/◌, nat_lt, ◌%◌, Bool, List, map, ◌||◌, if◌then◌else◌}
+use Rattle.std.specs.Prelude.{ℕ, ◌+◌, ◌/◌, nat_lt, ◌%◌, ◌^◌, Bool, List, map, ◌||◌, if◌then◌else◌}
 use Rattle.std.specs.Borrow.{Bor}
 use Rattle.std.specs.List.{list_any}
-use Rattle.mcf_limits.specs.declared.TheConstants.{MAX_TOTAL, MAX_UNITS}
+use Rattle.mcf_limits.specs.declared.TheConstants.{MAX_DECIMALS, MAX_TOTAL, MAX_UNITS}
 use Rattle.sndlib_grammar.specs.Rows.{NetLink, NetDemand}
 use Rattle.unit_scale.specs.Sizes.{capacity, amount, looked_at, is_over, is_left_out}
 use Rattle.net_options.specs.declared.modes.ModuleMode.{ModuleMode}
@@ -19,7 +19,7 @@ pub record Seen : Type 0 where
   pub exact : ℕ
 
 abbrev pub seen : Bool → ℕ → Seen
-seen over n = record { over = over; last = n % 1000000; exact = if over then 0 else n }
+seen over n = record { over = over; last = n % 10 ^ MAX_DECIMALS; exact = if over then 0 else n }
 
 abbrev pub link_over : ModuleMode → NetLink → Bool
 link_over mode l = list_any is_over (looked_at mode l)

@@ -1,14 +1,18 @@
--- A number in place of a greater one: it stands above the limit too, and has the same last twelve digits.
-use Rattle.std.specs.Prelude.{ℕ, ◌+◌, ◌*◌, ◌/◌, ◌%◌, if◌then◌else◌, nat_le}
-use Rattle.mcf_limits.specs.declared.TheConstants.{MAX_UNITS}
+-- A number in place of a greater one: it stands above the limit too, and has the same last digits.
+use Rattle.std.specs.Prelude.{ℕ, ◌+◌, ◌*◌, ◌/◌, ◌%◌, ◌^◌, if◌then◌else◌, nat_le}
+use Rattle.mcf_limits.specs.declared.TheConstants.{MAX_DECIMALS, MAX_UNITS}
 
 -- the greatest number that is read, in millionths
 abbrev pub limit : ℕ
-limit = MAX_UNITS * 1000000
+limit = MAX_UNITS * 10 ^ MAX_DECIMALS
 
--- the least number above it whose last twelve digits are zeros
+-- what the last digits stay below: as many of them as a product of two numbers has decimals
+abbrev pub last : ℕ
+last = 10 ^ (2 * MAX_DECIMALS)
+
+-- the least number above the limit whose last digits are zeros
 abbrev pub above : ℕ
-above = (limit / 1000000000000 + 1) * 1000000000000
+above = (limit / last + 1) * last
 
 unfoldable pub short : ℕ → ℕ
-short n = if nat_le n limit then n else above + n % 1000000000000
+short n = if nat_le n limit then n else above + n % last

@@ -1,7 +1,7 @@
 -- The value of a number, in units of a power of ten.
 use Rattle.std.specs.Prelude.{ℕ, ◌+◌, ◌*◌, ◌/◌, ◌%◌, ◌^◌, ◌++◌, length, Option, Some, None, Result, Ok, Err, ◌==◌, if◌then◌else◌, nat_le}
 use Rattle.std.specs.Str.Parse.{digits_value}
-use Rattle.mcf_limits.specs.declared.TheConstants.{MAX_UNITS}
+use Rattle.mcf_limits.specs.declared.TheConstants.{MAX_DECIMALS, MAX_UNITS}
 use Rattle.sndlib_number.specs.Number.{Number}
 use Rattle.unit_scale.specs.declared.decimal.Decimal.{Decimal}
 use Rattle.unit_scale.specs.declared.decimal.Decimal.TheVariants.{Millionths, Fine, Huge}
@@ -29,11 +29,11 @@ most = MAX_UNITS
 
 abbrev pub decimal_from : Option ℕ → Decimal
 decimal_from None = Fine
-decimal_from (Some m) = if nat_le m (most * 10 ^ 6) then Millionths m else Huge
+decimal_from (Some m) = if nat_le m (most * 10 ^ MAX_DECIMALS) then Millionths m else Huge
 
 abbrev pub decimal_of : Option Number → Option Decimal
 decimal_of None = None
-decimal_of (Some n) = Some (decimal_from (units_of 6 n))
+decimal_of (Some n) = Some (decimal_from (units_of MAX_DECIMALS n))
 
 abbrev pub units_from : Option ℕ → Result ℕ UnitFault
 units_from None = Err TooFine

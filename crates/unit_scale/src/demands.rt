@@ -9,12 +9,12 @@ ghost use Rattle.sndlib_grammar.specs.declared.refusal.NetKind.TheVariants.{TooF
 ghost use Rattle.unit_scale.specs.Seen.{seen_demand, seen_amount};
 
 use crate::refusal::{ScaleEnd, refused};
-use crate::short::MOST;
+use crate::short::{MILLIONTHS, MOST};
 use crate::sizes::{either, word_size};
 use sndlib_read::{DemandRow, NetKind, RawNet};
 use std::alloc::Global;
 
-/// The amount of a demand in millionths: itself where no number is over the limit, and else one of the same last six digits.
+/// The amount of a demand in millionths: itself where no number is over the limit, and else one of the same last `MAX_DECIMALS` digits.
 #[derive(Clone, Copy, Debug)]
 pub struct DemandSize {
     pub millionths: u128,
@@ -36,10 +36,10 @@ pub fn demand_size(row: &DemandRow<'_>) -> Option<DemandSize>
         None => return None,
     };
     let product = unit as u128 * value as u128;
-    if product % 1_000_000 != 0 {
+    if product % MILLIONTHS as u128 != 0 {
         return None;
     }
-    let millionths = product / 1_000_000;
+    let millionths = product / MILLIONTHS as u128;
     Some(DemandSize {
         millionths,
         over: either(unit > MOST, value > MOST),

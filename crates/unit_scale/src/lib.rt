@@ -16,6 +16,6 @@ mod short;
 mod sizes;
 
 pub use decimal::{Decimal, UnitFault, read_decimal, units};
-pub use laws::{decimals_are_least, decimals_are_unique};
+pub use laws::{decimals_are_least, decimals_are_unique, millionths_are_the_finest};
 pub use refusal::ScaleEnd;
 pub use scaled::{Scaled, scale};

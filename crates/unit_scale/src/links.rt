@@ -17,7 +17,7 @@ use net_options::ModuleMode;
 use sndlib_read::{LinkRow, NetKind, RawNet};
 use std::alloc::Global;
 
-/// The capacity of a link in millionths: itself where no number is over the limit, and else one of the same last six digits.
+/// The capacity of a link in millionths: itself where no number is over the limit, and else one of the same last `MAX_DECIMALS` digits.
 #[derive(Clone, Copy, Debug)]
 pub struct LinkSize {
     pub millionths: u128,

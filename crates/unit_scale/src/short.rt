@@ -1,4 +1,4 @@
-//! Arithmetic on numbers that may be greater than any type: what is over the limit keeps its last twelve digits alone.
+//! Arithmetic on numbers that may be greater than any type: what is over the limit keeps its last digits alone, as many as a product of two numbers has decimals.
 
 ghost use Rattle.std.specs.Prelude.{◌≡◌, ◌+◌, ◌*◌, ◌^◌, ◌≤◌, ◌==◌};
 ghost use Rattle.std.specs.List.{list_all};
@@ -7,14 +7,18 @@ ghost use Rattle.unit_scale.specs.Short.{short};
 
 use mcf_limits::MAX_UNITS;
 
-/// The greatest number that is read, in millionths.
-pub const MOST: u64 = MAX_UNITS * 1_000_000;
+/// The millionths in one, where a number has `MAX_DECIMALS` decimals.
+pub const MILLIONTHS: u64 = 1_000_000;
 
-const LAST: u64 = 1_000_000_000_000;
+/// The greatest number that is read, in millionths.
+pub const MOST: u64 = MAX_UNITS * MILLIONTHS;
+
+// The last digits stay below it: as many of them as a product of two numbers has decimals.
+const LAST: u64 = MILLIONTHS * MILLIONTHS;
 
 const OVER: u64 = (MOST / LAST + 1) * LAST;
 
-/// The number itself up to the limit, and else a number over the limit with the same last twelve digits.
+/// The number itself up to the limit, and else a number over the limit with the same last digits.
 pub fn shortened(n: u128) -> u64
     ensures { result ≡ short n }
 {

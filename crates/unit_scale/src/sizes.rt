@@ -43,31 +43,23 @@ fn all_demands_divide(sizes: &[DemandSize], unit: u128) -> bool
 /// Millionths in a unit of 10^-decimals.
 pub fn unit_of(decimals: u8) -> u128
     requires { decimals ≤ MAX_DECIMALS }
-    ensures value { result ≡ 10 ^ (6 - decimals) }
+    ensures value { result ≡ 10 ^ (MAX_DECIMALS - decimals) }
     ensures some { 1 ≤ result }
 {
-    match decimals {
-        0 => 1_000_000,
-        1 => 100_000,
-        2 => 10_000,
-        3 => 1_000,
-        4 => 100,
-        5 => 10,
-        _ => 1,
-    }
+    10u128.pow((MAX_DECIMALS - decimals) as u32)
 }
 
 /// The least number of decimals that serves for all.
 pub fn least_decimals(links: &[LinkSize], demands: &[DemandSize]) -> u8
     ensures { AreDecimals (map (λ z. z.millionths) links.now ++ map (λ z. if z.left then 0 else z.millionths) demands.now) result }
 {
-    for decimals in 0..6u8 {
+    for decimals in 0..MAX_DECIMALS {
         let unit = unit_of(decimals);
         if all_links_divide(links, unit) && all_demands_divide(demands, unit) {
             return decimals;
         }
     }
-    6
+    MAX_DECIMALS
 }
 
 /// Whether one of them holds.
