@@ -16,7 +16,7 @@ use Rattle.load_table.specs.Seen.{LoadsView, IsPassOf}
 use Rattle.commodity_claims.specs.declared.worker.Worked.{Worked}
 use Rattle.commodity_claims.specs.Work.{HasWorked, routes_of}
 use Rattle.phase_engine.specs.declared.hand.Hand.{Hand}
-use Rattle.phase_engine.specs.Hands.{OfTurn, IsDone, IsBack, IsSameWorker, start_view, no_hand, IsWorkOf, SomeStopped}
+use Rattle.phase_engine.specs.Hands.{OfTurn, IsDone, IsBack, IsSameWorker, start_view, no_hand, IsWorkOf, SomeStopped, HasRoom}
 
 -- what a hand has after the work
 abbrev pub AfterWork : LoadsView → Hand → Worked → Type 0
@@ -62,6 +62,17 @@ next_back orig hands i g inside below here k d less = dite (ℕ_discrete k i)
     (λ at. let P : ℕ → Type 0 = λ n. IsBack (get_or orig n d) (get_or (set hands i g) n d) in
     subst P (sym at) (subst (IsBack (get_or orig i d)) (sym (get_or-set_same hands i g d inside)) (here d)))
     (λ apart. subst (IsBack (get_or orig k d)) (sym (get_or-set_other hands i k g d apart)) (below k d (omega arith)))
+
+-- a worker that was refused no room makes the phase whole
+pub next_went_on : (hands : List Hand) (i : ℕ) (h : Hand) (w : Worked) (old new : Bool) → ((d : Hand) → get_or hands i d ≡ h) → h.turn ≡ Some w
+    → ((k : ℕ) (d : Hand) → k < i → HasRoom (get_or hands k d) → old ≡ true) → (old ≡ true → new ≡ true) → (w.memory ≡ false → new ≡ true)
+    → (k : ℕ) (d : Hand) → k < i + 1 → HasRoom (get_or hands k d) → new ≡ true
+next_went_on hands i h w old new here is below kept mine k d less room = dite (ℕ_discrete k i)
+    (λ at.
+    let P : ℕ → Type 0 = λ n. HasRoom (get_or hands n d) in
+    let Q : Option Worked → Type 0 = λ o. OfTurn o (λ w. w.memory ≡ false) in
+    mine (subst Q is (subst HasRoom (here d) (subst P at room))))
+    (λ apart. kept (below k d (omega arith) room))
 
 pub memory-false : (b : Bool) → not b ≡ true → b ≡ false
 memory-false true e = absurd (let z : false ≡ true = e in cc)

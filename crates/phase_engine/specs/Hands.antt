@@ -1,5 +1,5 @@
 -- The hands of the workers in a phase.
-use Rattle.std.specs.Prelude.{◌≡◌, ℕ, ◌-◌, ◌<◌, ◌==◌, true, if◌then◌else◌, List, [], ◌∷◌, length, Option, Some, None, slice_index_or}
+use Rattle.std.specs.Prelude.{◌≡◌, ℕ, ◌-◌, ◌<◌, ◌==◌, true, false, if◌then◌else◌, List, [], ◌∷◌, length, Option, Some, None, slice_index_or}
 use Rattle.flow_model.specs.declared.setting.Setting.{Setting}
 use Rattle.flow_model.specs.Network.{Network}
 use Rattle.flow_model.specs.Least.{HasNoCut}
@@ -37,6 +37,10 @@ IsDone l h = OfTurn h.turn (λ w. IsPassOf l w.pass × HasWorked l.terms h.worke
 -- the same worker, with a scratch of the same size
 abbrev pub IsSameWorker : Hand → Hand → Type 0
 IsSameWorker h g = (g.worker ≡ h.worker) × (g.scratch.nodes ≡ h.scratch.nodes) × (g.scratch.cells ≡ h.scratch.cells)
+
+-- the hand's worker was refused no room
+abbrev pub HasRoom : Hand → Type 0
+HasRoom h = OfTurn h.turn (λ w. w.memory ≡ false)
 
 abbrev pub Runs : LoadsView → Hand → Hand → Type 0
 Runs l h g = IsSameWorker h g × IsDone l g
