@@ -15,7 +15,7 @@ use std::thread::Threads;
 ///
 /// The contract is that of `std::thread::for_each_chunk_mut`, which splits the list in halves, so that threads which it
 /// started start further ones. Linux often leaves such a thread on the processor of the one that started it, although
-/// another is free. Here the caller starts all.
+/// another is free. Here the caller starts all. The stack grows with the number of chunks, so they are to be few.
 pub fn for_each_chunk_mut<R: Threads + Sync, T: Send, F: Fn(usize, &mut [T]) + Sync>(
     rt: &R,
     items: &mut [T],

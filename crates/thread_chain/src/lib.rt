@@ -1,4 +1,4 @@
-//! Work on the chunks of a list, each in a thread of its own, all of which the caller's thread starts.
+//! Work on the chunks of a list: the last in the caller's thread, each other in one that the caller's starts, where one can be made.
 #![tactic(auto)]
 
 mod chain;
