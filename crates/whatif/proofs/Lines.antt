@@ -1,6 +1,6 @@
 -- The lines of a script, one step after the other.
-use Rattle.std.proofs.Common.{◌≡◌, ℕ, ◌+◌, ◌*◌, ◌/◌, ◌%◌, ◌<◌, List, [], ◌∷◌, ◌++◌, length, take, drop, get_or, Option, Ok, Err, Result, sym, ap, subst, ◌∙◌, arith, refl, append-nil, OnErr}
-use Rattle.std.proofs.lemmas.List.{take_more, take-append-drop, length-set}
+use Rattle.std.proofs.Common.{◌≡◌, ℕ, ◌+◌, ◌*◌, ◌/◌, ◌%◌, ◌<◌, List, [], ◌∷◌, ◌++◌, length, take, drop, get_or, Option, Ok, Err, Result, sym, ap, subst, ◌∙◌, arith, refl, append-nil, inl, OnErr}
+use Rattle.std.proofs.lemmas.List.{take_all, take_more, take-append-drop, length-set}
 use Rattle.std.proofs.lemmas.List.Concat.{flat_map-append}
 use Rattle.text_lines.specs.Lines.{Line, text_of, spelled}
 use Rattle.line_writer.specs.Writing.{Puts, ended, failed}
@@ -12,7 +12,7 @@ use Rattle.flow_paths.specs.Evaluation.{Evaluation}
 use Rattle.script.specs.declared.step.Step.{Step}
 use Rattle.script.specs.declared.step.Step.TheVariants.{Edit, Show}
 use Rattle.whatif.specs.Planned.{Planned, after_step, after_steps, shown_of}
-use Rattle.whatif.specs.Shown.{millionths_word, show_line, shown_lines, shown_text}
+use Rattle.whatif.specs.Shown.{IsStopped, millionths_word, show_line, shown_lines, shown_text}
 
 pub decimal_is : (whole micro n : ℕ) → micro < 1000000 → whole * 1000000 + micro ≡ n → decimal_word whole micro ≡ millionths_word n
 decimal_is whole micro n six e =
@@ -48,12 +48,17 @@ pub step_puts : {E : Type 0} (a b c : Option (List ℕ)) (u v w : List ℕ) (p :
 step_puts {E} a b c u v w p steps i d now lt e h k =
     subst (λ (l : List ℕ). Puts a c u w (ended (Unit {0}) E tt) l) (text_more p steps i d now lt e) (puts_then a b c u v w tt (ended (Unit {0}) E tt) (shown_text p (take i steps)) (shown_text now (get_or steps i d ∷ [])) h k)
 
+-- a step that failed, and the text up to and with it
+pub step_fails : {E : Type 0} (a b c : Option (List ℕ)) (u v w : List ℕ) (x : E) (p : Planned) (steps : List Step) (i : ℕ) (d : Step) (now : Planned) → i < length steps → now ≡ after_steps p (take i steps)
+    → Puts a b u v (ended (Unit {0}) E tt) (shown_text p (take i steps)) → Puts b c v w (failed (Unit {0}) E x) (shown_text now (get_or steps i d ∷ [])) → Puts a c u w (failed (Unit {0}) E x) (shown_text p (take (i + 1) steps))
+step_fails {E} a b c u v w x p steps i d now lt e h k =
+    subst (λ (l : List ℕ). Puts a c u w (failed (Unit {0}) E x) l) (text_more p steps i d now lt e) (puts_then a b c u v w tt (failed (Unit {0}) E x) (shown_text p (take i steps)) (shown_text now (get_or steps i d ∷ [])) h k)
+
+-- and the text of all steps
 pub step_stops : {E : Type 0} (a b c : Option (List ℕ)) (u v w : List ℕ) (x : E) (p : Planned) (steps : List Step) (i : ℕ) (d : Step) (now : Planned) → i < length steps → now ≡ after_steps p (take i steps)
     → Puts a b u v (ended (Unit {0}) E tt) (shown_text p (take i steps)) → Puts b c v w (failed (Unit {0}) E x) (shown_text now (get_or steps i d ∷ [])) → Puts a c u w (failed (Unit {0}) E x) (shown_text p steps)
 step_stops {E} a b c u v w x p steps i d now lt e h k =
-    let both = puts_then a b c u v w tt (failed (Unit {0}) E x) (shown_text p (take i steps)) (shown_text now (get_or steps i d ∷ [])) h k in
-    let so_far = subst (λ (l : List ℕ). Puts a c u w (failed (Unit {0}) E x) l) (text_more p steps i d now lt e) both in
-    let all = puts_stop a c u w w x (shown_text p (take (i + 1) steps)) (shown_text (after_steps p (take (i + 1) steps)) (drop (i + 1) steps)) so_far in
+    let all = puts_stop a c u w w x (shown_text p (take (i + 1) steps)) (shown_text (after_steps p (take (i + 1) steps)) (drop (i + 1) steps)) (step_fails a b c u v w x p steps i d now lt e h k) in
     subst (λ (l : List ℕ). Puts a c u w (failed (Unit {0}) E x) l) (text_append p (take (i + 1) steps) (drop (i + 1) steps) ∙ ap (shown_text p) (take-append-drop (i + 1) steps)) all
 
 -- the line of a `show`
@@ -84,3 +89,24 @@ fraction_same a b x y e f = ap (λ n. fraction_word n b) e ∙ ap (fraction_word
 pub flushed_front : {E : Type 0} (a b c : Option (List ℕ)) (v w text : List ℕ) (r : Result (Unit {0}) E) → Puts a b [] v (ended (Unit {0}) E tt) text → Puts b c v w r [] → OnErr r (AppendsFront a c text)
 flushed_front {E} a b c v w text (Ok x) h k = tt
 flushed_front {E} a b c v w text (Err e) h k = written_front a c w text e (rw append-nil at (puts_then a b c [] v w tt (failed (Unit {0}) E e) text [] h k))
+
+-- what was put where nothing waited was written in a front of it
+pub stopped_front : {E : Type 0} (a b : Option (List ℕ)) (u w : List ℕ) (e : E) (old : Planned) (steps : List Step) (new : Planned) → u ≡ [] → IsStopped old steps new (Puts a b u w (failed (Unit {0}) E e)) → IsStopped old steps new (AppendsFront a b)
+stopped_front {E} a b u w e old steps new none h = record {
+  count = h.count;
+  within = h.within;
+  next = h.next;
+  same = h.same;
+  wrote = written_front a b w (shown_text old (take (h.count + 1) steps)) e (subst (λ (l : List ℕ). Puts a b l w (failed (Unit {0}) E e) (shown_text old (take (h.count + 1) steps))) none h.wrote);
+}
+
+-- the steps are all taken, and a front of their text was written
+pub stopped_behind : {E : Type 0} (a b : Option (List ℕ)) (old : Planned) (steps : List Step) (new : Planned) (r : Result (Unit {0}) E) → new ≡ after_steps old steps → OnErr r (AppendsFront a b (shown_text old steps)) → OnErr r (IsStopped old steps new (AppendsFront a b))
+stopped_behind {E} a b old steps new (Ok x) same front = tt
+stopped_behind {E} a b old steps new (Err e) same front = record {
+  count = length steps;
+  within = omega arith;
+  next = inl refl;
+  same = same ∙ ap (after_steps old) (sym (take_all (length steps) steps (omega arith)));
+  wrote = subst (λ (l : List Step). AppendsFront a b (shown_text old l)) (sym (take_all (length steps + 1) steps (omega arith))) front;
+}

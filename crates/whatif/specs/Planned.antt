@@ -1,5 +1,5 @@
 -- A certificate under capacities that are edited.
-use Rattle.std.specs.Prelude.{◌≡◌, ◌≢◌, ℕ, ◌*◌, ◌<◌, ◌≤◌, ◌==◌, ◌⊎◌, if◌then◌else◌, List, [], ◌∷◌, All, Some, length, take, slice_get, slice_index, slice_set}
+use Rattle.std.specs.Prelude.{◌≡◌, ◌≢◌, ℕ, ◌*◌, ◌<◌, ◌≤◌, ◌==◌, if◌then◌else◌, List, [], ◌∷◌, All, length, slice_index, slice_set}
 use Rattle.mcf_limits.specs.declared.TheConstants.{MAX_LENGTH, MAX_UNITS}
 use Rattle.gap_fraction.specs.declared.fraction.TheConstants.{MAX_PART}
 use Rattle.flow_model.specs.Network.{Network, IsNetwork}
@@ -78,10 +78,3 @@ pub record IsKept (p : Planned) (loads lengths : List ℕ) (tree : List Ratio) (
 
 abbrev pub evaluation_of : Bounds → Evaluation
 evaluation_of b = record { lower = b.lower; upper = b.upper }
-
--- the plan where the steps stopped: after so many of them, behind which none or a `show` is next
-pub record IsStopped (old : Planned) (steps : List Step) (new : Planned) : Type 0 where
-  pub count : ℕ
-  pub within : count ≤ length steps
-  pub next : (count ≡ length steps) ⊎ (slice_get steps count ≡ Some Show)
-  pub same : new ≡ after_steps old (take count steps)

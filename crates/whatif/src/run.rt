@@ -8,8 +8,8 @@ ghost use Rattle.text_lines.specs.Lines.{spelled};
 ghost use Rattle.line_writer.specs.Writing.{Puts};
 ghost use Rattle.gap_fraction.specs.Decimals.{millionths_down, millionths_up};
 ghost use Rattle.script.specs.Steps.{AreSteps, IsStep};
-ghost use Rattle.whatif.specs.Planned.{after_step, after_steps, evaluation_of, IsStopped};
-ghost use Rattle.whatif.specs.Shown.{millionths_word, show_line, shown_text};
+ghost use Rattle.whatif.specs.Planned.{after_step, after_steps, evaluation_of};
+ghost use Rattle.whatif.specs.Shown.{IsStopped, millionths_word, show_line, shown_text};
 
 use crate::bounds::Bounds;
 use crate::plan::Plan;
@@ -86,7 +86,7 @@ fn take_steps<K: Sink>(
     requires { AreSteps (length plan.old.caps) steps.now }
     ensures puts { Puts (K.written out.old) (K.written out.new) buffer.old buffer.new result (shown_text plan.old steps.now) }
     ensures all { OnOk result (plan.new ≡ after_steps plan.old steps.now) }
-    ensures front { OnErr result (IsStopped plan.old steps.now plan.new) }
+    ensures front { OnErr result (IsStopped plan.old steps.now plan.new (Puts (K.written out.old) (K.written out.new) buffer.old buffer.new result)) }
     ensures cause { HasCause (K.faults out.old) (K.faults out.new) result }
 {
     for step in steps {
@@ -98,14 +98,15 @@ fn take_steps<K: Sink>(
     Ok(())
 }
 
-/// Takes the steps of the script on the plan, and writes a line for each `show`, of what is shown then. After a fault a front
-/// of these lines was written, and the plan has the steps before some `show` behind it, or all of them. It takes no memory.
+/// Takes the steps of the script on the plan, and writes a line for each `show`, of what is shown then. After a fault the plan
+/// has the steps before some `show` behind it, or all of them, and a front of the lines of these steps and of that `show` was
+/// written, with nothing of a later line. It takes no memory.
 pub fn run_script<K: Sink>(plan: &mut Plan, script: &Script, out: &mut K) -> Result<(), WriteFault>
     requires { AreSteps (length plan.old.caps) script.now }
     ensures ok { OnOk result (Appends (K.written out.old) (K.written out.new) (shown_text plan.old script.now)) }
     ensures err { OnErr result (AppendsFront (K.written out.old) (K.written out.new) (shown_text plan.old script.now)) }
     ensures all { OnOk result (plan.new ≡ after_steps plan.old script.now) }
-    ensures front { OnErr result (IsStopped plan.old script.now plan.new) }
+    ensures front { OnErr result (IsStopped plan.old script.now plan.new (AppendsFront (K.written out.old) (K.written out.new))) }
     ensures cause { HasCause (K.faults out.old) (K.faults out.new) result }
 {
     let mut buffer = Buffer::new();

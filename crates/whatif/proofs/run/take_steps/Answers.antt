@@ -3,7 +3,7 @@ use Rattle.std.proofs.lemmas.Option.{slice_get-get_or}
 use Rattle.script.specs.declared.step.Step.TheVariants.{Edit}
 use Rattle.script.specs.Steps.{IsStep}
 use Rattle.whatif.specs.Planned.{after_step}
-use Rattle.whatif.proofs.Lines.{step_puts, step_stops, after_more, caps_count}
+use Rattle.whatif.proofs.Lines.{step_puts, step_fails, step_stops, after_more, caps_count}
 use Rattle.whatif.proofs.run.take_steps.Goals as goal
 
 pub take_step-requires : goal.take_step-requires
@@ -24,6 +24,7 @@ returns-in-Err-clause-front g c = record {
   within = omega (arith, c.loop-step-test.true);
   next = inr (slice_get-get_or c.args.steps.now c.loop-step.step-index _ c.loop-step-test.true ∙ ap Some c.in-Err.ensures.stop);
   same = c.in-Err.ensures.plan ∙ ap (after_step c.loop-step.plan) c.in-Err.ensures.stop ∙ c.loop-step.invariant.plan_is;
+  wrote = step_fails _ _ _ _ _ _ c.in-Err.fault c.args.plan.now c.args.steps.now c.loop-step.step-index _ c.loop-step.plan c.loop-step-test.true c.loop-step.invariant.plan_is c.loop-step.invariant.puts c.in-Err.ensures.puts;
 }
 
 pub loop-step-preserved : goal.loop-step-preserved
