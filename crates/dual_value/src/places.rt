@@ -6,7 +6,7 @@ ghost use Rattle.flow_paths.specs.DualRows.{potential_at};
 use flow_paths::Dual;
 use std::alloc::{AllocError, Global};
 
-/// The number of each node's row of potentials, where none has two.
+/// The number of the row of potentials of each node that has one, where none has two.
 pub fn row_places(alloc: Global, nodes: usize, dual: &Dual) -> Result<Vec<usize>, AllocError>
     requires named { All (λ r. r.node < nodes) dual.now.potentials }
     requires once { (v : ℕ) → v < nodes → count_by (λ r. r.node == v) dual.now.potentials ≤ 1 }

@@ -7,7 +7,7 @@ use Rattle.std.proofs.lemmas.List.Elements.{All-from_recursion}
 use Rattle.sndlib_grammar.specs.Grammar.{Symbol, Right, Word, Module, NodeEntry, LinkEntry, DemandEntry, Entries, names, place, pair, node, link, demand}
 use Rattle.sndlib_grammar.specs.Faults.{node_ids, texts}
 use Rattle.sndlib_grammar.specs.Rows.{module_words, net_node, net_link, net_demand, net_rows}
-use Rattle.sndlib_grammar.specs.Words.{OnSymbols, OnEntries, OnNode, OnLink, OnDemand, OnRows}
+use Rattle.sndlib_grammar.specs.Words.{OnSymbols, OnEntries, OnNode, OnLink, OnDemand, OnNetRows}
 
 on_names : (P : List ℕ → Type 0) (ws : List Word) (rest : List Symbol) → OnSymbols P (names ws ++ rest) → AllByRecursion P (texts ws)
 on_names P [] rest h = tt
@@ -40,7 +40,7 @@ pub through : {X Y : Type 0} (f : X → Y) (A : X → Type 0) (B : Y → Type 0)
 through f A B step [] h = tt
 through f A B step (x ∷ xs) h = (step x h.0, through f A B step xs h.1)
 
-pub on_rows : (P : List ℕ → Type 0) (end : ℕ) (e : Entries) → OnEntries P e → OnRows P (net_rows end e)
+pub on_rows : (P : List ℕ → Type 0) (end : ℕ) (e : Entries) → OnEntries P e → OnNetRows P (net_rows end e)
 on_rows P end e h =
     let known = texts (node_ids e) in
     record {

@@ -2,7 +2,7 @@
 use Rattle.std.specs.Prelude.{◌≡◌, ℕ, ◌+◌, ◌≤◌, List, length}
 use Rattle.std.specs.List.{slice_range}
 use Rattle.sndlib_grammar.specs.Rows.{NetRows}
-use Rattle.sndlib_grammar.specs.Words.{OnRows}
+use Rattle.sndlib_grammar.specs.Words.{OnNetRows}
 
 -- the word stands at some place in the bytes
 pub record IsSliceOf (bytes word : List ℕ) : Type 0 where
@@ -12,4 +12,4 @@ pub record IsSliceOf (bytes word : List ℕ) : Type 0 where
 
 -- each word of the rows stands somewhere in the bytes: ids, the words of places, capacities, costs and modules, and the words of demands
 abbrev pub AreSlicesOf : List ℕ → NetRows → Type 0
-AreSlicesOf bytes rows = OnRows (IsSliceOf bytes) rows
+AreSlicesOf bytes rows = OnNetRows (IsSliceOf bytes) rows

@@ -43,7 +43,7 @@ pub record OnDemand (P : List ℕ → Type 0) (d : NetDemand) : Type 0 where
   pub longest : P d.longest
 
 -- P holds of each word of the rows
-pub record OnRows (P : List ℕ → Type 0) (rows : NetRows) : Type 0 where
+pub record OnNetRows (P : List ℕ → Type 0) (rows : NetRows) : Type 0 where
   pub nodes : All (OnNode P) rows.nodes
   pub links : All (OnLink P) rows.links
   pub demands : All (OnDemand P) rows.demands

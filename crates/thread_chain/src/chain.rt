@@ -49,7 +49,7 @@ fn chain<R: Threads + Sync, T: Send, F: Fn(usize, &mut [T]) + Sync>(
         return;
     }
     let (first, rest) = items.split_at_mut(size);
-    first_and_rest(rt, work, size, base, first, base + size, rest);
+    first_and_rest(rt, work, base, size, first, base + size, rest);
 }
 
 /// The first chunk in a new thread, and the rest from this one.
@@ -57,8 +57,8 @@ fn chain<R: Threads + Sync, T: Send, F: Fn(usize, &mut [T]) + Sync>(
 fn first_and_rest<R: Threads + Sync, T: Send, F: Fn(usize, &mut [T]) + Sync>(
     rt: &R,
     work: &F,
-    size: usize,
     base: usize,
+    size: usize,
     first: &mut [T],
     next: usize,
     rest: &mut [T],
