@@ -98,29 +98,6 @@ state-relaxed cells lengths from node dist steps order place order' place' count
           λ d y over. omega (arith, kept, old d y over, falls y);
     }
 
--- the node is taken out
-pub state-popped : (cells : List Cell) (lengths : List ℕ) (from node : ℕ) (dist : List ℕ) (steps : List Step) (order place order' place' : List ℕ) (count : ℕ)
-    → IsUnderWay cells lengths from (length dist) dist steps order place count → AreInverse order' place' → length order' ≡ length order → 0 < count
-    → count ≤ get_or place' node 0 + 1 → SameOpen place count place' (count - 1) node
-    → IsUnderWay cells lengths from node dist steps order' place' (count - 1)
-state-popped cells lengths from node dist steps order place order' place' count s inv long some shut others =
-    let places : length place ≡ length dist = s.inverse.same ∙ s.nodes in
-    record {
-      tree = s.tree;
-      inverse = inv;
-      nodes = long ∙ s.nodes;
-      few = omega (arith, s.few);
-      opened = λ v l q.
-          let other : v ≢ node = λ (z : v ≡ node). absurd (omega (arith, ap (λ (n : ℕ). get_or place' n 0) z)) in
-          s.opened v l ((others v (omega (arith, places)) other).1 q);
-      done = λ u l apart near after.
-          let was : count ≤ get_or place u 0 = elim (cases_lt (get_or place u 0) count) [
-            | inl q ↦ absurd (omega (arith, (others u (omega (arith, places)) apart).0 q))
-            | inr q ↦ q
-          ] in
-          s.done u l (omega arith) near was;
-    }
-
 -- the node is done
 pub state-closed : (cells : List Cell) (lengths : List ℕ) (from node : ℕ) (dist : List ℕ) (steps : List Step) (order place : List ℕ) (count : ℕ)
     → IsUnderWay cells lengths from node dist steps order place count → IsDone cells lengths dist node → IsUnderWay cells lengths from (length dist) dist steps order place count

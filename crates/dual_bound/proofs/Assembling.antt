@@ -33,12 +33,3 @@ map-more rows i d l = ap potentials_of (take_more rows i d l) ∙ map-push (take
     map-push : (xs : List Row) (y : Row) → potentials_of (xs ++ y ∷ []) ≡ potentials_of xs ++ potential_of y ∷ []
     map-push [] y = refl
     map-push (x ∷ xs) y = ap (λ (ps : List Potential). potential_of x ∷ ps) (map-push xs y)
-
--- one more row
-pub rows-more : (lengths : List ℕ) (rows : List Row) (i : ℕ) (row : Row) (values : List ℕ) (dual new : DualRows) → i < length rows → row ≡ get_or rows i row → values ≡ row.values.items → dual ≡ dual_of lengths (take i rows)
-    → new ≡ record { lengths = dual.lengths; potentials = dual.potentials ++ record { node = row.source; values = values } ∷ [] } → new ≡ dual_of lengths (take (i + 1) rows)
-unfolding mk
-rows-more lengths rows i row values dual new l is v e n =
-    let more : potentials_of (take (i + 1) rows) ≡ potentials_of (take i rows) ++ record { node = row.source; values = values } ∷ []
-    = map-more rows i row l ∙ (ap (λ (r : Row). potentials_of (take i rows) ++ potential_of r ∷ []) (sym is) ∙ ap (λ (xs : List ℕ). potentials_of (take i rows) ++ record { node = row.source; values = xs } ∷ []) (sym v)) in
-    n ∙ (ap (λ (d : DualRows). mk d.lengths (d.potentials ++ record { node = row.source; values = values } ∷ [])) e ∙ ap (λ (ps : List Potential). mk (length_rows 0 lengths) ps) (sym more))

@@ -141,11 +141,6 @@ pub cut-potentials : (net : Network) (rows : List Row) → IsNetwork net → All
 cut-potentials net rows n filled = All-weaker (IsFilledWith net.nodes (IsCutPotential net.cells)) (λ (row : Row). IsPotential net.cells (cut_lengths net.cells) row.values.items)
     (λ row f. marks-are net row.values.items row.source n f.each) rows filled
 
--- all rows were filled from blank ones
-pub filled-all : (net : Network) (lengths : List ℕ) (old new : List Row) → length new ≡ length old → ((k : ℕ) (d : Row) → k < length old → Fills net lengths (get_or old k d) (get_or new k d)) → All (λ (row : Row). IsTrue row.is_filled) new
-    → All (IsFilledWith net.nodes (IsDistance net.cells lengths)) new
-filled-all net lengths old new e h on = λ k d l. (h k d (omega arith)).filled (on k d l)
-
 pub sources-kept : (old new : List Row) → length new ≡ length old → ((k : ℕ) (d : Row) → k < length old → (get_or new k d).source ≡ (get_or old k d).source) → sources_of new ≡ sources_of old
 sources-kept [] [] e h = refl
 sources-kept [] (y ∷ new) e h = absurd (omega arith)

@@ -28,20 +28,6 @@ or-false false = refl
 source-more : (xs : List Commodity) (i v : ℕ) (d : Commodity) → i < length xs → is_source (take (i + 1) xs) v ≡ (is_source (take i xs) v || (eqb (get_or xs i d).from v || false))
 source-more xs i v d l = ap (λ (ys : List Commodity). is_source ys v) (take_more xs i d l) ∙ any-append (λ k. eqb k.from v) (take i xs) (get_or xs i d ∷ [])
 
--- the source of one more commodity is marked
-pub marks-more : (xs : List Commodity) (marks : List Bool) (i from : ℕ) (d : Commodity) → i < length xs → (get_or xs i d).from ≡ from → from < length marks
-    → ((v : ℕ) → v < length marks → mark_at marks v ≡ is_source (take i xs) v) → (v : ℕ) → v < length marks → mark_at (set marks from true) v ≡ is_source (take (i + 1) xs) v
-marks-more xs marks i from d l is inside h v w = elim (cases_eq v from) [
-  | inl e ↦
-      let here : mark_at (set marks from true) v ≡ true = ap (mark_at (set marks from true)) e ∙ get_or-set_same marks from true false inside in
-      let test : eqb (get_or xs i d).from v ≡ true = eq-eqb (get_or xs i d).from v (is ∙ sym e) in
-      here ∙ sym (source-more xs i v d l ∙ rw test (or-true (is_source (take i xs) v)))
-  | inr n ↦
-      let there : mark_at (set marks from true) v ≡ mark_at marks v = get_or-set_other marks from v true false n in
-      let test : eqb (get_or xs i d).from v ≡ false = ne_eqb (get_or xs i d).from v (λ e. n (sym e ∙ is)) in
-      there ∙ (h v w ∙ sym (source-more xs i v d l ∙ rw test (or-false (is_source (take i xs) v))))
-]
-
 range-more : (a n : ℕ) → range_with_len a (suc n) ≡ range_with_len a n ++ (a + n) ∷ []
 range-more a zero = let e : a + 0 ≡ a = omega arith in rw e refl
 range-more a (suc n) =

@@ -80,7 +80,3 @@ scanned end (t ∷ ts) before m s u =
 -- what is read of all the tokens
 pub scan_reads : (end : ℕ) (tokens : List Lexeme) → IsReading tokens end (scan end (Between parts.Nodes) at_start tokens)
 scan_reads end tokens = scanned end tokens [] (Between parts.Nodes) at_start (record { short = tt; walks = refl; reads = λ ts. refl })
-
-pub text_reads : (text : List ℕ) → IsReadingOf text (read_of text)
-text_reads text = elim (starts_with nat_eq text header) as (λ (b : Bool). MatchBool b (IsReading (tokens_of text) (end_of text) (if b then scan (end_of text) (Between parts.Nodes) at_start (tokens_of text) else refused netkinds.NoHeader 1)) ((if b then scan (end_of text) (Between parts.Nodes) at_start (tokens_of text) else refused netkinds.NoHeader 1) ≡ refused netkinds.NoHeader 1))
-    [ true ↦ scan_reads (end_of text) (tokens_of text) | false ↦ refl ]

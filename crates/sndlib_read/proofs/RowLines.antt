@@ -19,9 +19,3 @@ no_row_line {Y} id view xs i h = sym (ap line_of (at_row id view xs i) ∙ ap (�
 pub map-swap : {Y X A B : Type 0} (f : A → B) (g : Y → A) (h : X → B) (k : Y → X) → ((y : Y) → f (g y) ≡ h (k y)) → (ys : List Y) → map f (map g ys) ≡ map h (map k ys)
 map-swap f g h k e [] = refl
 map-swap f g h k e (y ∷ ys) = ap (λ b. b ∷ map f (map g ys)) (e y) ∙ ap (λ bs. h (k y) ∷ bs) (map-swap f g h k e ys)
-
--- the bytes of the id of a row that was read
-pub row_text : {Y X : Type 0} (id : X → Word) (view : Y → X) (xs : List Y) (i : ℕ) (x : Y) → i < length xs → x ≡ get_or xs i x → slice_get (texts (map id (map view xs))) i ≡ Some ((id (view x)).text)
-row_text {Y} id view xs i x h is =
-    slice_get-map (λ (w : Word). w.text) (map id (map view xs)) i ∙ ap (option_map (λ (w : Word). w.text)) (at_row id view xs i)
-    ∙ ap (λ (o : Option Y). option_map (λ (w : Word). w.text) (option_map id (option_map view o))) (slice_get-get_or xs i x h) ∙ ap (λ (y : Y). Some ((id (view y)).text)) (sym is)

@@ -52,23 +52,3 @@ scans_more end m next old new t rest left all s is short e view deep skip =
       depth = omega (arith, s.depth);
       skipped = omega (arith, s.skipped);
     }
-
-pub scans_syntax : (end : ℕ) (m : Mode) (s : SofarWords) (t : Lexeme) (rest left all : List Lexeme) → Scans end m s rest all → rest ≡ t ∷ left → length t.text ≤ MAX_WORD_BYTES → mode_after m (symbol t) ≡ None
-    → scan end (Between parts.Nodes) at_start all ≡ refused netkinds.Syntax t.line
-scans_syntax end m s t rest left all h is short e = sym h.same ∙ ap (scan end m h.state) is ∙ scan_one end m h.state t left None short e
-
-pub scans_long : (end : ℕ) (m : Mode) (s : SofarWords) (t : Lexeme) (rest left all : List Lexeme) → Scans end m s rest all → rest ≡ t ∷ left → MAX_WORD_BYTES < length t.text
-    → scan end (Between parts.Nodes) at_start all ≡ refused netkinds.LongWord t.line
-scans_long end m s t rest left all h is long =
-    sym h.same ∙ ap (scan end m h.state) is
-    ∙ ap (λ (b : Bool). if b then refused netkinds.LongWord t.line else option_map_or (λ next. scan end next (kept m (symbol t) h.state) left) (mode_after m (symbol t)) (refused netkinds.Syntax t.line)) (is_long t long)
-
-pub scans_end : (end : ℕ) (s : SofarWords) (rest all : List Lexeme) → Scans end (Between parts.Rest) s rest all → rest ≡ [] → IsKept (scan end (Between parts.Nodes) at_start all) (kept_view s.rows)
-scans_end end s rest all h is = record {
-  found = h.state.entries;
-  reads = sym h.same ∙ ap (scan end (Between parts.Rest) h.state) is;
-  same = ap (λ (p : Partial). p.rows) h.view;
-}
-
-pub scans_cut : (end : ℕ) (m : Mode) (s : SofarWords) (rest all : List Lexeme) → Scans end m s rest all → rest ≡ [] → ((e : Entries) → finished m e ≡ None) → scan end (Between parts.Nodes) at_start all ≡ refused netkinds.Syntax end
-scans_cut end m s rest all h is none = sym h.same ∙ ap (scan end m h.state) is ∙ ap (λ (o : Option Entries). option_map_or Ok o (refused netkinds.Syntax end)) (none h.state.entries)
