@@ -12,7 +12,8 @@ use Rattle.flow_model.specs.declared.net.Cell.{Cell}
 use Rattle.flow_model.specs.declared.setting.Setting.{Setting}
 use Rattle.flow_model.specs.Lengths.{AreLengths, exponent, greatest_exponent, least_capacity, length_at, lengths_at}
 use Rattle.fixed_exp.specs.Far.{EmptyAreFar}
-use Rattle.fixed_exp.specs.Kept.{no_cell, cell_at, KeepsExponent}
+use Rattle.fixed_exp.specs.Changes.{IsNotIn}
+use Rattle.fixed_exp.specs.Kept.{no_cell, cell_at, KeepsExponent, greatest}
 use Rattle.mcf_limits.specs.declared.TheConstants.{MAX_UNITS}
 
 pub least_small : (cells : List Cell) → least_capacity cells ≤ MAX_UNITS
@@ -140,3 +141,30 @@ empty-far s top least cells loads e = record {
       = subst (λ (k : Cell). get_or (lengths_at s top least cells loads) c 0 ≡ length_at s top least k (get_or loads c 0)) is (get_or-lengths_at s top least cells loads c e within) in
       read ∙ rw (eq-eqb cell.cap 0 none) refl;
 }
+
+-- the value at one of the places that changed is put right
+pub changed_put : (Right : ℕ → ℕ → Type 0) (count n : ℕ) (places into : List ℕ) (j i x : ℕ) → i ≡ get_or places j 0 → i < length into → Right i x
+    → ((k : ℕ) → k < n → IsNotIn count places j k → Right k (get_or into k 0)) → (k : ℕ) → k < n → IsNotIn count places (j + 1) k → Right k (get_or (set into i x) k 0)
+changed_put Right count n places into j i x at inside right h k l none = elim (cases_eq k i) [
+  | inl e ↦ subst (λ (v : ℕ). Right v (get_or (set into i x) v 0)) (sym e) (subst (λ (v : ℕ). Right i v) (sym (get_or-set_same into i x 0 inside)) right)
+  | inr ne ↦
+      let before : IsNotIn count places j k = record {
+        each = λ m le lt. elim (cases_eq m j) [
+          | inl q ↦ λ (z : get_or places m 0 ≡ k). ne (sym z ∙ (ap (λ (v : ℕ). get_or places v 0) q ∙ sym at))
+          | inr q ↦ none.each m (omega arith) lt
+        ];
+      } in
+      subst (λ (v : ℕ). Right k v) (sym (get_or-set_other into i k x 0 ne)) (h k l before)
+]
+
+-- the greatest of the exponents as far as they fit
+pub greatest_kept : (s : Setting) (cells : List Cell) (loads kept : List ℕ) → length loads ≡ length cells → length kept ≡ length cells
+    → ((k : ℕ) → k < length cells → KeepsExponent s cells loads kept k) → greatest kept ≡ min (greatest_exponent s cells loads) (2 ^ 64 - 1)
+greatest_kept s [] loads [] e f h = refl
+greatest_kept s [] loads (y ∷ kept) e f h = absurd (omega arith)
+greatest_kept s (cell ∷ cells) [] kept e f h = absurd (omega arith)
+greatest_kept s (cell ∷ cells) (x ∷ loads) [] e f h = absurd (omega arith)
+greatest_kept s (cell ∷ cells) (x ∷ loads) (y ∷ kept) e f h =
+    let first : y ≡ min (exponent s cell x) (2 ^ 64 - 1) = h 0 (omega arith) in
+    let rest : greatest kept ≡ min (greatest_exponent s cells loads) (2 ^ 64 - 1) = greatest_kept s cells loads kept (omega arith) (omega arith) (λ k l. h (suc k) (omega arith)) in
+    omega (arith, first, rest)

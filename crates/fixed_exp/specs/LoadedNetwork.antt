@@ -13,8 +13,8 @@ pub record LoadedNetwork : Type 0 where
   pub setting : Setting
   pub loads : List ℕ
 
--- the exponents, the greatest of them, the least capacity and the lengths are those of the loads
-pub record IsLengthTable (net : Network) (s : Setting) (loads kept ready : List ℕ) (greatest smallest : ℕ) : Type 0 where
+-- the exponents, the greatest of them, the least capacity and the lengths are those of the loads, and there are as many rates and as much room for places
+pub record IsLengthTable (net : Network) (s : Setting) (loads kept ready : List ℕ) (greatest smallest rates places : ℕ) : Type 0 where
   pub fits : IsNetwork net
   pub setting : IsSetting s
   pub count : length loads ≡ length net.cells
@@ -26,3 +26,5 @@ pub record IsLengthTable (net : Network) (s : Setting) (loads kept ready : List 
   pub lengths : ready ≡ lengths_of net s loads
   pub long : AreLengths net.cells ready
   pub empty : EmptyAreFar net.cells ready
+  pub rated : rates ≡ length net.cells
+  pub room : places ≡ length net.cells

@@ -2,112 +2,240 @@
 
 ghost use Rattle.std.specs.Prelude.{◌≡◌, ℕ, ◌-◌, ◌^◌, ◌<◌, ◌≤◌, min, length, slice_index, All, IsTrue};
 ghost use Rattle.flow_model.specs.Lengths.{exponent, length_at, greatest_exponent, lengths_at};
-ghost use Rattle.fixed_exp.specs.Kept.{KeepsExponent, cell_at};
+ghost use Rattle.fixed_exp.specs.Changes.{AreBelow, IsNotIn};
+ghost use Rattle.fixed_exp.specs.Kept.{KeepsExponent, cell_at, greatest};
 
+use crate::changes::changed_places;
+use crate::lengths::exponents_of;
 use crate::powers::Powers;
+use crate::rates::Rate;
 use crate::scale::Scale;
 use flow_model::Cell;
-use mcf_limits::{MAX_LENGTH, MAX_UNITS};
+use mcf_limits::{MAX_CELLS, MAX_LENGTH, MAX_UNITS};
 
-/// The exponent of a cell, from the one kept for its load of before.
-#[inline(always)]
-fn next_exponent(scale: &Scale, cell: &Cell, old: u64, load: u64, kept: u64) -> u128
-    requires cap { cell.now.cap ≤ MAX_UNITS }
-    requires load { load ≤ MAX_LENGTH }
-    requires kept { kept ≡ min (exponent scale.now.setting cell.now old) (2 ^ 64 - 1) }
-    ensures { result ≡ exponent scale.now.setting cell.now load }
-{
-    if load == old && kept < u64::MAX {
-        return u128::from(kept);
-    }
-    scale.exponent(cell, load)
-}
-
-/// Puts each cell's exponent in the place of the one for the loads of before, as far as it fits, and gives the greatest.
-pub fn follow_exponents(
+/// Puts the exponents of the cells at the first so many places in their place, as far as they fit.
+fn put_exponents(
     scale: &Scale,
     cells: &[Cell],
-    old: &[u64],
     loads: &[u64],
+    rates: &[Rate],
+    places: &[u16],
+    count: usize,
     kept: &mut [u64],
-) -> u128
+)
     requires caps { All (λ cell. cell.cap ≤ MAX_UNITS) cells.now }
-    requires old { length old.now ≡ length cells.now }
     requires loads { length loads.now ≡ length cells.now }
     requires small { All (λ x. x ≤ MAX_LENGTH) loads.now }
-    requires count { length kept.old ≡ length cells.now }
-    requires kept { (k : ℕ) → k < length cells.now → KeepsExponent scale.now.setting cells.now old.now kept.old k }
-    ensures greatest { result ≡ greatest_exponent scale.now.setting cells.now loads.now }
-    ensures kept { (k : ℕ) → k < length cells.now → KeepsExponent scale.now.setting cells.now loads.now kept.new k }
+    requires rates { length rates.now ≡ length cells.now }
+    requires exponents { length kept.old ≡ length cells.now }
+    requires within { count ≤ length places.now }
+    requires places { AreBelow (length cells.now) count places.now }
+    requires kept { (k : ℕ) → k < length cells.now → IsNotIn count places.now 0 k → KeepsExponent scale.now.setting cells.now loads.now kept.old k }
+    ensures { (k : ℕ) → k < length cells.now → KeepsExponent scale.now.setting cells.now loads.now kept.new k }
 {
-    let mut top = 0u128;
-    for (i, slot) in kept.iter_mut().enumerate() {
-        let exponent = next_exponent(scale, &cells[i], old[i], loads[i], *slot);
-        top = exponent.max(top);
-        *slot = exponent.min(u128::from(u64::MAX)) as u64;
+    for j in 0..count {
+        let i = places[j] as usize;
+        let exponent = scale.exponent_by_rate(&cells[i], loads[i], rates[i].exponent);
+        kept[i] = exponent.min(u128::from(u64::MAX)) as u64;
+    }
+}
+
+/// The greatest number, or 0 where there is none.
+fn greatest_of(numbers: &[u64]) -> u64
+    ensures { result ≡ greatest numbers.now }
+{
+    let mut top = 0;
+    for i in 0..numbers.len() {
+        top = numbers[i].max(top);
     }
     top
 }
 
+/// Puts the exponents of the cells at the first so many places in the place of those of before, as far as they fit, and
+/// gives the greatest exponent of all cells.
+fn follow_exponents(
+    scale: &Scale,
+    cells: &[Cell],
+    loads: &[u64],
+    rates: &[Rate],
+    places: &[u16],
+    count: usize,
+    kept: &mut [u64],
+) -> u128
+    requires caps { All (λ cell. cell.cap ≤ MAX_UNITS) cells.now }
+    requires loads { length loads.now ≡ length cells.now }
+    requires small { All (λ x. x ≤ MAX_LENGTH) loads.now }
+    requires rates { length rates.now ≡ length cells.now }
+    requires exponents { length kept.old ≡ length cells.now }
+    requires within { count ≤ length places.now }
+    requires places { AreBelow (length cells.now) count places.now }
+    requires kept { (k : ℕ) → k < length cells.now → IsNotIn count places.now 0 k → KeepsExponent scale.now.setting cells.now loads.now kept.old k }
+    ensures greatest { result ≡ greatest_exponent scale.now.setting cells.now loads.now }
+    ensures kept { (k : ℕ) → k < length cells.now → KeepsExponent scale.now.setting cells.now loads.now kept.new k }
+{
+    put_exponents(scale, cells, loads, rates, places, count, kept);
+    let top = greatest_of(kept);
+    if top < u64::MAX {
+        return u128::from(top);
+    }
+    exponents_of(scale, cells, loads, kept)
+}
+
 impl Powers {
-    /// The length of a cell: the one of before, where that still stands and the load is the same.
-    #[inline(always)]
-    fn next_length(
+    /// Puts the lengths of the cells at the first so many places in their place.
+    fn put_changed_lengths(
         &self,
         scale: &Scale,
         top: u128,
         least: u64,
-        cell: &Cell,
-        old: u64,
-        load: u64,
-        kept: u64,
-        top_stands: bool,
-        before: u64,
-    ) -> u64
-        requires least { 1 ≤ cell.now.cap → least ≤ cell.now.cap }
-        requires cap { cell.now.cap ≤ MAX_UNITS }
-        requires load { load ≤ MAX_LENGTH }
-        requires top { exponent scale.now.setting cell.now load ≤ top }
-        requires kept { kept ≡ min (exponent scale.now.setting cell.now load) (2 ^ 64 - 1) }
-        requires before { IsTrue top_stands → before ≡ length_at scale.now.setting top least cell.now old }
-        ensures { result ≡ length_at scale.now.setting top least cell.now load }
+        cells: &[Cell],
+        loads: &[u64],
+        rates: &[Rate],
+        places: &[u16],
+        count: usize,
+        kept: &[u64],
+        into: &mut [u64],
+    )
+        requires caps { All (λ cell. cell.cap ≤ MAX_UNITS) cells.now }
+        requires loads { length loads.now ≡ length cells.now }
+        requires small { All (λ x. x ≤ MAX_LENGTH) loads.now }
+        requires rates { length rates.now ≡ length cells.now }
+        requires exponents { length kept.now ≡ length cells.now }
+        requires into { length into.old ≡ length cells.now }
+        requires within { count ≤ length places.now }
+        requires places { AreBelow (length cells.now) count places.now }
+        requires least { (k : ℕ) → k < length cells.now → 1 ≤ (cell_at cells.now k).cap → least ≤ (cell_at cells.now k).cap }
+        requires greatest { (k : ℕ) → k < length cells.now → exponent scale.now.setting (cell_at cells.now k) (slice_index loads.now k) ≤ top }
+        requires kept { (k : ℕ) → k < length cells.now → KeepsExponent scale.now.setting cells.now loads.now kept.now k }
+        requires before { (k : ℕ) → k < length cells.now → IsNotIn count places.now 0 k → slice_index into.old k ≡ length_at scale.now.setting top least (cell_at cells.now k) (slice_index loads.now k) }
+        ensures { into.new ≡ lengths_at scale.now.setting top least cells.now loads.now }
     {
-        if top_stands && load == old {
-            return before;
+        for j in 0..count {
+            let i = places[j] as usize;
+            into[i] = self.cell_length_by_rate(
+                scale,
+                top,
+                least,
+                &cells[i],
+                loads[i],
+                kept[i],
+                rates[i].length,
+            );
         }
-        self.cell_length(scale, top, least, cell, load, kept)
     }
 
-    /// Puts each cell's length in the place of the one for the loads of before. Where the greatest exponent stands,
-    /// the lengths of cells with the same load stand too.
-    pub fn follow_lengths(
+    /// Puts the length of each cell in its place.
+    fn put_all_lengths(
+        &self,
+        scale: &Scale,
+        top: u128,
+        least: u64,
+        cells: &[Cell],
+        loads: &[u64],
+        rates: &[Rate],
+        kept: &[u64],
+        into: &mut [u64],
+    )
+        requires caps { All (λ cell. cell.cap ≤ MAX_UNITS) cells.now }
+        requires loads { length loads.now ≡ length cells.now }
+        requires small { All (λ x. x ≤ MAX_LENGTH) loads.now }
+        requires rates { length rates.now ≡ length cells.now }
+        requires exponents { length kept.now ≡ length cells.now }
+        requires into { length into.old ≡ length cells.now }
+        requires least { (k : ℕ) → k < length cells.now → 1 ≤ (cell_at cells.now k).cap → least ≤ (cell_at cells.now k).cap }
+        requires greatest { (k : ℕ) → k < length cells.now → exponent scale.now.setting (cell_at cells.now k) (slice_index loads.now k) ≤ top }
+        requires kept { (k : ℕ) → k < length cells.now → KeepsExponent scale.now.setting cells.now loads.now kept.now k }
+        ensures { into.new ≡ lengths_at scale.now.setting top least cells.now loads.now }
+    {
+        for i in 0..into.len() {
+            into[i] = self.cell_length_by_rate(
+                scale,
+                top,
+                least,
+                &cells[i],
+                loads[i],
+                kept[i],
+                rates[i].length,
+            );
+        }
+    }
+
+    /// Puts each cell's length in the place of the one of before. Where the greatest exponent stands, the lengths of cells
+    /// at none of the places stand too.
+    fn follow_lengths(
         &self,
         scale: &Scale,
         top: u128,
         top_stands: bool,
         least: u64,
         cells: &[Cell],
-        old: &[u64],
         loads: &[u64],
+        rates: &[Rate],
+        places: &[u16],
+        count: usize,
         kept: &[u64],
         into: &mut [u64],
     )
         requires caps { All (λ cell. cell.cap ≤ MAX_UNITS) cells.now }
-        requires old { length old.now ≡ length cells.now }
         requires loads { length loads.now ≡ length cells.now }
         requires small { All (λ x. x ≤ MAX_LENGTH) loads.now }
-        requires count { length kept.now ≡ length cells.now }
+        requires rates { length rates.now ≡ length cells.now }
+        requires exponents { length kept.now ≡ length cells.now }
         requires into { length into.old ≡ length cells.now }
+        requires within { count ≤ length places.now }
+        requires places { AreBelow (length cells.now) count places.now }
         requires least { (k : ℕ) → k < length cells.now → 1 ≤ (cell_at cells.now k).cap → least ≤ (cell_at cells.now k).cap }
         requires greatest { (k : ℕ) → k < length cells.now → exponent scale.now.setting (cell_at cells.now k) (slice_index loads.now k) ≤ top }
         requires kept { (k : ℕ) → k < length cells.now → KeepsExponent scale.now.setting cells.now loads.now kept.now k }
-        requires before { IsTrue top_stands → (k : ℕ) → k < length cells.now → slice_index into.old k ≡ length_at scale.now.setting top least (cell_at cells.now k) (slice_index old.now k) }
+        requires before { IsTrue top_stands → (k : ℕ) → k < length cells.now → IsNotIn count places.now 0 k → slice_index into.old k ≡ length_at scale.now.setting top least (cell_at cells.now k) (slice_index loads.now k) }
         ensures { into.new ≡ lengths_at scale.now.setting top least cells.now loads.now }
     {
-        for (i, slot) in into.iter_mut().enumerate() {
-            *slot = self.next_length(
-                scale, top, least, &cells[i], old[i], loads[i], kept[i], top_stands, *slot,
+        if top_stands {
+            self.put_changed_lengths(
+                scale, top, least, cells, loads, rates, places, count, kept, into,
             );
+        } else {
+            self.put_all_lengths(scale, top, least, cells, loads, rates, kept, into);
         }
+    }
+
+    /// Puts the exponents and the lengths under these loads in the place of those under the loads of before, and gives the
+    /// greatest exponent. `places` is room.
+    pub fn follow(
+        &self,
+        scale: &Scale,
+        before: u128,
+        least: u64,
+        cells: &[Cell],
+        old: &[u64],
+        loads: &[u64],
+        rates: &[Rate],
+        places: &mut [u16],
+        kept: &mut [u64],
+        into: &mut [u64],
+    ) -> u128
+        requires caps { All (λ cell. cell.cap ≤ MAX_UNITS) cells.now }
+        requires few { length cells.now ≤ MAX_CELLS }
+        requires old { length old.now ≡ length cells.now }
+        requires loads { length loads.now ≡ length cells.now }
+        requires small { All (λ x. x ≤ MAX_LENGTH) loads.now }
+        requires rates { length rates.now ≡ length cells.now }
+        requires room { length places.old ≡ length cells.now }
+        requires exponents { length kept.old ≡ length cells.now }
+        requires into { length into.old ≡ length cells.now }
+        requires least { (k : ℕ) → k < length cells.now → 1 ≤ (cell_at cells.now k).cap → least ≤ (cell_at cells.now k).cap }
+        requires kept { (k : ℕ) → k < length cells.now → KeepsExponent scale.now.setting cells.now old.now kept.old k }
+        requires lengths { (k : ℕ) → k < length cells.now → slice_index into.old k ≡ length_at scale.now.setting before least (cell_at cells.now k) (slice_index old.now k) }
+        ensures greatest { result ≡ greatest_exponent scale.now.setting cells.now loads.now }
+        ensures kept { (k : ℕ) → k < length cells.now → KeepsExponent scale.now.setting cells.now loads.now kept.new k }
+        ensures lengths { into.new ≡ lengths_at scale.now.setting result least cells.now loads.now }
+    {
+        let count = changed_places(old, loads, places);
+        let top = follow_exponents(scale, cells, loads, rates, places, count, kept);
+        let stands = top == before;
+        self.follow_lengths(
+            scale, top, stands, least, cells, loads, rates, places, count, kept, into,
+        );
+        top
     }
 }

@@ -4,12 +4,12 @@ ghost use Rattle.std.specs.Prelude.{◌≡◌, ℕ, ◌≤◌, length, slice_ind
 ghost use Rattle.flow_model.specs.Lengths.{AreLengths, IsSetting, lengths_of};
 ghost use Rattle.fixed_exp.specs.Far.{EmptyAreFar};
 
-use crate::follow::follow_exponents;
 use crate::lengths::{exponents_of, least_of};
 use crate::powers::Powers;
+use crate::rates::{NO_RATE, Rate};
 use crate::scale::Scale;
-use flow_model::{Net, Setting};
-use mcf_limits::MAX_LENGTH;
+use flow_model::{Cell, Net, Setting};
+use mcf_limits::{MAX_LENGTH, MAX_UNITS};
 use std::alloc::{AllocError, Global};
 use std::marker::Model;
 use std::snapshot::Snapshot;
@@ -25,16 +25,30 @@ pub struct LengthTable {
     loads: Vec<u64>,
     exponents: Vec<u64>,
     lengths: Vec<u64>,
+    rates: Vec<Rate>,
+    // room for the places at which loads change
+    places: Vec<u16>,
 }
 
 impl Model for LengthTable {
+    ghost use Rattle.std.specs.Prelude.{length};
     ghost use Rattle.fixed_exp.specs.LoadedNetwork.{LoadedNetwork, IsLengthTable};
 
     ghost Value = { LoadedNetwork };
 
     ghost view = { λ t. record { net = t.net.value; setting = t.scale.setting; loads = t.loads.items } };
 
-    ghost invariant = { λ t. IsLengthTable t.net.value t.scale.setting t.loads.items t.exponents.items t.lengths.items t.top t.least };
+    ghost invariant = { λ t. IsLengthTable t.net.value t.scale.setting t.loads.items t.exponents.items t.lengths.items t.top t.least (length t.rates.items) (length t.places.items) };
+}
+
+/// Puts each cell's rate in its place.
+fn put_rates(scale: &Scale, cells: &[Cell], least: u64, into: &mut [Rate])
+    requires caps { All (λ cell. cell.cap ≤ MAX_UNITS) cells.now }
+    requires into { length into.old ≡ length cells.now }
+{
+    for (i, slot) in into.iter_mut().enumerate() {
+        *slot = scale.rate(&cells[i], least);
+    }
 }
 
 impl LengthTable {
@@ -54,31 +68,24 @@ impl LengthTable {
         let loads = vec![in alloc; 0; cells.len()]?;
         let mut exponents = vec![in alloc; 0; cells.len()]?;
         let mut lengths = vec![in alloc; 0; cells.len()]?;
+        let places = vec![in alloc; 0u16; cells.len()]?;
         let scale = Scale::new(setting);
+        let least = least_of(cells);
+        let mut rates = vec![in alloc; NO_RATE; cells.len()]?;
+        put_rates(&scale, cells, least, &mut rates);
         let top = exponents_of(&scale, cells, &loads, &mut exponents);
         powers.lengths(net, setting, &loads, &mut lengths);
         Ok(LengthTable {
             net: Snapshot::of(net),
             scale,
-            least: least_of(cells),
+            least,
             top,
             loads,
             exponents,
             lengths,
+            rates,
+            places,
         })
-    }
-
-    /// Takes another setting for the same loads. It takes no memory.
-    pub fn set_setting(&mut self, powers: &Powers, net: &Net, setting: &Setting)
-        requires net { net.now ≡ self.old.net }
-        requires setting { IsSetting setting.now }
-        ensures net { self.new.net ≡ self.old.net }
-        ensures setting { self.new.setting ≡ setting.now }
-        ensures loads { self.new.loads ≡ self.old.loads }
-    {
-        self.scale = Scale::new(setting);
-        self.top = exponents_of(&self.scale, net.cells(), &self.loads, &mut self.exponents);
-        powers.lengths(net, setting, &self.loads, &mut self.lengths);
     }
 
     /// Takes other loads, one for each cell. It takes no memory. Every load is compared with the one of before; an
@@ -92,16 +99,16 @@ impl LengthTable {
         ensures loads { self.new.loads ≡ loads.now }
     {
         let cells = net.cells();
-        let top = follow_exponents(&self.scale, cells, &self.loads, loads, &mut self.exponents);
-        powers.follow_lengths(
+        let top = powers.follow(
             &self.scale,
-            top,
-            top == self.top,
+            self.top,
             self.least,
             cells,
             &self.loads,
             loads,
-            &self.exponents,
+            &self.rates,
+            &mut self.places,
+            &mut self.exponents,
             &mut self.lengths,
         );
         self.top = top;

@@ -60,6 +60,22 @@ impl Powers {
         length.max(1)
     }
 
+    /// The exponent of a cell, from what was kept of it.
+    #[inline(always)]
+    pub fn kept_exponent(scale: &Scale, top: u128, cell: &Cell, load: u64, kept: u64) -> u128
+        requires cap { cell.now.cap ≤ MAX_UNITS }
+        requires load { load ≤ MAX_LENGTH }
+        requires top { exponent scale.now.setting cell.now load ≤ top }
+        requires kept { kept ≡ min (exponent scale.now.setting cell.now load) (2 ^ 64 - 1) }
+        ensures { result ≡ exponent scale.now.setting cell.now load }
+    {
+        if top <= u128::from(u64::MAX) {
+            u128::from(kept)
+        } else {
+            scale.exponent(cell, load)
+        }
+    }
+
     /// The length of a cell whose exponent was kept as far as it fits.
     #[inline(always)]
     pub fn cell_length(
@@ -81,11 +97,7 @@ impl Powers {
         if cell.cap == 0 {
             return MAX_LENGTH;
         }
-        let exponent = if top <= u128::from(u64::MAX) {
-            u128::from(kept)
-        } else {
-            scale.exponent(cell, load)
-        };
+        let exponent = Self::kept_exponent(scale, top, cell, load, kept);
         self.length(top - exponent, least, cell.cap)
     }
 

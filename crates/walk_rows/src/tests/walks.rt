@@ -91,10 +91,16 @@ fn lengths_before_and_after_a_load(rt: HostRuntime) -> Result<(), Fail> {
         table.lengths(),
         [4503599627370496, 1930114126015926].as_slice()
     );
-    table.set_setting(&powers, &net, &LATER);
+    let mut table = LengthTable::new(alloc, &powers, &net, &LATER)?;
+    table.update(&powers, &net, &[0, 10]);
     assert_eq!(rt;
         table.lengths(),
         [2251799813685248, 1930114126015926].as_slice()
+    );
+    table.update(&powers, &net, &[0, 0]);
+    assert_eq!(rt;
+        table.lengths(),
+        [4503599627370496, 1930114126015926].as_slice()
     );
     Ok(())
 }

@@ -1,10 +1,9 @@
-use Rattle.std.proofs.Common.{◌≡◌, ◌<◌, ◌≤◌, ℕ, get_or}
+use Rattle.std.proofs.Common.{◌≡◌, ◌<◌, ℕ, get_or}
 use Rattle.flow_model.specs.Lengths.{length_at}
 use Rattle.fixed_exp.specs.Kept.{cell_at}
-use Rattle.fixed_exp.proofs.powers.Powers.follow_lengths.Given as goal
+use Rattle.fixed_exp.proofs.powers.Powers.put_all_lengths.Given as goal
 
 abbrev pub invariant-loop-i : goal.invariant-loop-i
 invariant-loop-i l = record {
   done : (k : ℕ) → k < l.i → get_or l.into k 0 ≡ length_at l.scale.setting l.top l.least (cell_at l.cells k) (get_or l.loads k 0);
-  rest : (k : ℕ) → l.i ≤ k → get_or l.into k 0 ≡ get_or l.fn.into k 0;
 }

@@ -1,0 +1,17 @@
+use Rattle.std.proofs.Common.{◌≡◌, ◌-◌, ◌^◌, length, arith, min, get_or, refl}
+use Rattle.flow_model.specs.Lengths.{exponent}
+use Rattle.fixed_exp.specs.Kept.{cell_at}
+use Rattle.fixed_exp.proofs.Passes.{changed_put}
+use Rattle.fixed_exp.proofs.follow.put_exponents.Goals as goal
+
+pub loop-j-preserved : goal.loop-j-preserved
+loop-j-preserved c =
+    let s = c.args.scale.now.setting in
+    let cells = c.args.cells.now in
+    let loads = c.args.loads.now in
+    let places = c.args.places.now in
+    let i = get_or places c.loop-j.j 0 in
+    let put : c.min.result ≡ min (exponent s (cell_at cells i) (get_or loads i 0)) (2 ^ 64 - 1) = cc in
+    record {
+      kept = changed_put (λ k v. v ≡ min (exponent s (cell_at cells k) (get_or loads k 0)) (2 ^ 64 - 1)) c.args.count (length cells) places c.loop-j.kept c.loop-j.j i c.min.result refl (omega (arith, c.requires.places.each c.loop-j.j (omega arith))) put c.loop-j.invariant.kept;
+    }

@@ -1,0 +1,9 @@
+use Rattle.std.proofs.Common.{◌<◌, ℕ, length}
+use Rattle.fixed_exp.specs.Changes.{IsNotIn}
+use Rattle.fixed_exp.specs.Kept.{KeepsExponent}
+use Rattle.fixed_exp.proofs.follow.put_exponents.Given as goal
+
+abbrev pub invariant-loop-j : goal.invariant-loop-j
+invariant-loop-j l = record {
+  kept : (k : ℕ) → k < length l.cells → IsNotIn l.count l.places l.j k → KeepsExponent l.scale.setting l.cells l.loads l.kept k;
+}

@@ -1,0 +1,101 @@
+//! Divisions by numbers that stay the same, by a guess that is verified.
+
+ghost use Rattle.std.specs.Prelude.{◌≡◌, ◌-◌, ◌*◌, ◌/◌, ◌^◌, ◌<◌, ◌≤◌, max, min};
+ghost use Rattle.flow_model.specs.Lengths.{exponent, length_at};
+ghost use Rattle.flow_model.specs.Powers.{weight_of};
+
+use crate::powers::Powers;
+use crate::scale::Scale;
+use flow_model::Cell;
+use mcf_limits::{MAX_LENGTH, MAX_UNITS};
+
+/// What a unit of load adds to a cell's exponent, and what a unit of weight adds to its length, in fixed point. Guesses
+/// of quotients are made by them; no answer depends on them.
+#[derive(Clone, Copy)]
+pub struct Rate {
+    pub exponent: u64,
+    pub length: u64,
+}
+
+/// The rate of a cell without capacity.
+pub const NO_RATE: Rate = Rate {
+    exponent: 0,
+    length: 0,
+};
+
+/// The quotient, rounded down. It is quick where the guess is it, or one less: a division takes as long as some ten
+/// multiplications.
+#[inline(always)]
+pub fn quotient(above: u128, below: u128, guess: u64) -> u128
+    requires positive { 0 < below }
+    requires fits { guess * below < 2 ^ 128 }
+    ensures { result ≡ above / below }
+{
+    let taken = u128::from(guess) * below;
+    if taken <= above {
+        let rest = above - taken;
+        if rest < below {
+            return u128::from(guess);
+        }
+        if rest - below < below {
+            return u128::from(guess) + 1;
+        }
+    }
+    above / below
+}
+
+/// The same for a guess that may be of any size.
+#[inline(always)]
+pub fn quotient_near(above: u128, below: u64, guess: u128) -> u128
+    requires { 0 < below }
+    ensures { result ≡ above / below }
+{
+    if guess <= u128::from(u64::MAX) {
+        return quotient(above, u128::from(below), guess as u64);
+    }
+    above / u128::from(below)
+}
+
+impl Powers {
+    /// The length of a positive cell. The rate makes it quick, and has no part in the value.
+    #[inline(always)]
+    fn length_by_rate(&self, drop: u128, least: u64, cap: u64, rate: u64) -> u64
+        requires positive { 1 ≤ cap }
+        requires least { least ≤ cap }
+        requires cap { cap ≤ MAX_UNITS }
+        ensures { result ≡ max 1 (weight_of drop * 4096 * least / cap) }
+    {
+        let weight = u128::from(self.weight(drop));
+        let above = weight * 4096 * u128::from(least);
+        let guess = (weight * u128::from(rate)) >> 40;
+        let length = quotient_near(above, cap, guess);
+        (length as u64).max(1)
+    }
+
+    /// The length of a cell whose exponent was kept as far as it fits. The rate makes it quick, and has no part in the
+    /// value.
+    #[inline(always)]
+    pub fn cell_length_by_rate(
+        &self,
+        scale: &Scale,
+        top: u128,
+        least: u64,
+        cell: &Cell,
+        load: u64,
+        kept: u64,
+        rate: u64,
+    ) -> u64
+        requires least { 1 ≤ cell.now.cap → least ≤ cell.now.cap }
+        requires cap { cell.now.cap ≤ MAX_UNITS }
+        requires load { load ≤ MAX_LENGTH }
+        requires top { exponent scale.now.setting cell.now load ≤ top }
+        requires kept { kept ≡ min (exponent scale.now.setting cell.now load) (2 ^ 64 - 1) }
+        ensures { result ≡ length_at scale.now.setting top least cell.now load }
+    {
+        if cell.cap == 0 {
+            return MAX_LENGTH;
+        }
+        let exponent = Self::kept_exponent(scale, top, cell, load, kept);
+        self.length_by_rate(top - exponent, least, cell.cap, rate)
+    }
+}
