@@ -4,13 +4,14 @@ use Rattle.std.specs.Prelude.{All, Contains, slice_get}
 use Rattle.std.proofs.lemmas.List.{same_lists, length-map, get_or-map, map-append}
 use Rattle.std.proofs.lemmas.List.Elements.{All-push, All-head, All-tail, All-weaker, Contains-get_or}
 use Rattle.std.proofs.lemmas.List.Sums.{sum_by_push}
-use Rattle.std.proofs.lemmas.Option.{slice_get-get_or, get_or_from_slice_get}
+use Rattle.std.proofs.lemmas.Option.{slice_get-get_or, slice_get_within, get_or_from_slice_get}
 use Rattle.mcf_limits.specs.declared.TheConstants.{MAX_LENGTH, MAX_PHASES, MAX_UNITS}
 use Rattle.flow_model.specs.declared.net.Commodity.{Commodity}
 use Rattle.flow_model.specs.Network.{Network}
 use Rattle.flow_model.specs.Routing.{Row}
 use Rattle.flow_paths.specs.PathRows.{row_at, IsFirstRow, Adds}
 use Rattle.flow_core.specs.Phase.{Routed}
+use Rattle.commodity_claims.specs.Routes.{Route}
 use Rattle.phase_engine.specs.declared.hand.Hand.{Hand}
 use Rattle.phase_engine.specs.Routing.{HasRouted}
 use Rattle.solver_run.specs.declared.options.Entry.{Entry}
@@ -19,7 +20,7 @@ use Rattle.path_history.specs.declared.places.Place.{Place}
 use Rattle.path_history.specs.Phases.{NamesBelow}
 use Rattle.path_history.specs.Rows.{AreRowsFor}
 use Rattle.path_history.specs.Routes.{IsRoutedOnce}
-use Rattle.path_history.specs.Adding.{no_route, IsPlaceOf, KeepsRows, AreBegun, AreNamed}
+use Rattle.path_history.specs.Adding.{no_route, path_at, IsPlaceOf, KeepsRows, AreBegun, AreNamed}
 use Rattle.path_history.proofs.Adds.{pushed_at, added, keeps_both}
 use Rattle.path_history.proofs.Times.{names_of, can_grow}
 use Rattle.path_history.proofs.OneMore.{one_more}
@@ -98,12 +99,16 @@ pub adds_begun : (net : Network) (h : List (List Entry)) (es : List Entry) (old 
     → Adds old new k path c.amount n → AreBegun net h (es ++ record { worker = w; row = n } ∷ []) new
 adds_begun net h es old new path c k n w is b at adds = one_more net h es old new path c n w b (ap (slice_get net.commodities) is ∙ at) (subst (λ i. Adds old new i path c.amount n) (sym is) adds)
 
+-- the routes of the hand of that number
+pub routes_there : (hands : List Hand) (w : ℕ) (hand : Hand) → slice_get hands w ≡ Some hand → get_or (map (λ (h : Hand). h.routes) hands) w [] ≡ hand.routes
+routes_there hands w hand found =
+    get_or-map (λ (h : Hand). h.routes) hands w hand [] (slice_get_within hands w hand found) ∙ ap (λ (h : Hand). h.routes) (get_or_from_slice_get hands w hand hand found)
+
 -- the route at a place
-pub routed_from_place : (hands : List Hand) (k : ℕ) (p : Place) (hand : Hand) (path : List ℕ) → IsPlaceOf hands k p → hand ≡ get_or hands p.hand hand → path ≡ (get_or hand.routes p.route no_route).path → HasRouted hands p.hand k path
-routed_from_place hands k p hand path is at has =
-    let same : hand ≡ is.hand = at ∙ get_or_from_slice_get hands p.hand is.hand hand is.found in
+pub routed_at : (hands : List Hand) (k : ℕ) (p : Place) (path : List ℕ) → IsPlaceOf hands k p → path ≡ path_at hands p → HasRouted hands p.hand k path
+routed_at hands k p path is has =
     let r = get_or is.hand.routes p.route no_route in
-    let along : r.path ≡ path = sym (has ∙ ap (λ (h : Hand). (get_or h.routes p.route no_route).path) same) in
+    let along : r.path ≡ path = sym (has ∙ ap (λ (rs : List Route). (get_or rs p.route no_route).path) (routes_there hands p.hand is.hand is.found)) in
     (is.hand, is.found, subst (λ i. Contains is.hand.routes (record { commodity = i; path = path })) is.at.commodity (subst (λ q. Contains is.hand.routes (record { commodity = r.commodity; path = q })) along (Contains-get_or is.hand.routes p.route no_route is.at.within)))
 
 pub adds_named : (net : Network) (h : List (List Entry)) (hands : List Hand) (es : List Entry) (old new : List Row) (path : List ℕ) (k n w a : ℕ) → length es ≡ k → AreBegun net h es old → Adds old new k path a n → AreNamed hands old es
