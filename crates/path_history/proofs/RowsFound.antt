@@ -1,15 +1,13 @@
 -- Rows that were found, while rows are added.
-use Rattle.std.proofs.Common.{◌≡◌, ℕ, ◌+◌, ◌<◌, List, [], length, get_or, set, Option, Some, None, inl, inr, sym, ap, subst, ◌∙◌, arith, get_or-set_other, get_or-set_same}
-use Rattle.std.specs.Prelude.{IfSome, MatchOption, map}
+use Rattle.std.proofs.Common.{◌≡◌, ℕ, ◌+◌, ◌<◌, List, [], length, get_or, set, Option, Some, None, inl, inr, sym, subst, ◌∙◌, arith, get_or-set_other, get_or-set_same}
+use Rattle.std.specs.Prelude.{IfSome, MatchOption}
 use Rattle.std.proofs.lemmas.Bool.{cases_eq}
-use Rattle.std.proofs.lemmas.List.{get_or-map, length-map}
+use Rattle.std.proofs.lemmas.List.{get_or-map}
 use denote.Ref.{Bor}
 use Rattle.flow_model.specs.Routing.{Row}
 use Rattle.flow_paths.specs.PathRows.{row_at, HasNoRow, IsFirstRow}
-use Rattle.phase_engine.specs.declared.hand.Hand.{Hand}
-use Rattle.path_history.specs.declared.places.Place.{Place}
 use Rattle.path_history.specs.Rows.{AreApart}
-use Rattle.path_history.specs.Adding.{path_at, paths_in, IsRowFor, KeepsRows}
+use Rattle.path_history.specs.Adding.{paths_in, IsRowFor, KeepsRows}
 
 -- where no two rows are alike, a row that is kept is still the first of its commodity and path
 still_first : (old new : List Row) (k : ℕ) (path : List ℕ) (n : ℕ) → KeepsRows old new → AreApart new → IsFirstRow old k path n → IsFirstRow new k path n
@@ -51,13 +49,3 @@ pub row_for : (rows : List Row) (slices : List (Bor (List ℕ))) (k : ℕ) (d : 
 row_for rows slices k d row inside found = record {
   is = subst (λ (p : List ℕ). MatchOption row (HasNoRow rows k p) (IsFirstRow rows k p)) (sym (path_in slices k d inside)) found;
 }
-
--- the paths in the slices are those of the places
-pub path_there : (hands : List Hand) (places : List Place) (slices : List (Bor (List ℕ))) (k : ℕ) (d : Bor (List ℕ)) (none : Place) → paths_in slices ≡ map (path_at hands) places → k < length places
-    → (k < length slices) × ((get_or slices k d).now ≡ path_at hands (get_or places k none))
-path_there hands places slices k d none are l =
-    let long = ap (λ (t : List (List ℕ)). length t) are in
-    let a = length-map slices (λ (s : Bor (List ℕ)). s.now) in
-    let b = length-map places (path_at hands) in
-    let inside : k < length slices = omega (arith, long, a, b, l) in
-    (inside, sym (path_in slices k d inside) ∙ ap (λ (t : List (List ℕ)). get_or t k []) are ∙ get_or-map (path_at hands) places k none [] l)

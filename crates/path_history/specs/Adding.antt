@@ -6,7 +6,6 @@ use Rattle.flow_model.specs.Routing.{Row}
 use Rattle.flow_paths.specs.PathRows.{row_at, HasNoRow, IsFirstRow}
 use Rattle.commodity_claims.specs.Routes.{Route}
 use Rattle.phase_engine.specs.declared.hand.Hand.{Hand}
-use Rattle.phase_engine.specs.Routing.{HasRouted}
 use Rattle.solver_run.specs.declared.options.Entry.{Entry}
 use Rattle.solver_run.specs.History.{path_named, IsWeighed, NamesRows}
 use Rattle.path_history.specs.declared.places.Place.{Place}
@@ -56,6 +55,11 @@ pub record AreBegun (net : Network) (history : List (List Entry)) (entries : Lis
   pub weighed : (n : ℕ) (row : Row) → slice_get rows n ≡ Some row → IsWeighed net (history ++ entries ∷ []) n row
   pub few : length rows ≤ length net.commodities * length history + length entries
 
--- each entry is a hand's route for its commodity
-pub record AreNamed (hands : List Hand) (rows : List Row) (entries : List Entry) : Type 0 where
-  pub each : (k : ℕ) (e : Entry) → slice_get entries k ≡ Some e → HasRouted hands e.worker k (path_named rows e)
+-- the entry's worker is the hand at its commodity's place, and its row is of the path there
+pub record IsNamedAt (places : List Place) (paths : List (List ℕ)) (rows : List Row) (k : ℕ) (e : Entry) : Type 0 where
+  pub worker : e.worker ≡ (slice_index_or places k no_place).hand
+  pub path : path_named rows e ≡ slice_index_or paths k []
+
+-- so for each entry
+pub record AreNamed (places : List Place) (paths : List (List ℕ)) (rows : List Row) (entries : List Entry) : Type 0 where
+  pub each : (k : ℕ) (e : Entry) → slice_get entries k ≡ Some e → IsNamedAt places paths rows k e

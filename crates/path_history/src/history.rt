@@ -50,7 +50,7 @@ impl PathHistory {
     ghost use Rattle.solver_run.specs.History.{routed_in, AreRowsOf};
     ghost use Rattle.path_history.specs.Rows.{phases_kept, AreRowsFor};
     ghost use Rattle.path_history.specs.Routes.{IsRoutedOnce, HaveRouted};
-    ghost use Rattle.path_history.specs.Adding.{no_place, path_at, paths_in, IsPlaceOf, IsRowFor, KeepsRows, AreBegun, AreNamed};
+    ghost use Rattle.path_history.specs.Adding.{paths_in, IsRowFor, KeepsRows, AreBegun, AreNamed};
 
     /// No phase and no row, for the commodities of the network.
     pub fn new(alloc: Global, net: &Net) -> Self
@@ -96,12 +96,11 @@ impl PathHistory {
         }
     }
 
-    /// Adds the route of each commodity to the rows, where its row may have been found, and answers the entries.
+    /// Adds the path of each commodity to the rows, where its row may have been found, and answers the entries.
     fn name_rows(
         &mut self,
         alloc: Global,
         net: &Net,
-        hands: &[Hand],
         places: &[Place],
         paths: &[&[u16]],
         found: &[Option<u32>],
@@ -110,8 +109,7 @@ impl PathHistory {
         requires phases { length self.old.history < MAX_PHASES }
         requires work { length net.now.commodities * (length self.old.history + 1) ≤ MAX_WORK }
         requires count { length places.now ≡ length net.now.commodities }
-        requires places { (k : ℕ) → k < length net.now.commodities → IsPlaceOf hands.now k (slice_index_or places.now k no_place) }
-        requires paths { paths_in paths.now ≡ map (path_at hands.now) places.now }
+        requires path_count { length paths.now ≡ length net.now.commodities }
         requires found_count { length found.now ≡ length net.now.commodities }
         requires found { (k : ℕ) → k < length net.now.commodities → IsRowFor self.old.rows (paths_in paths.now) k (slice_index_or found.now k None) }
         ensures commodities { self.new.commodities ≡ self.old.commodities }
@@ -119,15 +117,14 @@ impl PathHistory {
         ensures keeps { KeepsRows self.old.rows self.new.rows }
         ensures count { IfOk result (λ v. length v.items ≡ length net.now.commodities) }
         ensures begun { IfOk result (λ v. AreBegun net.now self.old.history v.items self.new.rows) }
-        ensures named { IfOk result (λ v. AreNamed hands.now self.new.rows v.items) }
+        ensures named { IfOk result (λ v. AreNamed places.now (paths_in paths.now) self.new.rows v.items) }
     {
         let commodities = net.commodities();
         let mut entries = Vec::with_capacity(alloc, commodities.len())?;
         for k in 0..commodities.len() {
-            let place = places[k];
             let row = self.add_path(found[k], k as u32, paths[k], commodities[k].amount)?;
             entries.push(Entry {
-                worker: place.hand,
+                worker: places[k].hand,
                 row,
             })?;
         }
@@ -159,7 +156,7 @@ impl PathHistory {
         let places = places_of(alloc, net, hands)?;
         let paths = paths_of(alloc, hands, &places)?;
         let found = found_rows(rt, alloc, hands.len(), &self.paths, &paths)?;
-        let entries = self.name_rows(alloc, net, hands, &places, &paths, &found)?;
+        let entries = self.name_rows(alloc, net, &places, &paths, &found)?;
         self.entries.push(&entries)?;
         Ok(())
     }

@@ -10,8 +10,8 @@ use Rattle.flow_paths.specs.PathRows.{IsFirstRow, Adds}
 use Rattle.solver_run.specs.declared.options.Entry.{Entry}
 use Rattle.path_history.specs.declared.places.Place.{Place}
 use Rattle.path_history.specs.Adding.{paths_in}
-use Rattle.path_history.proofs.RowsFound.{path_in, path_there, still_found}
-use Rattle.path_history.proofs.Named.{can_add, adds_begun, adds_named, adds_keep, routed_at}
+use Rattle.path_history.proofs.RowsFound.{path_in, still_found}
+use Rattle.path_history.proofs.Named.{can_add, adds_begun, adds_named, adds_keep}
 use Rattle.path_history.proofs.history.PathHistory.name_rows.Goals as goal
 
 no_commodity : Commodity
@@ -26,9 +26,9 @@ add_path-requires-clause-found c =
     let k = c.loop-k.k in
     let l : k < length c.args.net.now.commodities = subst (λ (t : List Commodity). k < length t) c.commodities-commodities.ensures.value c.loop-k-test.true in
     let slices = c.args.paths.now in
-    let there = path_there c.args.hands.now c.args.places.now slices k no_slice (record { hand = 0; route = 0 }) c.requires.paths (omega (arith, l, c.requires.count)) in
+    let inside : k < length slices = omega (arith, l, c.requires.path_count) in
     let row = get_or c.args.found.now k None in
-    subst (λ (p : List ℕ). IfSome row (IsFirstRow c.loop-k.self.rows k p)) (path_in slices k no_slice there.0)
+    subst (λ (p : List ℕ). IfSome row (IsFirstRow c.loop-k.self.rows k p)) (path_in slices k no_slice inside)
     (still_found c.args.self.now.rows c.loop-k.self.rows (paths_in slices) k row c.loop-k.invariant.keeps c.loop-k.invariant.begun.apart (c.requires.found k l))
 
 pub add_path-requires-clause-weight : goal.add_path-requires-clause-weight
@@ -64,13 +64,12 @@ loop-k-preserved c =
     let path = (get_or c.args.paths.now k no_slice).now in
     let adds = subst (λ (t : List Commodity). Adds old new k path (get_or t k no_commodity).amount c.in_ok-row.row) v c.in_ok-row.ensures.ok in
     let pushed : c.push.new.self.items ≡ es ++ e ∷ [] = c.in_ok-push.ensures.items in
-    let there = path_there c.args.hands.now c.args.places.now c.args.paths.now k no_slice none c.requires.paths (omega (arith, l, c.requires.count)) in
-    let has = routed_at c.args.hands.now k p path (c.requires.places k l) there.1 in
+    let inside : k < length c.args.paths.now = omega (arith, l, c.requires.path_count) in
     record {
       count = ap (λ (t : List Entry). length t) pushed ∙ length-append es (e ∷ []) ∙ ap (λ n. n + 1) c.loop-k.invariant.count;
       commodities = c.in_ok-row.ensures.commodities ∙ c.loop-k.invariant.commodities;
       history = c.in_ok-row.ensures.history ∙ c.loop-k.invariant.history;
       keeps = adds_keep c.args.self.now.rows old new path k c.in_ok-row.row this.amount c.loop-k.invariant.keeps adds;
       begun = rw pushed (adds_begun net c.args.self.now.history es old new path this k c.in_ok-row.row p.hand c.loop-k.invariant.count c.loop-k.invariant.begun (slice_get-get_or net.commodities k no_commodity l) adds);
-      named = rw pushed (adds_named net c.args.self.now.history c.args.hands.now es old new path k c.in_ok-row.row p.hand this.amount c.loop-k.invariant.count c.loop-k.invariant.begun adds c.loop-k.invariant.named has);
+      named = rw pushed (adds_named net c.args.self.now.history c.args.places.now c.args.paths.now es old new no_slice k c.in_ok-row.row this.amount c.loop-k.invariant.count inside c.loop-k.invariant.begun adds c.loop-k.invariant.named);
     }
