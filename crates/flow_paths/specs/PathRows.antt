@@ -37,6 +37,10 @@ pub record IsFirstRow (rows : List Row) (k : ℕ) (path : List ℕ) (n : ℕ) : 
 abbrev pub HasNoRow : List Row → ℕ → List ℕ → Type 0
 HasNoRow rows k path = (j : ℕ) → j < length rows → ¬ (HasPath k path (row_at rows j))
 
+-- none of the first n rows is of this commodity and path
+abbrev pub HasNoRowBelow : ℕ → List Row → ℕ → List ℕ → Type 0
+HasNoRowBelow n rows k path = (j : ℕ) → j < n → ¬ (HasPath k path (row_at rows j))
+
 -- the rows, with a greater weight at that number
 abbrev pub grown : List Row → ℕ → ℕ → List Row
 grown rows n amount = slice_set rows n (record { commodity = (row_at rows n).commodity; walk = (row_at rows n).walk; weight = (row_at rows n).weight + amount })

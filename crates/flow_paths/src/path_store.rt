@@ -2,7 +2,7 @@
 
 ghost use Rattle.std.specs.Prelude.{◌≡◌, ◌<◌, ◌↔◌, IsTrue, MatchOption, OnOk, length, map};
 ghost use Rattle.flow_paths.specs.PathKey.{key_of, row_key};
-ghost use Rattle.flow_paths.specs.PathRows.{row_at, HasPath, HasNoRow, IsFirstRow};
+ghost use Rattle.flow_paths.specs.PathRows.{row_at, HasPath, HasNoRow, HasNoRowBelow, IsFirstRow};
 ghost use Rattle.flow_paths.specs.KeyIndex.{IsIndexOf};
 
 use crate::key_index::KeyIndex;
@@ -63,10 +63,10 @@ fn catch_up(index: &mut KeyIndex, rows: &RowBuffer) -> Result<(), AllocError>
     Ok(())
 }
 
-// The first row of this commodity and path.
+// The first row of this commodity and path, where the index has one.
 fn first_row(rows: &RowBuffer, index: &KeyIndex, k: u32, path: &[u16]) -> Option<u32>
-    requires { index.now ≡ map row_key rows.now }
-    ensures { MatchOption result (HasNoRow rows.now k path.now) (IsFirstRow rows.now k path.now) }
+    requires { IsIndexOf index.now rows.now }
+    ensures { MatchOption result (HasNoRowBelow (length index.now) rows.now k path.now) (IsFirstRow rows.now k path.now) }
 {
     let mut first = None;
     let mut place = index.latest(path_key(k, path));
@@ -80,10 +80,23 @@ fn first_row(rows: &RowBuffer, index: &KeyIndex, k: u32, path: &[u16]) -> Option
     first
 }
 
+// The first row of this commodity and path, where none of the rows before `start` is.
+fn first_row_from(rows: &RowBuffer, start: u32, k: u32, path: &[u16]) -> Option<u32>
+    requires { HasNoRowBelow start rows.now k path.now }
+    ensures { MatchOption result (HasNoRow rows.now k path.now) (IsFirstRow rows.now k path.now) }
+{
+    for row in start..rows.rows() {
+        if has_path(rows, row, k, path) {
+            return Some(row);
+        }
+    }
+    None
+}
+
 impl PathStore {
-    ghost use Rattle.std.specs.Prelude.{◌≡◌, ◌+◌, ◌≤◌, ◌<◌, ◌++◌, ◌∷◌, [], ℕ, length, IfOk, OnErr, OnOk};
+    ghost use Rattle.std.specs.Prelude.{◌≡◌, ◌+◌, ◌≤◌, ◌<◌, ◌++◌, ◌∷◌, [], ℕ, length, IfOk, MatchOption, OnErr, OnOk};
     ghost use Rattle.flow_model.specs.Routing.{carried};
-    ghost use Rattle.flow_paths.specs.PathRows.{row_at, IsFirstRow, Adds};
+    ghost use Rattle.flow_paths.specs.PathRows.{row_at, grown, HasNoRow, IsFirstRow, Adds};
 
     /// No rows.
     pub fn new(alloc: Global) -> Self
@@ -137,6 +150,26 @@ impl PathStore {
         total
     }
 
+    /// The first row of this commodity and path. It is looked up among the rows that `add` has seen, and then one by
+    /// one among those that were pushed since. Takes no memory.
+    pub fn find(&self, k: u32, path: &[u16]) -> Option<u32>
+        ensures { MatchOption result (HasNoRow self.now k path.now) (IsFirstRow self.now k path.now) }
+    {
+        match first_row(&self.rows, &self.index, k, path) {
+            Some(row) => Some(row),
+            None => first_row_from(&self.rows, self.index.len(), k, path),
+        }
+    }
+
+    /// Makes the row's weight greater.
+    pub fn grow(&mut self, row: u32, amount: u64)
+        requires row { row < length self.old }
+        requires weight { (row_at self.old row).weight + amount ≤ MAX_LENGTH }
+        ensures { self.new ≡ grown self.old row amount }
+    {
+        self.rows.grow(row, amount);
+    }
+
     /// Appends a row, and answers its number.
     pub fn push(&mut self, k: u32, path: &[u16], weight: u64) -> Result<u32, AllocError>
         requires room { length self.old < 4294967295 }
@@ -159,10 +192,10 @@ impl PathStore {
         catch_up(&mut self.index, &self.rows)?;
         match first_row(&self.rows, &self.index, k, path) {
             Some(row) => {
-                self.rows.grow(row, amount);
+                self.grow(row, amount);
                 Ok(row)
             }
-            None => self.rows.push(k, path, amount),
+            None => self.push(k, path, amount),
         }
     }
 }

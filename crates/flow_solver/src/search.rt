@@ -88,7 +88,7 @@ pub fn route<G: Gate, R: Threads + Sync>(
         &mut search.hands,
         gate,
     )?;
-    search.history.add_phase(alloc, net, &search.hands)?;
+    search.history.add_phase(rt, alloc, net, &search.hands)?;
     Ok(())
 }
 

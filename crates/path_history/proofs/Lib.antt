@@ -4,6 +4,7 @@ pub mod Times
 pub mod OneMore
 pub mod Placed
 pub mod Named
+pub mod RowsFound
 pub mod Ascending
 pub mod Numbers
 pub mod RowOrder

@@ -3,8 +3,9 @@
 ghost use Rattle.std.specs.Prelude.{◌≡◌};
 
 use crate::entries::Entries;
+use crate::found::found_rows;
 use crate::ordering::{new_numbers, order_of, stored};
-use crate::places::{Place, places_of};
+use crate::places::{Place, paths_of, places_of};
 use flow_model::Net;
 use flow_paths::PathStore;
 use mcf_limits::{MAX_LENGTH, MAX_PHASES, MAX_WORK, MAX_WORKERS};
@@ -12,6 +13,7 @@ use phase_engine::Hand;
 use solver_run::Entry;
 use std::alloc::{AllocError, Global};
 use std::marker::Model;
+use std::thread::Threads;
 
 /// Path rows with weights, and for each phase an entry for each commodity, which names a row. Contracts see how
 /// many commodities there are, the rows, and a list of phases.
@@ -41,14 +43,14 @@ impl Model for PathHistory {
 }
 
 impl PathHistory {
-    ghost use Rattle.std.specs.Prelude.{◌≡◌, ℕ, ◌+◌, ◌*◌, ◌<◌, ◌≤◌, ◌++◌, ◌∷◌, [], List, OnOk, OnErr, IfOk, length, map, slice_index_or};
+    ghost use Rattle.std.specs.Prelude.{◌≡◌, ℕ, ◌+◌, ◌*◌, ◌<◌, ◌≤◌, ◌++◌, ◌∷◌, [], List, None, OnOk, OnErr, IfOk, IfSome, length, map, slice_index_or};
     ghost use Rattle.flow_model.specs.Network.{Network};
     ghost use Rattle.flow_paths.specs.PathRows.{row_at, IsFirstRow, Adds};
     ghost use Rattle.flow_core.specs.Phase.{Routed};
     ghost use Rattle.solver_run.specs.History.{routed_in, AreRowsOf};
     ghost use Rattle.path_history.specs.Rows.{phases_kept, AreRowsFor};
     ghost use Rattle.path_history.specs.Routes.{IsRoutedOnce, HaveRouted};
-    ghost use Rattle.path_history.specs.Adding.{no_place, IsPlaceOf, KeepsRows, AreBegun, AreNamed};
+    ghost use Rattle.path_history.specs.Adding.{paths_in, IsRowFor, KeepsRows, AreBegun, AreNamed};
 
     /// No phase and no row, for the commodities of the network.
     pub fn new(alloc: Global, net: &Net) -> Self
@@ -68,8 +70,15 @@ impl PathHistory {
         self.entries.phases()
     }
 
-    /// Adds a path to the rows.
-    fn add_path(&mut self, k: u32, path: &[u16], amount: u64) -> Result<u32, AllocError>
+    /// Adds a path to the rows, whose row may have been found.
+    fn add_path(
+        &mut self,
+        found: Option<u32>,
+        k: u32,
+        path: &[u16],
+        amount: u64,
+    ) -> Result<u32, AllocError>
+        requires found { IfSome found (IsFirstRow self.old.rows k path.now) }
         requires room { length self.old.rows < 4294967295 }
         requires amount { amount ≤ MAX_LENGTH }
         requires weight { (n : ℕ) → IsFirstRow self.old.rows k path.now n → (row_at self.old.rows n).weight + amount ≤ MAX_LENGTH }
@@ -78,38 +87,44 @@ impl PathHistory {
         ensures ok { IfOk result (Adds self.old.rows self.new.rows k path.now amount) }
         ensures err { OnErr result (self.new.rows ≡ self.old.rows) }
     {
-        self.paths.add(k, path, amount)
+        match found {
+            Some(row) => {
+                self.paths.grow(row, amount);
+                Ok(row)
+            }
+            None => self.paths.add(k, path, amount),
+        }
     }
 
-    /// Adds the route of each commodity to the rows, and answers the entries.
+    /// Adds the path of each commodity to the rows, where its row may have been found, and answers the entries.
     fn name_rows(
         &mut self,
         alloc: Global,
         net: &Net,
-        hands: &[Hand],
         places: &[Place],
+        paths: &[&[u16]],
+        found: &[Option<u32>],
     ) -> Result<Vec<Entry>, AllocError>
         requires rows { AreRowsFor net.now self.old.history self.old.rows }
         requires phases { length self.old.history < MAX_PHASES }
         requires work { length net.now.commodities * (length self.old.history + 1) ≤ MAX_WORK }
         requires count { length places.now ≡ length net.now.commodities }
-        requires places { (k : ℕ) → k < length net.now.commodities → IsPlaceOf hands.now k (slice_index_or places.now k no_place) }
+        requires path_count { length paths.now ≡ length net.now.commodities }
+        requires found_count { length found.now ≡ length net.now.commodities }
+        requires found { (k : ℕ) → k < length net.now.commodities → IsRowFor self.old.rows (paths_in paths.now) k (slice_index_or found.now k None) }
         ensures commodities { self.new.commodities ≡ self.old.commodities }
         ensures history { self.new.history ≡ self.old.history }
         ensures keeps { KeepsRows self.old.rows self.new.rows }
         ensures count { IfOk result (λ v. length v.items ≡ length net.now.commodities) }
         ensures begun { IfOk result (λ v. AreBegun net.now self.old.history v.items self.new.rows) }
-        ensures named { IfOk result (λ v. AreNamed hands.now self.new.rows v.items) }
+        ensures named { IfOk result (λ v. AreNamed places.now (paths_in paths.now) self.new.rows v.items) }
     {
         let commodities = net.commodities();
         let mut entries = Vec::with_capacity(alloc, commodities.len())?;
         for k in 0..commodities.len() {
-            let place = places[k];
-            let hand = &hands[place.hand as usize];
-            let path = hand.routes.path(place.route);
-            let row = self.add_path(k as u32, path, commodities[k].amount)?;
+            let row = self.add_path(found[k], k as u32, paths[k], commodities[k].amount)?;
             entries.push(Entry {
-                worker: place.hand,
+                worker: places[k].hand,
                 row,
             })?;
         }
@@ -117,9 +132,16 @@ impl PathHistory {
     }
 
     /// Appends the phase that the hands have routed: each path is found among the rows, which grow by the
-    /// commodity's amount, or appended. `Err` is for want of memory: the phases are as before, but weights may have
-    /// grown, so nothing more can be added.
-    pub fn add_phase(&mut self, alloc: Global, net: &Net, hands: &[Hand]) -> Result<(), AllocError>
+    /// commodity's amount, or appended. The rows are found in as many threads as there are hands, where that pays.
+    /// `Err` is for want of memory: the phases are as before, but weights may have grown, so nothing more can be
+    /// added.
+    pub fn add_phase<R: Threads + Sync>(
+        &mut self,
+        rt: &R,
+        alloc: Global,
+        net: &Net,
+        hands: &[Hand],
+    ) -> Result<(), AllocError>
         requires commodities { self.old.commodities ≡ length net.now.commodities }
         requires rows { AreRowsFor net.now self.old.history self.old.rows }
         requires phases { length self.old.history < MAX_PHASES }
@@ -132,7 +154,9 @@ impl PathHistory {
         ensures err { OnErr result (phases_kept self.new ≡ phases_kept self.old) }
     {
         let places = places_of(alloc, net, hands)?;
-        let entries = self.name_rows(alloc, net, hands, &places)?;
+        let paths = paths_of(alloc, hands, &places)?;
+        let found = found_rows(rt, alloc, hands.len(), &self.paths, &paths)?;
+        let entries = self.name_rows(alloc, net, &places, &paths, &found)?;
         self.entries.push(&entries)?;
         Ok(())
     }

@@ -2,6 +2,7 @@
 #![tactic(auto)]
 
 mod entries;
+mod found;
 mod history;
 mod ordering;
 mod places;

@@ -23,7 +23,7 @@ phase-requires-clause-start g c κs within =
     (start-of net c.args.setting old (length c.deref_mut-3.result.now) c.commodities-commodities.ensures.net c.requires.search c.requires.phases (omega (arith, idle.some)) (omega (arith, idle.few)) (loads-size net old c.requires.search))
 
 pub add_phase-requires-clause-routes : goal.add_phase-requires-clause-routes
-add_phase-requires-clause-routes g c =
+add_phase-requires-clause-routes g c κs within =
     let net = c.args.net.now in
     let old = c.args.search.now in
     let routed : IsRoutedPhase net c.args.setting c.deref_mut-2.result.now c.phase.new.loads c.phase.new.hands = c.in_ok-phase.ensures.ok in

@@ -1,8 +1,10 @@
-use Rattle.std.proofs.Common.{◌≡◌, ◌++◌, ◌∷◌, [], List, map, sym, ap, ◌∙◌, subst}
+use Rattle.std.proofs.Common.{◌≡◌, ℕ, ◌++◌, ◌∷◌, [], List, map, sym, ap, ◌∙◌, subst}
 use Rattle.std.specs.Prelude.{Ok, Err, Result, OnErr}
 use Rattle.flow_model.specs.Routing.{Row}
 use Rattle.solver_run.specs.declared.options.Entry.{Entry}
 use Rattle.solver_run.specs.History.{routed_in}
+use Rattle.path_history.specs.declared.places.Place.{Place}
+use Rattle.path_history.specs.Adding.{path_at, paths_in, AreNamed}
 use Rattle.path_history.specs.Rows.{HistoryView, AreRowsFor}
 use Rattle.path_history.proofs.Named.{ends, names_below, phase_added, same_phases}
 use Rattle.path_history.proofs.history.PathHistory.add_phase.Goals as goal
@@ -13,7 +15,7 @@ on_err (Ok x) p = tt
 on_err (Err e) p = p
 
 pub returns-in_err-entries-clause-err : goal.returns-in_err-entries-clause-err
-returns-in_err-entries-clause-err c =
+returns-in_err-entries-clause-err g c =
     let old = c.args.self.now.rows in
     let new = c.name_rows.new.self.rows in
     let h = c.args.self.now.history in
@@ -21,35 +23,39 @@ returns-in_err-entries-clause-err c =
     (ap (map (routed_in new)) c.name_rows.ensures.history ∙ same_phases old new h c.name_rows.ensures.keeps (names_below c.args.net.now old h c.requires.rows.entries))
 
 pub returns-in_err-push-clause-err : goal.returns-in_err-push-clause-err
-returns-in_err-push-clause-err c =
+returns-in_err-push-clause-err g c =
     let old = c.args.self.now.rows in
     let new = c.name_rows.new.self.rows in
     let h = c.args.self.now.history in
-    let r : c.self.inside.paths ≡ new = ap (λ (v : HistoryView). v.rows) c.self.view_is in
-    let p : c.push.new.self.phases ≡ h = c.in_err-push.ensures.err ∙ ap (λ (v : HistoryView). v.history) c.self.view_is ∙ c.name_rows.ensures.history in
+    let r : c.self-2.inside.paths ≡ new = ap (λ (v : HistoryView). v.rows) c.self-2.view_is in
+    let p : c.push.new.self.phases ≡ h = c.in_err-push.ensures.err ∙ ap (λ (v : HistoryView). v.history) c.self-2.view_is ∙ c.name_rows.ensures.history in
     on_err c.from_residual-in_err-push.result
     (ap (λ (t : List Row). map (routed_in t) c.push.new.self.phases) r ∙ ap (map (routed_in new)) p ∙ same_phases old new h c.name_rows.ensures.keeps (names_below c.args.net.now old h c.requires.rows.entries))
 
 pub returns-clause-rows : goal.returns-clause-rows
-returns-clause-rows c =
+returns-clause-rows g c =
     let new = c.name_rows.new.self.rows in
     let h = c.args.self.now.history in
     let es = c.in_ok-entries.entries.items in
-    let r : c.self.inside.paths ≡ new = ap (λ (v : HistoryView). v.rows) c.self.view_is in
-    let p : c.push.new.self.phases ≡ h ++ es ∷ [] = c.in_ok-push.ensures.ok ∙ ap (λ (t : List (List Entry)). t ++ c.deref-2.result.now ∷ []) (ap (λ (v : HistoryView). v.history) c.self.view_is ∙ c.name_rows.ensures.history) ∙ ap (λ (t : List Entry). h ++ t ∷ []) c.deref-2.ensures.value in
+    let r : c.self-2.inside.paths ≡ new = ap (λ (v : HistoryView). v.rows) c.self-2.view_is in
+    let p : c.push.new.self.phases ≡ h ++ es ∷ [] = c.in_ok-push.ensures.ok ∙ ap (λ (t : List (List Entry)). t ++ c.deref-6.result.now ∷ []) (ap (λ (v : HistoryView). v.history) c.self-2.view_is ∙ c.name_rows.ensures.history) ∙ ap (λ (t : List Entry). h ++ t ∷ []) c.deref-6.ensures.value in
     subst (AreRowsFor c.args.net.now c.push.new.self.phases) (sym r) (subst (λ (t : List (List Entry)). AreRowsFor c.args.net.now t new) (sym p) (ends c.args.net.now h es new c.in_ok-entries.ensures.begun c.in_ok-entries.ensures.count))
 
 pub returns-clause-phases : goal.returns-clause-phases
-returns-clause-phases c = λ entries once.
+returns-clause-phases g c = λ entries once.
     let old = c.args.self.now.rows in
     let new = c.name_rows.new.self.rows in
     let h = c.args.self.now.history in
     let es = c.in_ok-entries.entries.items in
-    let r : c.self.inside.paths ≡ new = ap (λ (v : HistoryView). v.rows) c.self.view_is in
-    let p : c.push.new.self.phases ≡ h ++ es ∷ [] = c.in_ok-push.ensures.ok ∙ ap (λ (t : List (List Entry)). t ++ c.deref-2.result.now ∷ []) (ap (λ (v : HistoryView). v.history) c.self.view_is ∙ c.name_rows.ensures.history) ∙ ap (λ (t : List Entry). h ++ t ∷ []) c.deref-2.ensures.value in
-    ap (λ (t : List Row). map (routed_in t) c.push.new.self.phases) r ∙ ap (map (routed_in new)) p ∙ phase_added c.args.net.now c.args.hands.now old new h es entries c.name_rows.ensures.keeps c.requires.rows.entries c.in_ok-entries.ensures.count c.in_ok-entries.ensures.named once
+    let r : c.self-2.inside.paths ≡ new = ap (λ (v : HistoryView). v.rows) c.self-2.view_is in
+    let p : c.push.new.self.phases ≡ h ++ es ∷ [] = c.in_ok-push.ensures.ok ∙ ap (λ (t : List (List Entry)). t ++ c.deref-6.result.now ∷ []) (ap (λ (v : HistoryView). v.history) c.self-2.view_is ∙ c.name_rows.ensures.history) ∙ ap (λ (t : List Entry). h ++ t ∷ []) c.deref-6.ensures.value in
+    let places = c.in_ok-places.places.items in
+    let paths : paths_in c.deref-4.result.now ≡ map (path_at c.args.hands.now) places = ap paths_in c.deref-4.ensures.value ∙ c.in_ok-paths.ensures ∙ ap (map (path_at c.args.hands.now)) c.deref.ensures.value in
+    let named : AreNamed places (map (path_at c.args.hands.now) places) new es =
+    subst (λ (t : List Place). AreNamed t (map (path_at c.args.hands.now) places) new es) c.deref-3.ensures.value (subst (λ (t : List (List ℕ)). AreNamed c.deref-3.result.now t new es) paths c.in_ok-entries.ensures.named) in
+    ap (λ (t : List Row). map (routed_in t) c.push.new.self.phases) r ∙ ap (map (routed_in new)) p ∙ phase_added c.args.net.now c.args.hands.now places old new h es entries c.name_rows.ensures.keeps c.requires.rows.entries c.in_ok-places.ensures.count c.in_ok-places.ensures.places c.in_ok-entries.ensures.count named once
 
 pub invariant_of-self-2 : goal.invariant_of-self-2
-invariant_of-self-2 c =
-    let rows = returns-clause-rows c in
-    names_below c.args.net.now c.self.inside.paths c.push.new.self.phases rows.entries
+invariant_of-self-2 g c =
+    let rows = returns-clause-rows g c in
+    names_below c.args.net.now c.self-2.inside.paths c.push.new.self.phases rows.entries

@@ -1,0 +1,51 @@
+-- Rows that were found, while rows are added.
+use Rattle.std.proofs.Common.{◌≡◌, ℕ, ◌+◌, ◌<◌, List, [], length, get_or, set, Option, Some, None, inl, inr, sym, subst, ◌∙◌, arith, get_or-set_other, get_or-set_same}
+use Rattle.std.specs.Prelude.{IfSome, MatchOption}
+use Rattle.std.proofs.lemmas.Bool.{cases_eq}
+use Rattle.std.proofs.lemmas.List.{get_or-map}
+use denote.Ref.{Bor}
+use Rattle.flow_model.specs.Routing.{Row}
+use Rattle.flow_paths.specs.PathRows.{row_at, HasNoRow, IsFirstRow}
+use Rattle.path_history.specs.Rows.{AreApart}
+use Rattle.path_history.specs.Adding.{paths_in, IsRowFor, KeepsRows}
+
+-- where no two rows are alike, a row that is kept is still the first of its commodity and path
+still_first : (old new : List Row) (k : ℕ) (path : List ℕ) (n : ℕ) → KeepsRows old new → AreApart new → IsFirstRow old k path n → IsFirstRow new k path n
+still_first old new k path n keeps apart first =
+    let more = keeps.more in
+    let l = first.within in
+    let within : n < length new = omega (arith, more, l) in
+    let commodity : (row_at new n).commodity ≡ k = keeps.commodity n l ∙ first.here.0 in
+    let walk : (row_at new n).walk ≡ path = keeps.walk n l ∙ first.here.1 in
+    record {
+      within = within;
+      here = (commodity, walk);
+      none_before = λ j below has. apart j n below within (commodity ∙ sym has.0, walk ∙ sym has.1);
+    }
+
+pub still_found : (old new : List Row) (paths : List (List ℕ)) (k : ℕ) (row : Option ℕ) → KeepsRows old new → AreApart new → IsRowFor old paths k row → IfSome row (IsFirstRow new k (get_or paths k []))
+still_found old new paths k None keeps apart found = tt
+still_found old new paths k (Some n) keeps apart found = still_first old new k (get_or paths k []) n keeps apart found.is
+
+-- the rows of the first commodities have been found
+abbrev pub AreFound : List Row → List (List ℕ) → ℕ → ℕ → List (Option ℕ) → Type 0
+AreFound rows paths first n found = (i : ℕ) → i < n → IsRowFor rows paths (first + i) (get_or found i None)
+
+-- the row of one commodity more
+pub found_more : (rows : List Row) (paths : List (List ℕ)) (first i : ℕ) (found : List (Option ℕ)) (row : Option ℕ) → i < length found → AreFound rows paths first i found → IsRowFor rows paths (first + i) row
+    → AreFound rows paths first (i + 1) (set found i row)
+found_more rows paths first i found row inside h here k l = elim (cases_eq k i) [
+  | inl e ↦ subst (λ (n : ℕ). IsRowFor rows paths (first + n) (get_or (set found i row) n None)) (sym e) (subst (IsRowFor rows paths (first + i)) (sym (get_or-set_same found i row None inside)) here)
+  | inr n ↦ subst (IsRowFor rows paths (first + k)) (sym (get_or-set_other found i k row None n)) (h k (omega arith))
+]
+
+-- the path in a slice
+pub path_in : (slices : List (Bor (List ℕ))) (k : ℕ) (d : Bor (List ℕ)) → k < length slices → get_or (paths_in slices) k [] ≡ (get_or slices k d).now
+path_in slices k d inside = get_or-map (λ (s : Bor (List ℕ)). s.now) slices k d [] inside
+
+-- what a search for the path in a slice has found
+pub row_for : (rows : List Row) (slices : List (Bor (List ℕ))) (k : ℕ) (d : Bor (List ℕ)) (row : Option ℕ) → k < length slices → MatchOption row (HasNoRow rows k (get_or slices k d).now) (IsFirstRow rows k (get_or slices k d).now)
+    → IsRowFor rows (paths_in slices) k row
+row_for rows slices k d row inside found = record {
+  is = subst (λ (p : List ℕ). MatchOption row (HasNoRow rows k p) (IsFirstRow rows k p)) (sym (path_in slices k d inside)) found;
+}
