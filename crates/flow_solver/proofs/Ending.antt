@@ -5,7 +5,7 @@ use Rattle.flow_model.specs.Network.{Network}
 use Rattle.gap_fraction.specs.Fraction.{Fraction}
 use Rattle.flow_core.specs.Phase.{Routed}
 use Rattle.solver_run.specs.declared.options.SolveOptions.{SolveOptions}
-use Rattle.solver_run.specs.History.{SolvedView, routed_in, phases_of, fill_after, AreRowsOf}
+use Rattle.solver_run.specs.History.{SolvedView, routed_in, phases_of, fill_after, AreRoutedBy, AreRowsOf}
 use Rattle.solver_run.specs.Run.{IsClosedAfter, ArePhases, IsPhasedRun}
 use Rattle.flow_solver.specs.declared.reached.Reached.{Reached}
 use Rattle.flow_solver.specs.Search.{phases_in, phase_count}
@@ -32,6 +32,7 @@ phased-run net o r closed s is budget met spent phases rows closed_is gap phases
       budget = omega arith;
       duals = is.duals;
       phases = subst (λ (ps : List (List Routed)). ArePhases net o ps is.duals) (sym phases) is.phases;
+      workers = subst (AreRoutedBy o.workers) (sym phases) is.workers;
       closed = (
         λ yes. subst (λ (ps : List (List Routed)). Closed ps (length s.history)) (sym phases)
             (subst (λ (n : ℕ). Closed (phases_in r.search) n) (sym count) (of-met net o r is (met.0 (subst (λ (b : Bool). IsTrue b) closed_is yes)))),

@@ -5,6 +5,7 @@ use Rattle.std.specs.declared.vec.Vec.{Vec}
 use Rattle.std.specs.declared.alloc.Global.{Global}
 use Rattle.std.proofs.Math.Seq.{take-length}
 use Rattle.std.proofs.lemmas.List.{length-append}
+use Rattle.std.proofs.lemmas.List.Elements.{All-append, All-cons, All-nil}
 use Rattle.flow_model.specs.declared.setting.Setting.{Setting}
 use Rattle.flow_model.specs.Network.{Network, IsNetwork}
 use Rattle.flow_model.specs.Lengths.{lengths_of}
@@ -17,7 +18,7 @@ use Rattle.dual_bound.specs.declared.bounds.Bounded.{Bounded}
 use Rattle.dual_bound.specs.Bounds.{IsBoundOf, ShowsBound}
 use Rattle.mcf_limits.specs.declared.TheConstants.{MAX_LENGTH, MAX_PHASES, MAX_TOTAL, MAX_UNITS}
 use Rattle.solver_run.specs.declared.options.SolveOptions.{SolveOptions}
-use Rattle.solver_run.specs.History.{routed_in, loads_after, fill_after, lower_after, first_setting, later_setting, setting_after}
+use Rattle.solver_run.specs.History.{routed_in, loads_after, fill_after, lower_after, first_setting, later_setting, setting_after, AreRoutedBy}
 use Rattle.solver_run.specs.Run.{least_dual, IsClosedAfter, ArePhases}
 use Rattle.flow_solver.specs.declared.fill.Fill.{Fill}
 use Rattle.flow_solver.specs.declared.search.Search.{Search}
@@ -107,6 +108,14 @@ after-some : (net : Network) (o : SolveOptions) (phases : List (List Routed)) (n
 after-some net o phases zero some = absurd (omega arith)
 after-some net o phases (suc n) some = let not : nat_eq (suc n) 0 ≡ false = ne_eqb (suc n) 0 (λ e. omega arith) in sym (ap (λ (b : Bool). cond b (first_setting o) (later_setting net o phases)) not)
 
+-- who routed a phase more is one of the hands, as many as before
+routed-by : (net : Network) (setting : Setting) (old new : Search) (n : ℕ) → HasRouted net setting old new → length old.hands.items ≡ n → AreRoutedBy n (phases_in old) → AreRoutedBy n (phases_in new)
+routed-by net setting old new n r count before =
+    let By : List Routed → Type 0 = λ entries. All (λ (x : Routed). x.worker < n) entries in
+    let now : By r.entries = subst (λ (m : ℕ). All (λ (x : Routed). x.worker < m) r.entries) count r.workers in
+    let one : All By (r.entries ∷ []) = All-cons By r.entries [] now (All-nil By) in
+    subst (AreRoutedBy n) (sym r.phases) (All-append By (phases_in old) (r.entries ∷ []) before one)
+
 -- the kept bound and all phases
 pub met-of : (net : Network) (o : SolveOptions) (r : Reached) → (is : IsReached net o r) → IsClosedAfter net o (phases_in r.search) is.duals (phase_count r.search) → IsMet net o r
 met-of net o r is closed =
@@ -122,11 +131,11 @@ of-met net o r is met =
     let whole : take (phase_count r.search) is.duals ≡ is.duals = ap (λ (n : ℕ). take n is.duals) (omega arith) ∙ take-length is.duals in
     subst (λ (d : DualRows). IsWithinGap (lower_after net (phases_in r.search) (phase_count r.search)) (upper_of net d) o.gap) (sym (ap (least_dual net) whole ∙ sym is.kept)) met
 
-pub first-reached : (net : Network) (o : SolveOptions) (old new : Search) (f : Fill) (kept : Bounded) → IsSearch net old → old.history.history ≡ [] → IsSearch net new → HasRouted net (first_setting o) old new
+pub first-reached : (net : Network) (o : SolveOptions) (old new : Search) (f : Fill) (kept : Bounded) → IsSearch net old → old.history.history ≡ [] → length old.hands.items ≡ o.workers → IsSearch net new → HasRouted net (first_setting o) old new
     → fullness f ≡ fill_after net (phases_in new) (phase_count new) → IsFill f
     → IsBoundOf net (lengths_of net (record { first = false; ref_cap = f.cap; ref_load = f.load; step = o.step }) new.loads.items) kept.dual → ((lengths : List ℕ) × ShowsBound net lengths kept.dual) → kept.value ≡ upper_of net kept.dual
     → IsReached net o (record { search = new; reference = f; fill = f; kept = kept })
-first-reached net o old new f kept before none after r same fits bound shows value =
+first-reached net o old new f kept before none hands after r same fits bound shows value =
     let nothing : phases_in old ≡ [] = ap (map (routed_in old.history.rows)) none in
     let zero_before : length (phases_in old) ≡ 0 = ap (λ (xs : List (List Routed)). length xs) nothing in
     let count = count-of old in
@@ -137,6 +146,9 @@ first-reached net o old new f kept before none after r same fits bound shows val
     record {
       search = after;
       some = omega arith;
+      hands = r.hands ∙ hands;
+      workers = routed-by net (first_setting o) old new o.workers r hands
+          (subst (AreRoutedBy o.workers) (sym nothing) (All-nil (λ (entries : List Routed). All (λ (x : Routed). x.worker < o.workers) entries)));
       reference = at_one;
       reference_fits = fits;
       fill = same;
@@ -175,6 +187,8 @@ next-reached net o r new f later kept is unmet after h same fits bound shows val
     record {
       search = after;
       some = omega arith;
+      hands = h.hands ∙ is.hands;
+      workers = routed-by net setting old new o.workers h is.hands is.workers;
       reference = is.reference ∙ sym (ap (λ (ps : List (List Routed)). fill_after net ps 1) h.phases ∙ fill-kept net (phases_in old) h.entries 1 some);
       reference_fits = is.reference_fits;
       fill = same;
@@ -205,6 +219,8 @@ pub routed-other : (net : Network) (setting : Setting) (old s : Search) (v : Vec
 routed-other net setting old s v r = record {
   entries = r.entries;
   phases = r.phases;
+  hands = r.hands;
+  workers = r.workers;
   phase = r.phase;
   loaded = r.loaded;
 }

@@ -4,6 +4,7 @@ use Rattle.std.specs.Prelude.{All, flat_map, take, replicate}
 use Rattle.std.proofs.lemmas.Bool.Decides.{nat_tests}
 use Rattle.std.proofs.lemmas.List.{length-map, length-append, length-replicate, get_or-replicate, get_or_append_left}
 use Rattle.std.proofs.lemmas.List.FromFn.{fill_by_all, length-map-range_with_len}
+use Rattle.std.proofs.lemmas.Option.{slice_get-get_or, slice_get_within}
 use Rattle.std.proofs.Math.Seq.{get_or-append_seam}
 use Rattle.flow_model.specs.declared.setting.Setting.{Setting}
 use Rattle.flow_model.specs.Network.{Network, IsNetwork}
@@ -138,11 +139,21 @@ search-more net setting old new hands n is p size phases lengths idle commoditie
       rows = rows;
     }
 
+-- who routed something is one of the hands
+few-workers : (net : Network) (setting : Setting) (base loads : List ℕ) (hands : List Hand) (p : IsRoutedPhase net setting base loads hands) → All (λ (r : Routed). r.worker < length hands) p.entries
+few-workers net setting base loads hands p = λ k d l. (
+    let r = get_or p.entries k d in
+    let routed = (p.routes k r.worker r.path).0 (slice_get-get_or p.entries k d l) in
+    slice_get_within hands r.worker routed.0 routed.1
+    )
+
 pub routed-more : (net : Network) (setting : Setting) (old new : Search) (hands : List Hand) → IsNetwork net → (p : IsRoutedPhase net setting old.loads.items new.loads.items hands)
-    → phases_in new ≡ phases_in old ++ p.entries ∷ [] → HasRouted net setting old new
-routed-more net setting old new hands n p phases = record {
+    → phases_in new ≡ phases_in old ++ p.entries ∷ [] → length hands ≡ length old.hands.items → new.hands.items ≡ hands → HasRouted net setting old new
+routed-more net setting old new hands n p phases same are = record {
   entries = p.entries;
   phases = phases;
+  hands = ap (λ (hs : List Hand). length hs) are ∙ same;
+  workers = subst (λ (m : ℕ). All (λ (r : Routed). r.worker < m) p.entries) same (few-workers net setting old.loads.items new.loads.items hands p);
   phase = p.phase;
   loaded = some-load net p.entries old.loads.items new.loads.items n (phase-paths net setting old.loads.items new.loads.items p.entries n p.phase) p.count p.sums;
 }

@@ -1,12 +1,12 @@
 -- What a solve has reached after some phases.
-use Rattle.std.specs.Prelude.{◌≡◌, ℕ, ◌≤◌, List, All}
+use Rattle.std.specs.Prelude.{◌≡◌, ℕ, ◌≤◌, List, All, length}
 use Rattle.flow_model.specs.Network.{Network}
 use Rattle.gap_fraction.specs.Fraction.{IsWithinGap}
 use Rattle.flow_paths.specs.DualRows.{DualRows}
 use Rattle.flow_paths.specs.Certificate.{upper_of}
 use Rattle.dual_bound.specs.Bounds.{ShowsBound}
 use Rattle.solver_run.specs.declared.options.SolveOptions.{SolveOptions}
-use Rattle.solver_run.specs.History.{fill_after, lower_after}
+use Rattle.solver_run.specs.History.{fill_after, lower_after, AreRoutedBy}
 use Rattle.solver_run.specs.Run.{least_dual, ArePhases}
 use Rattle.flow_solver.specs.declared.reached.Reached.{Reached}
 use Rattle.flow_solver.specs.Fullness.{IsFill, fullness}
@@ -20,6 +20,8 @@ AllDivide net duals = All (λ (d : DualRows). 1 ≤ (upper_of net d).den) duals
 pub record IsReached (net : Network) (o : SolveOptions) (r : Reached) : Type 0 where
   pub search : IsSearch net r.search
   pub some : 1 ≤ phase_count r.search
+  pub hands : length r.search.hands.items ≡ o.workers
+  pub workers : AreRoutedBy o.workers (phases_in r.search)
   pub reference : fullness r.reference ≡ fill_after net (phases_in r.search) 1
   pub reference_fits : IsFill r.reference
   pub fill : fullness r.fill ≡ fill_after net (phases_in r.search) (phase_count r.search)

@@ -36,9 +36,11 @@ pub record IsSearch (net : Network) (s : Search) : Type 0 where
   pub commodities : s.history.commodities ≡ length net.commodities
   pub rows : AreRowsFor net s.history.history s.history.rows
 
--- one phase more under the setting, which has loaded some cell
+-- one phase more under the setting, of the same hands, which has loaded some cell
 pub record HasRouted (net : Network) (setting : Setting) (old new : Search) : Type 0 where
   pub entries : List Routed
   pub phases : phases_in new ≡ phases_in old ++ entries ∷ []
+  pub hands : length new.hands.items ≡ length old.hands.items
+  pub workers : All (λ (r : Routed). r.worker < length old.hands.items) entries
   pub phase : IsPhase net setting old.loads.items new.loads.items entries
   pub loaded : (c : ℕ) × (c < length net.cells) × (1 ≤ slice_index new.loads.items c)

@@ -42,6 +42,7 @@ pub fn new_search(alloc: Global, net: &Net, workers: u16) -> Result<Search, Allo
     requires few { workers ≤ MAX_WORKERS }
     ensures search { IfOk result (λ s. IsSearch net.now s) }
     ensures nothing { IfOk result (λ s. s.history.history ≡ []) }
+    ensures hands { IfOk result (λ s. length s.hands.items ≡ workers) }
 {
     let cells = net.cells().len();
     Ok(Search {

@@ -25,7 +25,7 @@ use Rattle.flow_core.specs.Phase.{Routed, IsPhase, EachIsComplete, HasStopped, I
 use Rattle.flow_core.proofs.Whole.{whole}
 use Rattle.solver_run.specs.declared.options.Entry as options
 use Rattle.solver_run.specs.Options.{AreOptions}
-use Rattle.solver_run.specs.History.{AreRowsOf, NamesRows, IsWeighed, first_setting, later_setting, phases_of}
+use Rattle.solver_run.specs.History.{AreRowsOf, NamesRows, IsWeighed, first_setting, later_setting, phases_of, AreRoutedBy}
 use Rattle.solver_run.specs.Run.{IsSolverRun, IsNext, no_dual}
 use Rattle.solver_run.specs.Headline.{IsSolved}
 use Rattle.solver_run.specs.Small.{small_options, one_link, link_phase, link_lengths, dual_over, link_solved}
@@ -193,6 +193,11 @@ link-rows = record {
 link-within : IsWithinGap (lower_of link_solved.proof.routing) (upper_of one_link link_solved.proof.dual) 0
 link-within = subst (λ (f : Fraction). f.num * 1 * 1000000 ≤ f.den * 1 * (1000000 + 0)) (sym link-upper) (omega arith)
 
+link-workers : AreRoutedBy 1 (phases_of link_solved)
+link-workers =
+    let one : All (λ (r : Routed). r.worker < 1) link_phase = All-cons (λ (r : Routed). r.worker < 1) (record { worker = 0; path = 0 ∷ [] }) [] (omega arith) (All-nil (λ (r : Routed). r.worker < 1)) in
+    All-cons (λ (entries : List Routed). All (λ (r : Routed). r.worker < 1) entries) link_phase [] one (All-nil (λ (entries : List Routed). All (λ (r : Routed). r.worker < 1) entries))
+
 pub link-run : IsSolverRun one_link small_options link_solved
 link-run = inr (
   link-joined,
@@ -201,6 +206,7 @@ link-run = inr (
     budget = omega arith;
     duals = link_solved.proof.dual ∷ [];
     phases = record { count = refl; each = link-next; goes_on = λ p l m. absurd (omega arith) };
+    workers = link-workers;
     closed = ((λ _. link-within), (λ _. refl));
     spent = λ e. refl;
     proof = record { gap = refl; phases_are = refl; scale_cap = refl; scale_load = refl; dual = refl };

@@ -11,7 +11,7 @@ use Rattle.flow_paths.specs.Evaluation.{fraction_le}
 use Rattle.flow_core.specs.Phase.{Routed, IsPhase}
 use Rattle.solver_run.specs.declared.options.SolveOptions.{SolveOptions}
 use Rattle.dual_bound.specs.Bounds.{IsBoundOf, IsCutDual}
-use Rattle.solver_run.specs.History.{SolvedView, phases_of, loads_after, fill_after, lower_after, later_setting, setting_after, AreRowsOf}
+use Rattle.solver_run.specs.History.{SolvedView, phases_of, loads_after, fill_after, lower_after, later_setting, setting_after, AreRoutedBy, AreRowsOf}
 
 -- without rows
 abbrev pub no_dual : DualRows
@@ -56,12 +56,13 @@ pub record IsProofAfter (net : Network) (o : SolveOptions) (phases : List (List 
   pub scale_load : proof.routing.scale_load ≡ (fill_after net phases (length phases)).den
   pub dual : proof.dual ≡ least_dual net duals
 
--- phases until the gap is met or the budget is spent, and the proof that they make
+-- phases of the asked workers until the gap is met or the budget is spent, and the proof that they make
 pub record IsPhasedRun (net : Network) (o : SolveOptions) (s : SolvedView) : Type 0 where
   pub some : 1 ≤ length s.history
   pub budget : length s.history ≤ o.phases
   pub duals : List DualRows
   pub phases : ArePhases net o (phases_of s) duals
+  pub workers : AreRoutedBy o.workers (phases_of s)
   pub closed : IsTrue s.proof.closed ↔ IsClosedAfter net o (phases_of s) duals (length s.history)
   pub spent : s.proof.closed ≡ false → length s.history ≡ o.phases
   pub proof : IsProofAfter net o (phases_of s) duals s.proof

@@ -41,5 +41,5 @@ returns-clause-reached g c =
     let bound : IsBoundOf net (lengths_of net (record { first = false; ref_cap = f.cap; ref_load = f.load; step = o.step }) s.loads.items) c.in_ok-kept.kept.dual =
     subst (λ (x : Setting). IsBoundOf net (lengths_of net x s.loads.items) c.in_ok-kept.kept.dual) c.setting_after_first-later.ensures
     (subst (λ (xs : List ℕ). IsBoundOf net (lengths_of net c.setting_after_first-later.result xs) c.in_ok-kept.kept.dual) c.deref.ensures.value c.in_ok-kept.ensures.dual) in
-    first-reached net o old new f c.in_ok-kept.kept c.in_ok-search.ensures.search c.in_ok-search.ensures.nothing (other-lengths net s v size search) (routed-other net (record { first = true; ref_cap = 0; ref_load = 1; step = o.step }) old s v routed)
+    first-reached net o old new f c.in_ok-kept.kept c.in_ok-search.ensures.search c.in_ok-search.ensures.nothing c.in_ok-search.ensures.hands (other-lengths net s v size search) (routed-other net (record { first = true; ref_cap = 0; ref_load = 1; step = o.step }) old s v routed)
     c.measured-fill.ensures.value c.measured-fill.ensures.fits bound (lengths_of net c.setting_after_first-later.result c.deref.result.now, c.in_ok-kept.ensures.shows) c.in_ok-kept.ensures.value

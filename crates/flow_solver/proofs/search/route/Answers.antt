@@ -79,4 +79,8 @@ returns-clause-routed g c =
     subst (λ (xs : List ℕ). IsRoutedPhase net c.args.setting old.loads.items xs c.phase.new.hands) (sym loads)
     (subst (λ (xs : List ℕ). IsRoutedPhase net c.args.setting xs c.phase.new.loads c.phase.new.hands) c.deref_mut-2.ensures.value c.in_ok-phase.ensures.ok) in
     let once : IsRoutedOnce net c.deref.result.now routed.entries = subst (λ (hs : List Hand). IsRoutedOnce net hs routed.entries) (sym now) (record { count = routed.count; routes = routed.routes }) in
-    routed-more net c.args.setting old new c.phase.new.hands c.commodities-commodities.ensures.net routed (c.in_ok-add_phase.ensures.phases routed.entries once)
+    let first = with_items_is old.hands c.forget_all.new.hands (omega arith) in
+    let before : c.deref_mut-3.result.now ≡ c.forget_all.new.hands = c.deref_mut-3.ensures.value ∙ first in
+    let count = ap (λ (xs : List Hand). length xs) before in
+    let old_count = ap (λ (xs : List Hand). length xs) c.deref_mut.ensures.value in
+    routed-more net c.args.setting old new c.phase.new.hands c.commodities-commodities.ensures.net routed (c.in_ok-add_phase.ensures.phases routed.entries once) (omega arith) hands
