@@ -1,23 +1,20 @@
+//! Texts of certificates and routings: what their heads say, and each refusal with its line.
+
 ghost use Rattle.std.specs.Prelude.{◌≡◌, Ok};
 ghost use Rattle.sndlib_grammar.specs.Rows.{AreNetRows};
 ghost use Rattle.unit_scale.specs.Scaling.{scaled_of};
 ghost use Rattle.cert_names.specs.Sheet.{sheet_of};
 
+use crate::one_link::{CERTIFICATE, ONE_LINK, ROUTING, edited};
 use cert_names::Names;
 use cert_text::{CertEnd, CertKind, cert_head, read_cert};
 use mcf_limits::MAX_CERT_BYTES;
 use net_options::{LinkMode, ModuleMode, NetOptions};
 use sndlib_read::{RawNet, read_net};
-use std::alloc::{AllocError, Global};
+use std::alloc::Global;
 use std::process::Abort;
 use std::test::Fail;
 use unit_scale::{Scaled, scale};
-
-const RIGHT: &[u8] =
-    b"mcf-certificate 1\nverdict closed\nlinks directed\nmodules largest\nnet nodes 2 cells 1 commodities 1 decimals 0 skipped 0 left 0 hops 0\ngap 0.050000\nphases 1\nscale 10 4\nlower 10/4 2.500000\nupper 45035996273704960/18014398509481984 2.500000\npath D1 4 L1\nlength L1 4503599627370496\npotential A 0 4503599627370496\nend\n";
-
-const ROUTING: &[u8] =
-    b"mcf-routing 1\nlinks directed\nmodules largest\nphases 1\nscale 10 4\npath D1 4 L1\nend\n";
 
 // A text to be replaced, what takes its place, and the line and kind of the refusal.
 type Edit = (&'static [u8], &'static [u8], u32, CertKind);
@@ -107,23 +104,6 @@ const EDITS: &[Edit] = &[
     (b"end\n", b"end\nx", 15, CertKind::Syntax),
 ];
 
-// The text with the first such part replaced.
-fn edited(alloc: Global, text: &[u8], old: &[u8], new: &[u8]) -> Result<Vec<u8>, AllocError> {
-    for i in 0..text.len() {
-        let (front, rest) = text.split_at(i);
-        if let Some(after) = rest.strip_prefix(old) {
-            let mut changed = Vec::from_slice(alloc, front)?;
-            changed.extend_from_slice(new)?;
-            changed.extend_from_slice(after)?;
-            return Ok(changed);
-        }
-    }
-    Vec::from_slice(alloc, text)
-}
-
-const NET: &[u8] =
-    b"?SNDlib native format; type: network; version: 1.0\nNODES (\n  A\n  B\n)\nLINKS (\n  L1 ( A B ) 10 0 0 0 ( )\n)\nDEMANDS (\n  D1 ( A B ) 1 4 UNLIMITED\n)\n";
-
 // The words of the rows, which scale to the network under the options.
 fn names<'a>(rows: &'a RawNet<'a>, net: &'a Scaled, _options: NetOptions) -> Names<'a>
     requires rows { AreNetRows rows.now }
@@ -136,7 +116,7 @@ fn names<'a>(rows: &'a RawNet<'a>, net: &'a Scaled, _options: NetOptions) -> Nam
 // Each edit of the certificate is refused at its line.
 fn refused(rt: &impl Abort, alloc: Global, names: &Names<'_>) -> Result<(), Fail> {
     for (old, new, line, kind) in EDITS {
-        let text = edited(alloc, RIGHT, *old, *new)?;
+        let text = edited(alloc, CERTIFICATE, *old, *new)?;
         assert!(rt; text.len() <= MAX_CERT_BYTES);
         match read_cert(alloc, names, &text) {
             Err(CertEnd::Refused(refusal)) => {
@@ -166,7 +146,7 @@ fn on_rows(rt: &impl Abort, alloc: Global, rows: &RawNet<'_>) -> Result<(), Fail
 
 #[test]
 fn refusals_with_their_lines(rt: HostRuntime) -> Result<(), Fail> {
-    match read_net(rt.alloc(), NET) {
+    match read_net(rt.alloc(), ONE_LINK) {
         Ok(rows) => on_rows(&rt, rt.alloc(), &rows),
         Err(_) => {
             assert!(rt; false, "the text is refused");
@@ -177,14 +157,14 @@ fn refusals_with_their_lines(rt: HostRuntime) -> Result<(), Fail> {
 
 #[test]
 fn heads(rt: HostRuntime) {
-    let head = cert_head(RIGHT);
+    let head = cert_head(CERTIFICATE);
     assert!(rt;
         head.is_ok_and(|h| h.full
             && h.links == LinkMode::Directed
             && h.modules == ModuleMode::Largest)
     );
     let head = cert_head(ROUTING);
-    assert!(rt; head.is_ok_and(|h| !h.full));
+    assert!(rt; head.is_ok_and(|h| !h.full && h.modules == ModuleMode::Ignore));
     for (text, line, kind) in [
         (b"".as_slice(), 1u32, CertKind::NoHeader),
         (b"mcf-routing 1", 1, CertKind::Syntax),

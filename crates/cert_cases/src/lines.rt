@@ -1,4 +1,4 @@
-use crate::{Buffer, Word};
+use line_writer::{Buffer, Word};
 use mcf_base::MemSink;
 use std::test::Fail;
 
