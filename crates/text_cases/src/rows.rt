@@ -1,33 +1,18 @@
-//! What is written of a text.
+//! What is written of the rows of a network text.
 
+use crate::files::{net_text, tell_refusal};
 use crate::texts::{nested_text, shown};
 use anyhow::Result;
 use mcf_limits::MAX_NET_BYTES;
-use sndlib_read::{NetKind, RawNet, ReadNetEnd, read_net};
-use std::fs;
+use sndlib_read::{RawNet, ReadNetEnd, read_net};
 use std::time::Instant;
 
-fn code(kind: NetKind) -> &'static str {
-    match kind {
-        NetKind::NoHeader => "N1",
-        NetKind::LongWord => "N2",
-        NetKind::Syntax => "N3",
-        NetKind::TooMany => "N4",
-        NetKind::Duplicate => "N5",
-        NetKind::UnknownNode => "N6",
-        NetKind::BadNumber => "N7",
-        NetKind::TooFine => "N8",
-        NetKind::TooLarge => "N9",
-        NetKind::NoDemand => "N10",
-    }
-}
-
 fn tell_end(rt: &HostRuntime, name: &str, end: ReadNetEnd) -> Result<()> {
+    print!(rt; "{name} ")?;
     match end {
-        ReadNetEnd::Refused(r) => println!(rt; "{name} refused {} line {}", code(r.kind), r.line)?,
-        ReadNetEnd::Memory => println!(rt; "{name} memory")?,
+        ReadNetEnd::Refused(refusal) => tell_refusal(rt, Some(refusal)),
+        ReadNetEnd::Memory => tell_refusal(rt, None),
     }
-    Ok(())
 }
 
 fn tell_sizes(rt: &HostRuntime, name: &str, net: &RawNet<'_>) -> Result<()> {
@@ -100,10 +85,7 @@ fn tell_demands(rt: &HostRuntime, net: &RawNet<'_>) -> Result<()> {
 
 /// The rows of a file, or its refusal.
 pub fn tell_rows(rt: &HostRuntime, name: &str) -> Result<()> {
-    let text = fs::read(rt, name)?;
-    if text.len() > MAX_NET_BYTES {
-        return Ok(());
-    }
+    let text = net_text(rt, name)?;
     match read_net(rt.alloc(), &text) {
         Ok(net) => {
             tell_sizes(rt, name, &net)?;
@@ -117,10 +99,7 @@ pub fn tell_rows(rt: &HostRuntime, name: &str) -> Result<()> {
 
 /// Which cuts of a file are accepted, and how many are refused.
 pub fn tell_cuts(rt: &HostRuntime, name: &str) -> Result<()> {
-    let text = fs::read(rt, name)?;
-    if text.len() > MAX_NET_BYTES {
-        return Ok(());
-    }
+    let text = net_text(rt, name)?;
     let mut refused = 0u64;
     for cut in 0..text.len() {
         match read_net(rt.alloc(), &text[..cut]) {
@@ -150,10 +129,7 @@ pub fn tell_nested(rt: &HostRuntime, count: &str) -> Result<()> {
 
 /// How long reading a file takes.
 pub fn tell_time(rt: &HostRuntime, name: &str) -> Result<()> {
-    let text = fs::read(rt, name)?;
-    if text.len() > MAX_NET_BYTES {
-        return Ok(());
-    }
+    let text = net_text(rt, name)?;
     let start = Instant::now(rt)?;
     let answer = read_net(rt.alloc(), &text);
     let took = start.elapsed(rt)?;

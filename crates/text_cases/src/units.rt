@@ -1,26 +1,11 @@
 //! What is written of numbers and of networks in units.
 
+use crate::files::{net_text, tell_refusal};
 use anyhow::Result;
-use mcf_limits::{MAX_DECIMALS, MAX_NET_BYTES};
+use mcf_limits::MAX_DECIMALS;
 use net_options::{LinkMode, ModuleMode, NetOptions};
-use sndlib_read::{NetKind, RawNet, ReadNetEnd, read_net};
-use std::fs;
+use sndlib_read::{RawNet, ReadNetEnd, read_net};
 use unit_scale::{Decimal, ScaleEnd, Scaled, UnitFault, read_decimal, scale, units};
-
-fn code(kind: NetKind) -> &'static str {
-    match kind {
-        NetKind::NoHeader => "N1",
-        NetKind::LongWord => "N2",
-        NetKind::Syntax => "N3",
-        NetKind::TooMany => "N4",
-        NetKind::Duplicate => "N5",
-        NetKind::UnknownNode => "N6",
-        NetKind::BadNumber => "N7",
-        NetKind::TooFine => "N8",
-        NetKind::TooLarge => "N9",
-        NetKind::NoDemand => "N10",
-    }
-}
 
 /// A word in millionths.
 pub fn tell_number(rt: &HostRuntime, word: &str) -> Result<()> {
@@ -95,36 +80,21 @@ fn tell_scaled(rt: &HostRuntime, raw: &RawNet<'_>, scaled: &Scaled) -> Result<()
     Ok(())
 }
 
-fn tell_net(rt: &HostRuntime, raw: &RawNet<'_>, options: NetOptions) -> Result<()> {
+fn tell_raw(rt: &HostRuntime, raw: &RawNet<'_>, options: NetOptions) -> Result<()> {
     match scale(rt.alloc(), raw, options) {
         Ok(scaled) => tell_scaled(rt, raw, &scaled),
-        Err(ScaleEnd::Refused(r)) => {
-            println!(rt; "refused {} line {}", code(r.kind), r.line)?;
-            Ok(())
-        }
-        Err(ScaleEnd::Memory) => {
-            println!(rt; "memory")?;
-            Ok(())
-        }
+        Err(ScaleEnd::Refused(refusal)) => tell_refusal(rt, Some(refusal)),
+        Err(ScaleEnd::Memory) => tell_refusal(rt, None),
     }
 }
 
 /// The network of a file under these options.
-pub fn tell_file(rt: &HostRuntime, options: &str, name: &str) -> Result<()> {
-    let text = fs::read(rt, name)?;
-    if text.len() > MAX_NET_BYTES {
-        return Ok(());
-    }
+pub fn tell_net(rt: &HostRuntime, options: &str, name: &str) -> Result<()> {
+    let text = net_text(rt, name)?;
     print!(rt; "{options} {name}: ")?;
     match read_net(rt.alloc(), &text) {
-        Ok(raw) => tell_net(rt, &raw, options_of(options)),
-        Err(ReadNetEnd::Refused(r)) => {
-            println!(rt; "refused {} line {}", code(r.kind), r.line)?;
-            Ok(())
-        }
-        Err(ReadNetEnd::Memory) => {
-            println!(rt; "memory")?;
-            Ok(())
-        }
+        Ok(raw) => tell_raw(rt, &raw, options_of(options)),
+        Err(ReadNetEnd::Refused(refusal)) => tell_refusal(rt, Some(refusal)),
+        Err(ReadNetEnd::Memory) => tell_refusal(rt, None),
     }
 }
