@@ -3,44 +3,31 @@
 ghost use Rattle.std.specs.Prelude.{◌≡◌, ◌<◌, ◌≤◌, IfOk, All, length};
 ghost use Rattle.flow_model.specs.Lengths.{AreLengths, IsSetting, lengths_of};
 
-use crate::network;
+use crate::{Words, cell, demand, loads, network};
 use dijkstra_paths::Scratch;
 use fixed_exp::{LengthTable, Powers};
-use flow_model::{Cell, Commodity, Net, Setting};
+use flow_model::{Cell, Net, Setting};
 use mcf_limits::MAX_LENGTH;
 use net_graph::{Arc, Graph};
 use std::alloc::{AllocError, Global};
 use std::process::Abort;
 use std::test::Fail;
 
-pub const FIRST: Setting = Setting {
+const FIRST: Setting = Setting {
     first: true,
     ref_cap: 0,
     ref_load: 1,
     step: 65536,
 };
 
-pub const LATER: Setting = Setting {
+const LATER: Setting = Setting {
     first: false,
     ref_cap: 7,
     ref_load: 10,
     step: 65536,
 };
 
-pub fn cell(tail: u16, head: u16, both: bool, cap: u64) -> Cell {
-    Cell {
-        tail,
-        head,
-        both,
-        cap,
-    }
-}
-
-pub fn demand(from: u16, to: u16, amount: u64) -> Commodity {
-    Commodity { from, to, amount }
-}
-
-pub fn two_links(rt: &impl Abort, alloc: Global) -> Result<Net, Fail> {
+fn two_links(rt: &impl Abort, alloc: Global) -> Result<Net, Fail> {
     let cells = [cell(0, 1, false, 3), cell(0, 1, false, 7)];
     let net = network(alloc, 2, &cells, &[demand(0, 1, 10)])?;
     Ok(net.expect(rt, "a network"))
@@ -174,25 +161,6 @@ fn arcs_of_odd_cells(rt: HostRuntime) -> Result<(), Fail> {
     Ok(())
 }
 
-/// Numbers that look random, the same in each run.
-#[derive(Drop)]
-struct Words {
-    state: u64,
-}
-
-impl Words {
-    fn below(&mut self, n: u64) -> u64
-        requires { 0 < n }
-        ensures { result < n }
-    {
-        self.state = self
-            .state
-            .wrapping_mul(6364136223846793005)
-            .wrapping_add(1442695040888963407);
-        (self.state >> 33) % n
-    }
-}
-
 /// A distance to the head by the tail's, where that is less.
 fn nearer(tail: Option<u64>, head: Option<u64>, length: u64) -> Option<u64> {
     let by_tail = tail.and_then(|d| d.checked_add(length));
@@ -248,17 +216,6 @@ fn small_network(alloc: Global, words: &mut Words) -> Result<Option<Net>, AllocE
     )
 }
 
-fn small_loads(alloc: Global, words: &mut Words, cells: usize) -> Result<Vec<u64>, AllocError>
-    ensures count { IfOk result (λ loads. length loads.items ≡ cells) }
-    ensures small { IfOk result (λ loads. All (λ x. x ≤ MAX_LENGTH) loads.items) }
-{
-    let mut loads = Vec::new(alloc);
-    for _ in 0..cells {
-        loads.push(words.below(3))?;
-    }
-    Ok(loads)
-}
-
 /// Whether the length of the path is the distance.
 fn is_path_of(path: Option<&[u16]>, lengths: &[u64], dist: Option<u64>) -> bool {
     match path {
@@ -304,11 +261,11 @@ fn compare(
 fn searches_agree_with_slow_ones(rt: HostRuntime) -> Result<(), Fail> {
     let alloc = rt.alloc();
     let powers = Powers::new();
-    let mut words = Words { state: 11 };
+    let mut words = Words::new(11);
     for _ in 0..200 {
         let net = small_network(alloc, &mut words)?.expect(&rt, "a network");
         let mut table = LengthTable::new(alloc, &powers, &net, &LATER)?;
-        let loads = small_loads(alloc, &mut words, net.cells().len())?;
+        let loads = loads(alloc, &mut words, net.cells().len(), 3)?;
         table.update(&powers, &net, &loads);
         for from in 0..net.nodes() {
             compare(&rt, alloc, &net, table.lengths(), from)?;

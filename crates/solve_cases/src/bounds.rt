@@ -2,19 +2,26 @@
 
 ghost use Rattle.std.specs.Prelude.{◌≡◌, ◌<◌, ◌≤◌, IfOk, All, length};
 
-use crate::network;
-use crate::tests::walks::{FIRST, LATER, cell, demand, two_links};
-use dijkstra_paths::Scratch;
 use dual_bound::{bound, cut_bound};
 use fixed_exp::{LengthTable, Powers};
-use mcf_limits::MAX_LENGTH;
+use flow_model::Setting;
 use net_graph::Graph;
 use std::test::Fail;
+use walk_rows::{cell, demand, network};
+
+/// The setting behind a fullest cell of 7 with a load of 10.
+const LATER: Setting = Setting {
+    first: false,
+    ref_cap: 7,
+    ref_load: 10,
+    step: 65536,
+};
 
 #[test]
 fn bound_of_two_links_under_a_load(rt: HostRuntime) -> Result<(), Fail> {
     let alloc = rt.alloc();
-    let net = two_links(&rt, alloc)?;
+    let cells = [cell(0, 1, false, 3), cell(0, 1, false, 7)];
+    let net = network(alloc, 2, &cells, &[demand(0, 1, 10)])?.expect(&rt, "a network");
     assert_eq!(rt; net.cells().len(), 2);
     let graph = Graph::new(alloc, &net)?;
     let mut table = LengthTable::new(alloc, &Powers::new(), &net, &LATER)?;
