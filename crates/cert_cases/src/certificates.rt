@@ -1,7 +1,6 @@
 use crate::small::{Case, Paths, Rows, is_case, net_of, proof_of};
 use cert_check::{Fault, RouteEnd, Verdict, check, check_routing};
 use flow_paths::Printed;
-use std::alloc::{AllocError, Global};
 use std::test::Fail;
 
 // A certificate, and the condition that fails first.
@@ -131,269 +130,230 @@ const NEAR: Case = Case {
     closed: true,
 };
 
+// No scale.
+const UNSCALED: Case = Case {
+    scale_cap: 0,
+    scale_load: 0,
+    ..RIGHT
+};
+
+// A weight over the demand.
+const HEAVY: Case = Case { weight: 5, ..RIGHT };
+
+// A scale over what the capacity carries.
+const OVER: Case = Case {
+    scale_load: 3,
+    ..RIGHT
+};
+
+// A path that goes over the link twice.
+const TWICE: Case = Case {
+    paths: Paths::Twice,
+    ..RIGHT
+};
+
+// No distance.
+const NEAREST: Case = Case { far: 0, ..RIGHT };
+
+// A fraction that is printed wrong.
+const MISPRINTED: Case = Case {
+    lower: Printed {
+        num: 10,
+        den: 4,
+        whole: 2,
+        micro: 500001,
+    },
+    ..RIGHT
+};
+
+// A path that goes over the link, back, and over it again, and a scale with its load.
+const THERE_AND_BACK: Case = Case {
+    both: true,
+    paths: Paths::ThereAndBack,
+    scale_load: 12,
+    ..RIGHT
+};
+
 // One thing wrong.
-fn one_wrong(alloc: Global) -> Result<Vec<Wanted>, AllocError> {
-    let no_scale = Case {
-        scale_cap: 0,
-        scale_load: 0,
-        ..RIGHT
-    };
-    let cases = [
-        (RIGHT, None),
-        (CUT, None),
-        (GREAT, None),
-        (NEAR, None),
-        (
-            Case {
-                gap: 500000,
-                closed: false,
-                ..NEAR
-            },
-            None,
-        ),
-        (
-            Case {
-                closed: false,
-                ..NEAR
-            },
-            Some(Fault::C10),
-        ),
-        (
-            Case {
-                gap: 500000,
-                ..NEAR
-            },
-            Some(Fault::C10),
-        ),
-        (Case { size: 0, ..CUT }, Some(Fault::C7)),
-        (
-            Case {
-                paths: Paths::Twice,
-                ..RIGHT
-            },
-            Some(Fault::C1),
-        ),
-        (Case { weight: 5, ..RIGHT }, Some(Fault::C2)),
-        (
-            Case {
-                scale_load: 3,
-                ..RIGHT
-            },
-            Some(Fault::C3),
-        ),
-        (
-            Case {
-                scale_load: 0,
-                ..CUT
-            },
-            Some(Fault::C4),
-        ),
-        (no_scale, Some(Fault::C4)),
-        (
-            Case {
-                length_rows: 0,
-                ..RIGHT
-            },
-            Some(Fault::C5),
-        ),
-        (
-            Case {
-                length_rows: 2,
-                ..RIGHT
-            },
-            Some(Fault::C5),
-        ),
-        (
-            Case {
-                rows: Rows::Missing,
-                ..RIGHT
-            },
-            Some(Fault::C6),
-        ),
-        (
-            Case {
-                rows: Rows::SourceTwice,
-                ..RIGHT
-            },
-            Some(Fault::C6),
-        ),
-        (
-            Case {
-                rows: Rows::BothEnds,
-                ..RIGHT
-            },
-            Some(Fault::C6),
-        ),
-        (
-            Case {
-                size: 4503599627370495,
-                ..RIGHT
-            },
-            Some(Fault::C7),
-        ),
-        (Case { far: 0, ..RIGHT }, Some(Fault::C8)),
-        (
-            Case {
-                lower: Printed {
-                    micro: 500001,
-                    ..RIGHT.lower
-                },
-                ..RIGHT
-            },
-            Some(Fault::C9),
-        ),
-        (
-            Case {
-                closed: false,
-                ..RIGHT
-            },
-            Some(Fault::C10),
-        ),
-    ];
-    Vec::from_slice(alloc, &cases)
-}
+const ONE_WRONG: &[Wanted] = &[
+    (RIGHT, None),
+    (CUT, None),
+    (GREAT, None),
+    (NEAR, None),
+    (
+        Case {
+            gap: 500000,
+            closed: false,
+            ..NEAR
+        },
+        None,
+    ),
+    (
+        Case {
+            closed: false,
+            ..NEAR
+        },
+        Some(Fault::C10),
+    ),
+    (
+        Case {
+            gap: 500000,
+            ..NEAR
+        },
+        Some(Fault::C10),
+    ),
+    (Case { size: 0, ..CUT }, Some(Fault::C7)),
+    (TWICE, Some(Fault::C1)),
+    (HEAVY, Some(Fault::C2)),
+    (OVER, Some(Fault::C3)),
+    (
+        Case {
+            scale_load: 0,
+            ..CUT
+        },
+        Some(Fault::C4),
+    ),
+    (UNSCALED, Some(Fault::C4)),
+    (
+        Case {
+            length_rows: 0,
+            ..RIGHT
+        },
+        Some(Fault::C5),
+    ),
+    (
+        Case {
+            length_rows: 2,
+            ..RIGHT
+        },
+        Some(Fault::C5),
+    ),
+    (
+        Case {
+            rows: Rows::Missing,
+            ..RIGHT
+        },
+        Some(Fault::C6),
+    ),
+    (
+        Case {
+            rows: Rows::SourceTwice,
+            ..RIGHT
+        },
+        Some(Fault::C6),
+    ),
+    (
+        Case {
+            rows: Rows::BothEnds,
+            ..RIGHT
+        },
+        Some(Fault::C6),
+    ),
+    (
+        Case {
+            size: 4503599627370495,
+            ..RIGHT
+        },
+        Some(Fault::C7),
+    ),
+    (NEAREST, Some(Fault::C8)),
+    (MISPRINTED, Some(Fault::C9)),
+    (
+        Case {
+            closed: false,
+            ..RIGHT
+        },
+        Some(Fault::C10),
+    ),
+];
 
 // Two conditions fail: the first is told, whichever row has it.
-fn two_wrong(alloc: Global) -> Result<Vec<Wanted>, AllocError> {
-    let no_scale = Case {
-        scale_cap: 0,
-        scale_load: 0,
-        ..RIGHT
-    };
-    let cases = [
-        (
-            Case {
-                paths: Paths::Twice,
-                weight: 5,
-                ..RIGHT
-            },
-            Some(Fault::C1),
-        ),
-        (
-            Case {
-                paths: Paths::TwiceLater,
-                weight: 5,
-                ..RIGHT
-            },
-            Some(Fault::C1),
-        ),
-        (
-            Case {
-                weight: 5,
-                scale_load: 3,
-                ..RIGHT
-            },
-            Some(Fault::C2),
-        ),
-        (
-            Case {
-                scale_load: 0,
-                ..RIGHT
-            },
-            Some(Fault::C3),
-        ),
-        (
-            Case {
-                length_rows: 0,
-                ..no_scale
-            },
-            Some(Fault::C4),
-        ),
-        (
-            Case {
-                length_rows: 2,
-                rows: Rows::Missing,
-                ..RIGHT
-            },
-            Some(Fault::C5),
-        ),
-        (
-            Case {
-                rows: Rows::SourceTwice,
-                size: 1,
-                ..RIGHT
-            },
-            Some(Fault::C6),
-        ),
-        (
-            Case {
-                both: true,
-                near: 4611686018427387904,
-                far: 0,
-                ..RIGHT
-            },
-            Some(Fault::C7),
-        ),
-        (
-            Case {
-                far: 0,
-                closed: false,
-                ..RIGHT
-            },
-            Some(Fault::C8),
-        ),
-        (
-            Case {
-                lower: Printed {
-                    micro: 500001,
-                    ..RIGHT.lower
-                },
-                closed: false,
-                ..RIGHT
-            },
-            Some(Fault::C9),
-        ),
-    ];
-    Vec::from_slice(alloc, &cases)
-}
+const TWO_WRONG: &[Wanted] = &[
+    (Case { weight: 5, ..TWICE }, Some(Fault::C1)),
+    (
+        Case {
+            paths: Paths::TwiceLater,
+            ..HEAVY
+        },
+        Some(Fault::C1),
+    ),
+    (Case { weight: 5, ..OVER }, Some(Fault::C2)),
+    (
+        Case {
+            scale_load: 0,
+            ..RIGHT
+        },
+        Some(Fault::C3),
+    ),
+    (
+        Case {
+            length_rows: 0,
+            ..UNSCALED
+        },
+        Some(Fault::C4),
+    ),
+    (
+        Case {
+            length_rows: 2,
+            rows: Rows::Missing,
+            ..RIGHT
+        },
+        Some(Fault::C5),
+    ),
+    (
+        Case {
+            rows: Rows::SourceTwice,
+            size: 1,
+            ..RIGHT
+        },
+        Some(Fault::C6),
+    ),
+    (
+        Case {
+            both: true,
+            near: 4611686018427387904,
+            ..NEAREST
+        },
+        Some(Fault::C7),
+    ),
+    (
+        Case {
+            closed: false,
+            ..NEAREST
+        },
+        Some(Fault::C8),
+    ),
+    (
+        Case {
+            closed: false,
+            ..MISPRINTED
+        },
+        Some(Fault::C9),
+    ),
+];
 
 // A routing's fraction, or the first of its four conditions that fails.
-fn routings(alloc: Global) -> Result<Vec<Wanted>, AllocError> {
-    let no_scale = Case {
-        scale_cap: 0,
-        scale_load: 0,
-        ..RIGHT
-    };
-    let cases = [
-        (RIGHT, None),
-        (Case { weight: 5, ..RIGHT }, Some(Fault::C2)),
-        (
-            Case {
-                scale_load: 3,
-                ..RIGHT
-            },
-            Some(Fault::C3),
-        ),
-        (no_scale, Some(Fault::C4)),
-        (
-            Case {
-                both: true,
-                paths: Paths::ThereAndBack,
-                scale_load: 12,
-                ..RIGHT
-            },
-            None,
-        ),
-        (
-            Case {
-                both: true,
-                paths: Paths::ThereAndBack,
-                scale_load: 11,
-                ..RIGHT
-            },
-            Some(Fault::C3),
-        ),
-        (
-            Case {
-                paths: Paths::ThereAndBack,
-                scale_load: 12,
-                ..RIGHT
-            },
-            Some(Fault::C1),
-        ),
-    ];
-    Vec::from_slice(alloc, &cases)
-}
+const ROUTINGS: &[Wanted] = &[
+    (RIGHT, None),
+    (HEAVY, Some(Fault::C2)),
+    (OVER, Some(Fault::C3)),
+    (UNSCALED, Some(Fault::C4)),
+    (THERE_AND_BACK, None),
+    (
+        Case {
+            scale_load: 11,
+            ..THERE_AND_BACK
+        },
+        Some(Fault::C3),
+    ),
+    (
+        Case {
+            both: false,
+            ..THERE_AND_BACK
+        },
+        Some(Fault::C1),
+    ),
+];
 
 fn fault_of(verdict: Verdict) -> Option<Fault> {
     match verdict {
@@ -404,9 +364,7 @@ fn fault_of(verdict: Verdict) -> Option<Fault> {
 
 #[test]
 fn the_first_condition_that_fails(rt: HostRuntime) -> Result<(), Fail> {
-    let single = one_wrong(rt.alloc())?;
-    let double = two_wrong(rt.alloc())?;
-    for (case, want) in single.iter().chain(double.iter()) {
+    for (case, want) in ONE_WRONG.iter().chain(TWO_WRONG) {
         assert!(rt; is_case(case));
         let net = net_of(rt.alloc(), case)?;
         let proof = proof_of(rt.alloc(), case)?;
@@ -418,8 +376,7 @@ fn the_first_condition_that_fails(rt: HostRuntime) -> Result<(), Fail> {
 
 #[test]
 fn the_fraction_of_a_routing(rt: HostRuntime) -> Result<(), Fail> {
-    let cases = routings(rt.alloc())?;
-    for (case, want) in cases.iter() {
+    for (case, want) in ROUTINGS {
         assert!(rt; is_case(case));
         let net = net_of(rt.alloc(), case)?;
         let proof = proof_of(rt.alloc(), case)?;

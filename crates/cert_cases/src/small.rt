@@ -1,6 +1,6 @@
 //! A network of one link and one demand, and certificates for it.
 
-ghost use Rattle.std.specs.Prelude.{◌≡◌, ◌<◌, All, IfOk, IsTrue};
+ghost use Rattle.std.specs.Prelude.{◌≡◌, ◌<◌, All, IfOk, IsTrue, OnOk};
 ghost use Rattle.flow_paths.specs.Certificate.{IsProofOf, IsRowOf, IsPotentialOf};
 ghost use Rattle.cert_cases.specs.Small.{network_of, IsCase};
 
@@ -181,5 +181,3 @@ pub fn proof_of(alloc: Global, case: &Case) -> Result<Proof, AllocError>
         dual,
     })
 }
-
-ghost use Rattle.std.specs.Prelude.{OnOk};

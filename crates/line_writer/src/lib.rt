@@ -7,6 +7,3 @@ mod word;
 
 pub use buffer::Buffer;
 pub use word::Word;
-
-#[cfg(test)]
-mod tests;

@@ -8,6 +8,3 @@ mod scripting;
 pub use certifying::{Certified, read_certificate};
 pub use laws::{certificate_lines_are_bounds, certified_as_judged, lines_are_bounds};
 pub use scripting::{Scripted, read_script, write_shown};
-
-#[cfg(test)]
-mod tests;

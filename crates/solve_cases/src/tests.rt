@@ -1,7 +1,7 @@
 //! Networks, and the certificate that is solved of each.
 
 use crate::{entry_of, solved};
-use flow_model::{Cell, Commodity, Net};
+use flow_model::Net;
 use flow_solver::Solved;
 use mcf_base::{Gate, OpenGate};
 use solver_run::{Entry, SolveOptions};
@@ -11,20 +11,7 @@ use std::sync::atomic::{AtomicBool, AtomicU64, Ordering};
 use std::test::Fail;
 use std::thread;
 use std::thread::Threads;
-use walk_rows::network;
-
-const fn cell(tail: u16, head: u16, both: bool, cap: u64) -> Cell {
-    Cell {
-        tail,
-        head,
-        both,
-        cap,
-    }
-}
-
-const fn demand(from: u16, to: u16, amount: u64) -> Commodity {
-    Commodity { from, to, amount }
-}
+use walk_rows::{cell, demand, network};
 
 const fn asked(gap: u64, phases: u32, workers: u16, step: u32) -> SolveOptions {
     SolveOptions {

@@ -1,9 +1,13 @@
-//! Tests alone: networks as tables, for lengths, arcs and walks over them.
+//! Tests alone: networks as tables and loads that look random, for lengths, arcs and walks over them.
 #![tactic(auto)]
 
+mod drawn;
 mod networks;
+mod ring;
 
-pub use networks::network;
+pub use drawn::{Words, loads};
+pub use networks::{cell, demand, network};
+pub use ring::ring_network;
 
 #[cfg(test)]
-mod tests;
+mod walks;

@@ -8,6 +8,25 @@ use flow_model::{Cell, Commodity, Net};
 use mcf_limits::{MAX_CELLS, MAX_DEMANDS, MAX_NODES, MAX_TOTAL, MAX_UNITS};
 use std::alloc::{AllocError, Global};
 
+/// A cell.
+pub const fn cell(tail: u16, head: u16, both: bool, cap: u64) -> Cell
+    ensures { result ≡ record { tail = tail; head = head; both = both; cap = cap } }
+{
+    Cell {
+        tail,
+        head,
+        both,
+        cap,
+    }
+}
+
+/// A commodity.
+pub const fn demand(from: u16, to: u16, amount: u64) -> Commodity
+    ensures { result ≡ record { from = from; to = to; amount = amount } }
+{
+    Commodity { from, to, amount }
+}
+
 fn is_cell(nodes: u16, cell: &Cell) -> bool
     ensures { IsTrue result → IsCell nodes cell.now }
 {

@@ -4,18 +4,18 @@
 #![tactic(auto)]
 
 ghost use Rattle.std.specs.Prelude.{◌≡◌, ◌+◌, ◌-◌, ◌*◌, ◌<◌, ◌≤◌, length, All, IfOk};
-ghost use Rattle.flow_model.specs.Network.{IsCell};
 
 use anyhow::{Context, Result, ensure};
 use dijkstra_paths::Scratch;
 use fixed_exp::{LengthTable, Powers};
-use flow_model::{Cell, Commodity, Net, Setting};
+use flow_model::{Net, Setting};
 use mcf_limits::{MAX_CELLS, MAX_LENGTH, MAX_NODES};
 use net_graph::Graph;
-use std::alloc::{AllocError, Global};
+use std::alloc::Global;
 use std::env;
 use std::rt::Clock;
 use std::time::Instant;
+use walk_rows::{Words, loads, ring_network};
 
 const SETTING: Setting = Setting {
     first: false,
@@ -23,87 +23,6 @@ const SETTING: Setting = Setting {
     ref_load: 3000,
     step: 8192,
 };
-
-/// Numbers that look random, the same in the yardstick's program.
-#[derive(Drop)]
-struct Words {
-    state: u64,
-}
-
-impl Words {
-    fn below(&mut self, n: u64) -> u64
-        requires { 0 < n }
-        ensures { result < n }
-    {
-        self.state = self
-            .state
-            .wrapping_mul(6364136223846793005)
-            .wrapping_add(1442695040888963407);
-        (self.state >> 33) % n
-    }
-}
-
-/// The nodes in a ring, and ways between any two.
-fn cell(words: &mut Words, i: u64, nodes: u64) -> Cell
-    requires low { 2 ≤ nodes }
-    requires high { nodes ≤ MAX_NODES }
-    ensures { IsCell nodes result }
-{
-    let (tail, head) = if i < nodes {
-        (i, (i + 1) % nodes)
-    } else {
-        let a = words.below(nodes);
-        (a, (a + 1 + words.below(nodes - 1)) % nodes)
-    };
-    let cap = 1 + words.below(1000);
-    Cell {
-        tail: tail as u16,
-        head: head as u16,
-        both: true,
-        cap,
-    }
-}
-
-fn cells(alloc: Global, words: &mut Words, nodes: u64, links: u64) -> Result<Vec<Cell>, AllocError>
-    requires low { 2 ≤ nodes }
-    requires high { nodes ≤ MAX_NODES }
-    ensures count { IfOk result (λ v. length v.items ≡ links) }
-    ensures fit { IfOk result (λ v. All (IsCell nodes) v.items) }
-{
-    let mut cells = Vec::new(alloc);
-    for i in 0..links {
-        cells.push(cell(words, i, nodes))?;
-    }
-    Ok(cells)
-}
-
-fn network(alloc: Global, words: &mut Words, nodes: u64, links: u64) -> Result<Net, AllocError>
-    requires low { 2 ≤ nodes }
-    requires high { nodes ≤ MAX_NODES }
-    requires links { links ≤ MAX_CELLS }
-    ensures nodes { IfOk result (λ n. n.nodes ≡ nodes) }
-    ensures cells { IfOk result (λ n. length n.cells ≡ links) }
-{
-    let cells = cells(alloc, words, nodes, links)?;
-    let commodity = Commodity {
-        from: 0,
-        to: 1,
-        amount: 1,
-    };
-    let commodities = vec![in alloc; commodity]?;
-    Ok(Net::new(nodes as u16, cells, commodities))
-}
-
-fn loads(alloc: Global, words: &mut Words, links: u64) -> Result<Vec<u64>, AllocError>
-    ensures count { IfOk result (λ v. length v.items ≡ links) }
-    ensures small { IfOk result (λ v. All (λ x. x ≤ MAX_LENGTH) v.items) }
-{
-    let mut loads = Vec::new(alloc);
-    for _ in 0..links {
-        loads.push(words.below(10_000))?;
-    }
-    Ok(loads)
-}
 
 fn add_path(loads: &mut [u64], path: Option<&[u16]>, amount: u64)
     requires small { All (λ x. x ≤ MAX_LENGTH) loads.old }
@@ -190,9 +109,9 @@ fn main(rt: HostRuntime) -> Result<()> {
     ensure!(nodes >= 2 && nodes <= u64::from(MAX_NODES), "nodes");
     ensure!(links <= u64::from(MAX_CELLS), "links");
     ensure!(rounds >= 1, "rounds");
-    let mut words = Words { state: 7 };
-    let net = network(alloc, &mut words, nodes, links)?;
-    let mut loads = loads(alloc, &mut words, links)?;
+    let mut words = Words::new(7);
+    let net = ring_network(alloc, &mut words, nodes, links)?;
+    let mut loads = loads(alloc, &mut words, links as usize, 10_000)?;
     let (times, far) = measure(&rt, alloc, &net, &mut loads, rounds)?;
     let rounds = u128::from(rounds);
     eprintln!(rt;

@@ -1,0 +1,184 @@
+//! Texts of certificates and routings: what their heads say, and each refusal with its line.
+
+ghost use Rattle.std.specs.Prelude.{◌≡◌, Ok};
+ghost use Rattle.sndlib_grammar.specs.Rows.{AreNetRows};
+ghost use Rattle.unit_scale.specs.Scaling.{scaled_of};
+ghost use Rattle.cert_names.specs.Sheet.{sheet_of};
+
+use crate::one_link::{CERTIFICATE, ONE_LINK, ROUTING, edited};
+use cert_names::Names;
+use cert_text::{CertEnd, CertKind, cert_head, read_cert};
+use mcf_limits::MAX_CERT_BYTES;
+use net_options::{LinkMode, ModuleMode, NetOptions};
+use sndlib_read::{RawNet, read_net};
+use std::alloc::Global;
+use std::process::Abort;
+use std::test::Fail;
+use unit_scale::{Scaled, scale};
+
+// A text to be replaced, what takes its place, and the line and kind of the refusal.
+type Edit = (&'static [u8], &'static [u8], u32, CertKind);
+
+const EDITS: &[Edit] = &[
+    (
+        b"mcf-certificate 1",
+        b"mcf-certificate 9",
+        1,
+        CertKind::NoHeader,
+    ),
+    (b"verdict closed", b"verdict shut", 2, CertKind::Syntax),
+    (b"links directed", b"links undirected", 3, CertKind::Syntax),
+    (b"modules largest", b"modules  largest", 4, CertKind::Syntax),
+    (b"net nodes 2", b"net nodes 3", 5, CertKind::OtherNet),
+    (
+        b"net nodes 2",
+        b"net nodes 4294967296",
+        5,
+        CertKind::TooLarge,
+    ),
+    (b"hops 0", b"hops 00", 5, CertKind::BadNumber),
+    (b"hops 0", b"hops", 5, CertKind::Syntax),
+    (b"gap 0.050000", b"gap 1000.000001", 6, CertKind::TooLarge),
+    (b"gap 0.050000", b"gap 0.05", 6, CertKind::BadNumber),
+    (b"phases 1", b"phases 65537", 7, CertKind::TooLarge),
+    (b"scale 10 4", b"scale 10  4", 8, CertKind::Syntax),
+    (
+        b"lower 10/4 2.500000",
+        b"lower 10 2.500000",
+        9,
+        CertKind::Syntax,
+    ),
+    (
+        b"lower 10/4 2.500000",
+        b"lower 10/4/1 2.500000",
+        9,
+        CertKind::BadNumber,
+    ),
+    (
+        b"lower 10/4 2.500000",
+        b"lower 4611686018427387905/x 2.500000",
+        9,
+        CertKind::TooLarge,
+    ),
+    (b"path D1 4 L1", b"path D1 4 L9", 11, CertKind::UnknownName),
+    (b"path D1 4 L1", b"path D1 04 L1", 11, CertKind::BadNumber),
+    (
+        b"path D1 4 L1",
+        b"path D1 4611686018427387905 L1",
+        11,
+        CertKind::TooLarge,
+    ),
+    (
+        b"path D1 4 L1",
+        b"path D1 999999999999999999999999999999999999999 L1",
+        11,
+        CertKind::TooLarge,
+    ),
+    (
+        b"path D1 4 L1",
+        b"path D1 9999999999999999999999999999999999999999 L1",
+        11,
+        CertKind::BadNumber,
+    ),
+    (b"path D1 4 L1", b"path D1 4 L1 ", 11, CertKind::Syntax),
+    (
+        b"path D1 4 L1\nlength L1 4503599627370496\n",
+        b"length L1 4503599627370496\npath D1 4 L1\n",
+        12,
+        CertKind::Syntax,
+    ),
+    (
+        b"potential A 0 4503599627370496",
+        b"potential A 0",
+        13,
+        CertKind::Syntax,
+    ),
+    (
+        b"potential A 0",
+        b"potential C 0",
+        13,
+        CertKind::UnknownName,
+    ),
+    (b"end\n", b"", 14, CertKind::Syntax),
+    (b"end\n", b"end", 14, CertKind::Syntax),
+    (b"end\n", b"end\nx", 15, CertKind::Syntax),
+];
+
+// The words of the rows, which scale to the network under the options.
+fn names<'a>(rows: &'a RawNet<'a>, net: &'a Scaled, _options: NetOptions) -> Names<'a>
+    requires rows { AreNetRows rows.now }
+    requires net { scaled_of rows.now _options ≡ Ok net.now }
+    ensures { result ≡ sheet_of rows.now net.now }
+{
+    Names::new(rows, net)
+}
+
+// Each edit of the certificate is refused at its line.
+fn refused(rt: &impl Abort, alloc: Global, names: &Names<'_>) -> Result<(), Fail> {
+    for (old, new, line, kind) in EDITS {
+        let text = edited(alloc, CERTIFICATE, *old, *new)?;
+        assert!(rt; text.len() <= MAX_CERT_BYTES);
+        match read_cert(alloc, names, &text) {
+            Err(CertEnd::Refused(refusal)) => {
+                assert_eq!(rt; refusal.line, *line, "{kind:?}");
+                assert_eq!(rt; refusal.kind, *kind, "at {line}");
+            }
+            _ => assert!(rt; false, "{kind:?} at {line}"),
+        }
+    }
+    Ok(())
+}
+
+fn on_rows(rt: &impl Abort, alloc: Global, rows: &RawNet<'_>) -> Result<(), Fail> {
+    assert_eq!(rt; rows.nodes(), 2);
+    let options = NetOptions {
+        links: LinkMode::Directed,
+        modules: ModuleMode::Largest,
+    };
+    match scale(alloc, rows, options) {
+        Ok(net) => refused(rt, alloc, &names(rows, &net, options)),
+        Err(_) => {
+            assert!(rt; false, "the network is refused");
+            Ok(())
+        }
+    }
+}
+
+#[test]
+fn refusals_with_their_lines(rt: HostRuntime) -> Result<(), Fail> {
+    match read_net(rt.alloc(), ONE_LINK) {
+        Ok(rows) => on_rows(&rt, rt.alloc(), &rows),
+        Err(_) => {
+            assert!(rt; false, "the text is refused");
+            Ok(())
+        }
+    }
+}
+
+#[test]
+fn heads(rt: HostRuntime) {
+    let head = cert_head(CERTIFICATE);
+    assert!(rt;
+        head.is_ok_and(|h| h.full
+            && h.links == LinkMode::Directed
+            && h.modules == ModuleMode::Largest)
+    );
+    let head = cert_head(ROUTING);
+    assert!(rt; head.is_ok_and(|h| !h.full && h.modules == ModuleMode::Ignore));
+    for (text, line, kind) in [
+        (b"".as_slice(), 1u32, CertKind::NoHeader),
+        (b"mcf-routing 1", 1, CertKind::Syntax),
+        (b"mcf-routing 1\nlinks both\n", 2, CertKind::Syntax),
+        (
+            b"mcf-certificate 1\nverdict open\nlinks directed\nmodules all\n",
+            4,
+            CertKind::Syntax,
+        ),
+    ] {
+        assert!(rt; text.len() <= MAX_CERT_BYTES);
+        assert!(rt;
+            cert_head(text).is_err_and(|r| r.line == line && r.kind == kind),
+            "at {line}"
+        );
+    }
+}

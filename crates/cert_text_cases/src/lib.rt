@@ -1,5 +1,0 @@
-//! Worked texts of certificates and routings, read and written.
-#![tactic(auto)]
-
-#[cfg(test)]
-mod texts;

@@ -1,0 +1,61 @@
+//! The bound of lengths and the bound of a cut.
+
+ghost use Rattle.std.specs.Prelude.{◌≡◌, ◌<◌, ◌≤◌, IfOk, All, length};
+
+use dual_bound::{bound, cut_bound};
+use fixed_exp::{LengthTable, Powers};
+use flow_model::Setting;
+use net_graph::Graph;
+use std::test::Fail;
+use walk_rows::{cell, demand, network};
+
+/// The setting behind a fullest cell of 7 with a load of 10.
+const LATER: Setting = Setting {
+    first: false,
+    ref_cap: 7,
+    ref_load: 10,
+    step: 65536,
+};
+
+#[test]
+fn bound_of_two_links_under_a_load(rt: HostRuntime) -> Result<(), Fail> {
+    let alloc = rt.alloc();
+    let cells = [cell(0, 1, false, 3), cell(0, 1, false, 7)];
+    let net = network(alloc, 2, &cells, &[demand(0, 1, 10)])?.expect(&rt, "a network");
+    assert_eq!(rt; net.cells().len(), 2);
+    let graph = Graph::new(alloc, &net)?;
+    let mut table = LengthTable::new(alloc, &Powers::new(), &net, &LATER)?;
+    table.update(&Powers::new(), &net, &[0, 10]);
+    let bounded = bound(&rt, alloc, &net, &graph, table.lengths())?;
+    assert_eq!(rt; bounded.value.num(), 20266198323167226);
+    assert_eq!(rt; bounded.value.den(), 19301141260159260);
+    assert_eq!(rt; bounded.dual.lengths(), 2);
+    assert_eq!(rt; bounded.dual.length(0), (0, 2251799813685248));
+    assert_eq!(rt; bounded.dual.length(1), (1, 1930114126015926));
+    assert_eq!(rt; bounded.dual.rows(), 1);
+    assert_eq!(rt; bounded.dual.row_node(0), 0);
+    assert_eq!(rt; bounded.dual.row(0), [0, 1930114126015926].as_slice());
+    Ok(())
+}
+
+#[test]
+fn bound_of_a_node_that_is_cut_off(rt: HostRuntime) -> Result<(), Fail> {
+    let alloc = rt.alloc();
+    let cells = [cell(0, 1, true, 4), cell(1, 2, false, 0)];
+    let net = network(alloc, 3, &cells, &[demand(0, 2, 2), demand(1, 0, 5)])?.expect(
+        &rt,
+        "a network",
+    );
+    let graph = Graph::new(alloc, &net)?;
+    assert_eq!(rt; graph.first_cut(alloc, &net)?, Some(0));
+    if let Some(_) = graph.first_cut(alloc, &net)? {
+        let bounded = cut_bound(alloc, &net, &graph)?;
+        assert_eq!(rt; bounded.value.num(), 0);
+        assert_eq!(rt; bounded.value.den(), 2);
+        assert_eq!(rt; bounded.dual.lengths(), 2);
+        assert_eq!(rt; bounded.dual.length(1), (1, 1));
+        assert_eq!(rt; bounded.dual.rows(), 2);
+        assert_eq!(rt; bounded.dual.row(1), [0, 0, 1].as_slice());
+    }
+    Ok(())
+}

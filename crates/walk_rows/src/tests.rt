@@ -1,4 +1,0 @@
-//! Rows of lengths, arcs, cuts, walks and bounds.
-
-mod bounds;
-mod walks;
