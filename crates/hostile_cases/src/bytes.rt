@@ -1,10 +1,9 @@
 //! Single bytes exchanged, removed and doubled at every place of a small text of each kind.
 
-use crate::running::{is_line, judged};
-use crate::texts::{
-    CERTIFICATE, ONE_LINK, PRINT, ROUTING, SCRIPT, VALID, WHAT_IF, last_line, spliced,
-};
-use run_rows::{Answer, File, ample_answer};
+use crate::running::is_line;
+use crate::texts::{SCRIPT, last_line, spliced};
+use cert_cases::{CERTIFICATE, ONE_LINK, ROUTING, VALID};
+use run_rows::{Answer, File, PRINT, WHAT_IF, ample_answer, judged};
 use std::alloc::Global;
 use std::process::Abort;
 use std::test::Fail;

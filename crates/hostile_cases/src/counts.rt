@@ -2,9 +2,8 @@
 
 ghost use Rattle.std.specs.Prelude.{◌≤◌};
 
-use crate::running::{answer_within, expect, is_line, judged};
-use crate::texts::PRINT;
-use run_rows::File;
+use crate::running::{answer_within, is_line};
+use run_rows::{PRINT, expect_net, judged};
 use std::alloc::{AllocError, Global};
 use std::process::Abort;
 use std::test::Fail;
@@ -149,8 +148,7 @@ const TOO_MANY: &[Row] = &[
 fn one_row_too_many(rt: HostRuntime) -> Result<(), Fail> {
     for (shows, counts, line) in TOO_MANY {
         let net = network(rt.alloc(), *counts)?;
-        let files: [File<'_>; 1] = [("net", &net)];
-        expect(&rt, rt.alloc(), shows, PRINT, &files, 3, line)?;
+        expect_net(&rt, rt.alloc(), shows, PRINT, &net, 3, line)?;
     }
     Ok(())
 }

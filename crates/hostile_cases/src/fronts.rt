@@ -1,10 +1,8 @@
 //! Every proper front of a small text of each kind.
 
-use crate::running::{expect, judged};
-use crate::texts::{
-    CERTIFICATE, CHECK, ONE_LINK, PRINT, ROUTING, SCRIPT, VALID, WHAT_IF, last_line,
-};
-use run_rows::{File, ample_answer};
+use crate::texts::{SCRIPT, last_line};
+use cert_cases::{CERTIFICATE, ONE_LINK, ROUTING, VALID};
+use run_rows::{File, PRINT, WHAT_IF, ample_answer, expect_cert, expect_script, judged};
 use std::alloc::Global;
 use std::process::Abort;
 use std::test::Fail;
@@ -42,7 +40,7 @@ fn fronts_of_a_network(rt: HostRuntime) -> Result<(), Fail> {
 }
 
 // The front of a certificate or a routing: no header of so many bytes, or cut off in its last line.
-fn expect_cert(
+fn expect_front(
     rt: &(impl Abort + Threads + Sync),
     alloc: Global,
     header: usize,
@@ -62,16 +60,15 @@ fn expect_cert(
 #[test]
 fn fronts_of_a_certificate(rt: HostRuntime) -> Result<(), Fail> {
     for i in 0..CERTIFICATE.len() {
-        expect_cert(&rt, rt.alloc(), 17, i, &CERTIFICATE[..i])?;
+        expect_front(&rt, rt.alloc(), 17, i, &CERTIFICATE[..i])?;
     }
-    let files: [File<'_>; 2] = [("net", ONE_LINK), ("cert", CERTIFICATE)];
-    expect(&rt, rt.alloc(), "whole", CHECK, &files, 0, VALID)
+    expect_cert(&rt, rt.alloc(), "whole", ONE_LINK, CERTIFICATE, 0, VALID)
 }
 
 #[test]
 fn fronts_of_a_routing(rt: HostRuntime) -> Result<(), Fail> {
     for i in 0..ROUTING.len() {
-        expect_cert(&rt, rt.alloc(), 13, i, &ROUTING[..i])?;
+        expect_front(&rt, rt.alloc(), 13, i, &ROUTING[..i])?;
     }
     Ok(())
 }
@@ -86,7 +83,7 @@ const SHOWN: &[u8] =
 const FIRST: usize = 76;
 
 // The front of the script: refused in its last line, or a script that shows so much.
-fn expect_script(
+fn expect_end(
     rt: &(impl Abort + Threads + Sync),
     alloc: Global,
     end: u8,
@@ -116,8 +113,7 @@ fn expect_script(
 #[test]
 fn fronts_of_a_script(rt: HostRuntime) -> Result<(), Fail> {
     for i in 0..SCRIPT.len().min(ENDS.len()) {
-        expect_script(&rt, rt.alloc(), ENDS[i], &SCRIPT[..i])?;
+        expect_end(&rt, rt.alloc(), ENDS[i], &SCRIPT[..i])?;
     }
-    let files: [File<'_>; 3] = [("net", ONE_LINK), ("cert", CERTIFICATE), ("script", SCRIPT)];
-    expect(&rt, rt.alloc(), "whole", WHAT_IF, &files, 0, SHOWN)
+    expect_script(&rt, rt.alloc(), "whole", SCRIPT, 0, SHOWN)
 }

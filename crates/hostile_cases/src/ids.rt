@@ -1,10 +1,9 @@
 //! Ids of unusual bytes, through every command; and words at and past their limit.
 
-use crate::running::expect;
-use crate::texts::{CERTIFICATE, CHECK, ONE_LINK, PRINT, WHAT_IF, filled, repeated};
-use run_rows::File;
+use crate::texts::filled;
+use cert_cases::{ONE_LINK, VALID, repeated};
+use run_rows::{CHECK, File, PRINT, WHAT_IF, expect, expect_cert, expect_net, expect_script};
 use std::alloc::Global;
-use std::process::Abort;
 use std::test::Fail;
 use std::thread::Threads;
 
@@ -15,9 +14,6 @@ const NETWORK: &[u8] =
 /// What is solved of it.
 const SOLVED: &[u8] =
     b"mcf-certificate 1\nverdict closed\nlinks directed\nmodules largest\nnet nodes 2 cells 1 commodities 1 decimals 0 skipped 0 left 0 hops 0\ngap 0.050000\nphases 1\nscale 10 4\nlower 10/4 2.500000\nupper 45035996273704960/18014398509481984 2.500000\npath @ 4 @\nlength @ 4503599627370496\npotential @ 0 4503599627370496\nend\n";
-
-const SAID: &[u8] =
-    b"valid closed directed largest lower 10/4 2.500000 upper 45035996273704960/18014398509481984 2.500000\n";
 
 const SCRIPT: &[u8] = b"set @ 10 add @ 2 sub @ 12\nclose @ show";
 
@@ -68,19 +64,14 @@ const IDS: &[&[u8]] = &[
 ];
 
 // The id goes through every command unchanged.
-fn expect_id(
-    rt: &(impl Abort + Threads + Sync),
-    alloc: Global,
-    shows: &str,
-    id: &[u8],
-) -> Result<(), Fail> {
+fn expect_id<R: Threads + Sync>(rt: &R, alloc: Global, shows: &str, id: &[u8]) -> Result<(), Fail> {
     let net = filled(alloc, NETWORK, b'@', id)?;
     let cert = filled(alloc, SOLVED, b'@', id)?;
     let script = filled(alloc, SCRIPT, b'@', id)?;
     let files: [File<'_>; 3] = [("net", &net), ("cert", &cert), ("script", &script)];
     expect(rt, alloc, shows, PRINT, &files, 0, &net)?;
     expect(rt, alloc, shows, SOLVE, &files, 0, &cert)?;
-    expect(rt, alloc, shows, CHECK, &files, 0, SAID)?;
+    expect(rt, alloc, shows, CHECK, &files, 0, VALID)?;
     expect(rt, alloc, shows, WHAT_IF, &files, 0, SHOWN)
 }
 
@@ -93,50 +84,23 @@ fn ids_of_unusual_bytes(rt: HostRuntime) -> Result<(), Fail> {
 }
 
 // A word has at most 255 bytes.
-fn expect_long_words(rt: &(impl Abort + Threads + Sync), alloc: Global) -> Result<(), Fail> {
-    let longest = repeated(alloc, b"x", 255)?;
-    expect_id(rt, alloc, "longest", &longest)?;
-    let too_long = repeated(alloc, b"x", 256)?;
-    let net = filled(alloc, NETWORK, b'@', &too_long)?;
-    let cert = filled(alloc, SOLVED, b'@', &too_long)?;
-    let script = filled(alloc, SCRIPT, b'@', &too_long)?;
-    let files: [File<'_>; 1] = [("net", &net)];
-    expect(
-        rt,
-        alloc,
-        "network",
-        PRINT,
-        &files,
-        3,
-        b"refused net N2 line 3\n",
-    )?;
-    let files: [File<'_>; 2] = [("net", ONE_LINK), ("cert", &cert)];
-    expect(
-        rt,
-        alloc,
-        "certificate",
-        CHECK,
-        &files,
-        3,
-        b"refused cert K3 line 11\n",
-    )?;
-    let files: [File<'_>; 3] = [
-        ("net", ONE_LINK),
-        ("cert", CERTIFICATE),
-        ("script", &script),
-    ];
-    expect(
-        rt,
-        alloc,
-        "script",
-        WHAT_IF,
-        &files,
-        3,
-        b"refused script S1 line 1\n",
-    )
+#[test]
+fn words_at_their_limit(rt: HostRuntime) -> Result<(), Fail> {
+    let longest = repeated(rt.alloc(), b"x", 255)?;
+    expect_id(&rt, rt.alloc(), "longest", &longest)
 }
 
 #[test]
-fn words_at_and_past_their_limit(rt: HostRuntime) -> Result<(), Fail> {
-    expect_long_words(&rt, rt.alloc())
+fn words_past_their_limit(rt: HostRuntime) -> Result<(), Fail> {
+    let alloc = rt.alloc();
+    let too_long = repeated(alloc, b"x", 256)?;
+    let net = filled(alloc, NETWORK, b'@', &too_long)?;
+    let line = b"refused net N2 line 3\n";
+    expect_net(&rt, alloc, "network", PRINT, &net, 3, line)?;
+    let cert = filled(alloc, SOLVED, b'@', &too_long)?;
+    let line = b"refused cert K3 line 11\n";
+    expect_cert(&rt, alloc, "certificate", ONE_LINK, &cert, 3, line)?;
+    let script = filled(alloc, SCRIPT, b'@', &too_long)?;
+    let line = b"refused script S1 line 1\n";
+    expect_script(&rt, alloc, "script", &script, 3, line)
 }

@@ -1,24 +1,16 @@
 //! Numbers at their limits and one past them: of a network, of a certificate, and of the command line.
 
-use crate::running::{answer_within, expect};
-use crate::texts::{CERTIFICATE, CHECK, ONE_LINK, VALID, WHAT_IF, edited, repeated};
-use run_rows::{File, ample_answer};
+use crate::running::answer_within;
+use cert_cases::{CERTIFICATE, ONE_LINK, VALID, edited, repeated};
+use run_rows::{Edit, ample_answer, expect_certs, expect_script};
 use std::test::Fail;
 
 const SOLVE: &[&str] = &["solve", "net", "--workers", "1"];
 
-// What a row shows, a part of the network of one link and what takes its place, the status, and how the text begins.
-type Row = (
-    &'static str,
-    &'static [u8],
-    &'static [u8],
-    u8,
-    &'static [u8],
-);
-
 const CLOSED: &[u8] = b"mcf-certificate 1\nverdict closed\n";
 
-const NETWORKS: &[Row] = &[
+/// Of what is written each row has the front.
+const NETWORKS: &[Edit] = &[
     (
         "greatest_capacity",
         b") 10 0",
@@ -139,7 +131,7 @@ fn numbers_of_a_network(rt: HostRuntime) -> Result<(), Fail> {
 }
 
 // Two edits a limit: at it, where the text is read and judged, and one past it.
-const CERTIFICATES: &[Row] = &[
+const CERTIFICATES: &[Edit] = &[
     (
         "count",
         b"nodes 2",
@@ -286,12 +278,7 @@ const CERTIFICATES: &[Row] = &[
 
 #[test]
 fn numbers_of_a_certificate(rt: HostRuntime) -> Result<(), Fail> {
-    for (shows, part, by, status, text) in CERTIFICATES {
-        let cert = edited(rt.alloc(), CERTIFICATE, part, by)?;
-        let files: [File<'_>; 2] = [("net", ONE_LINK), ("cert", &cert)];
-        expect(&rt, rt.alloc(), shows, CHECK, &files, *status, text)?;
-    }
-    Ok(())
+    expect_certs(&rt, rt.alloc(), ONE_LINK, CERTIFICATE, CERTIFICATES)
 }
 
 /// Room for a network of 512 nodes.
@@ -340,10 +327,5 @@ fn numbers_of_the_command_line(rt: HostRuntime) -> Result<(), Fail> {
 #[test]
 fn script_at_its_limit(rt: HostRuntime) -> Result<(), Fail> {
     let script = repeated(rt.alloc(), b" ", 1_048_576)?;
-    let files: [File<'_>; 3] = [
-        ("net", ONE_LINK),
-        ("cert", CERTIFICATE),
-        ("script", &script),
-    ];
-    expect(&rt, rt.alloc(), "at_its_limit", WHAT_IF, &files, 0, b"")
+    expect_script(&rt, rt.alloc(), "at_its_limit", &script, 0, b"")
 }

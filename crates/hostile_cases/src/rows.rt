@@ -1,8 +1,7 @@
 //! Rows that other tables have not: each an edit of a small text, and its answer.
 
-use crate::running::expect;
-use crate::texts::{CERTIFICATE, CHECK, ONE_LINK, PRINT, WHAT_IF, edited};
-use run_rows::File;
+use cert_cases::{CERTIFICATE, ONE_LINK, edited};
+use run_rows::{CHECK, File, PRINT, WHAT_IF, expect, expect_net, expect_script};
 use std::test::Fail;
 
 // What a row shows, the words, a part of the network of one link and what takes its place, the status, and the text.
@@ -120,8 +119,7 @@ const SCRIPTS: &[ScriptRow] = &[
 fn networks(rt: HostRuntime) -> Result<(), Fail> {
     for (shows, words, part, by, status, text) in NETWORKS {
         let net = edited(rt.alloc(), ONE_LINK, part, by)?;
-        let files: [File<'_>; 1] = [("net", &net)];
-        expect(&rt, rt.alloc(), shows, words, &files, *status, text)?;
+        expect_net(&rt, rt.alloc(), shows, words, &net, *status, text)?;
     }
     Ok(())
 }
@@ -129,8 +127,7 @@ fn networks(rt: HostRuntime) -> Result<(), Fail> {
 #[test]
 fn scripts(rt: HostRuntime) -> Result<(), Fail> {
     for (shows, script, status, text) in SCRIPTS {
-        let files: [File<'_>; 3] = [("net", ONE_LINK), ("cert", CERTIFICATE), ("script", script)];
-        expect(&rt, rt.alloc(), shows, WHAT_IF, &files, *status, text)?;
+        expect_script(&rt, rt.alloc(), shows, script, *status, text)?;
     }
     Ok(())
 }

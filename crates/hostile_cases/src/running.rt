@@ -1,10 +1,7 @@
-//! Runs over files and output in memory, and what is expected of them.
+//! Answers of one line, and answers with more room than usual.
 
-use crate::texts::CHECK;
-use run_rows::{AMPLE, Answer, File, Outside, ample_answer, answer_to};
+use run_rows::{AMPLE, Answer, File, Outside, answer_to};
 use std::alloc::{AllocError, Global};
-use std::process::Abort;
-use std::test::Fail;
 use std::thread::Threads;
 
 // One line feed, at the end.
@@ -29,31 +26,4 @@ pub fn answer_within<R: Threads + Sync>(
     room: usize,
 ) -> Result<Answer, AllocError> {
     answer_to(rt, alloc, words, files, Outside { room, ..AMPLE })
-}
-
-/// What `check` says of the text on the network.
-pub fn judged<'a, R: Threads + Sync>(
-    rt: &R,
-    alloc: Global,
-    net: &'a [u8],
-    cert: &'a [u8],
-) -> Result<Answer, AllocError> {
-    let files: [File<'a>; 2] = [("net", net), ("cert", cert)];
-    ample_answer(rt, alloc, CHECK, &files)
-}
-
-/// The words are answered so.
-pub fn expect(
-    rt: &(impl Abort + Threads + Sync),
-    alloc: Global,
-    shows: &str,
-    words: &[&str],
-    files: &[File<'_>],
-    status: u8,
-    text: &[u8],
-) -> Result<(), Fail> {
-    let given = ample_answer(rt, alloc, words, files)?;
-    assert_eq!(rt; given.status, status, "{shows}");
-    assert!(rt; given.text() == text, "{shows}");
-    Ok(())
 }

@@ -4,8 +4,6 @@
 mod parse;
 mod read;
 mod request;
-#[cfg(test)]
-mod tests;
 mod values;
 
 pub use read::read_words;

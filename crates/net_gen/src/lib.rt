@@ -10,6 +10,3 @@ pub use laws::{
     generated_text_reads_back,
 };
 pub use text::generate;
-
-#[cfg(test)]
-mod tests;

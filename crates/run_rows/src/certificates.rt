@@ -1,19 +1,13 @@
 //! Rows of `check` on certificates.
 
-use crate::expected::expect;
-use crate::running::File;
-use crate::said::{CHECK, Row, certs};
-use crate::texts::{CERTIFICATE, CUT, NO_CAPACITY, ONE_LINK, edited, repeated};
+use crate::edits::{Edit, expect_certs};
+use crate::expected::expect_cert;
+use crate::networks::{CUT, NO_CAPACITY};
+use cert_cases::{CERTIFICATE, ONE_LINK, VALID, edited, repeated};
 use std::test::Fail;
 
-const CERTIFICATES: &[Row] = &[
-    (
-        "closed_on_one_link",
-        b"",
-        b"",
-        0,
-        b"valid closed directed largest lower 10/4 2.500000 upper 45035996273704960/18014398509481984 2.500000\n",
-    ),
+const CERTIFICATES: &[Edit] = &[
+    ("closed_on_one_link", b"", b"", 0, VALID),
     (
         "path_is_no_walk",
         b"4 L1\n",
@@ -170,7 +164,7 @@ const CERTIFICATES: &[Row] = &[
     ),
 ];
 
-const CUTS: &[Row] = &[
+const CUTS: &[Edit] = &[
     (
         "closed_at_zero",
         b"",
@@ -189,8 +183,8 @@ const CUTS: &[Row] = &[
 
 #[test]
 fn certificates(rt: HostRuntime) -> Result<(), Fail> {
-    certs(&rt, rt.alloc(), ONE_LINK, CERTIFICATE, CERTIFICATES)?;
-    certs(&rt, rt.alloc(), NO_CAPACITY, CUT, CUTS)
+    expect_certs(&rt, rt.alloc(), ONE_LINK, CERTIFICATE, CERTIFICATES)?;
+    expect_certs(&rt, rt.alloc(), NO_CAPACITY, CUT, CUTS)
 }
 
 // A path has at most 511 links.
@@ -199,13 +193,12 @@ fn path_of_512_links(rt: HostRuntime) -> Result<(), Fail> {
     let path = repeated(rt.alloc(), b" L1", 511)?;
     let cert = edited(rt.alloc(), CERTIFICATE, b"D1 4", &path)?;
     let cert = edited(rt.alloc(), &cert, b"path ", b"path D1 4")?;
-    let files: [File<'_>; 2] = [("net", ONE_LINK), ("cert", &cert)];
-    expect(
+    expect_cert(
         &rt,
         rt.alloc(),
         "path_of_512_links",
-        CHECK,
-        &files,
+        ONE_LINK,
+        &cert,
         3,
         b"refused cert K5 line 11\n",
     )

@@ -1,14 +1,13 @@
 //! Rows of `check` on routings and on networks, and the order of refusals.
 
+use crate::edits::{Edit, expect_certs, expect_on_nets};
 use crate::expected::expect;
+use crate::networks::{BOTH_ROUTED, BOTH_WAYS, THERE_AND_BACK};
 use crate::running::File;
-use crate::said::{Row, certs, nets};
-use crate::texts::{
-    BOTH_ROUTED, BOTH_WAYS, CERTIFICATE, ONE_LINK, ROUTING, THERE_AND_BACK, edited,
-};
+use cert_cases::{CERTIFICATE, ONE_LINK, ROUTING, edited};
 use std::test::Fail;
 
-const ROUTINGS: &[Row] = &[
+const ROUTINGS: &[Edit] = &[
     (
         "feasible_on_one_link",
         b"",
@@ -40,7 +39,7 @@ const ROUTINGS: &[Row] = &[
 ];
 
 // A routing in which the demands of both directions share one load.
-const TWO_WAYS: &[Row] = &[
+const TWO_WAYS: &[Edit] = &[
     (
         "undirected_link_shares_one_load",
         b"",
@@ -58,7 +57,7 @@ const TWO_WAYS: &[Row] = &[
 ];
 
 // Whole texts in place of a certificate.
-const WHOLE: &[Row] = &[
+const WHOLE: &[Edit] = &[
     (
         "walk_uses_a_link_three_times",
         ROUTING,
@@ -90,7 +89,7 @@ const WHOLE: &[Row] = &[
 ];
 
 // Changes of a network, under a routing that stands.
-const NETWORKS: &[Row] = &[
+const NETWORKS: &[Edit] = &[
     (
         "second_section",
         b"UNLIMITED\n)\n",
@@ -122,7 +121,7 @@ const NETWORKS: &[Row] = &[
 ];
 
 // Two refusals at once: which one is told.
-const HEADS: &[Row] = &[
+const HEADS: &[Edit] = &[
     (
         "head_before_units",
         b"mcf-certificate 1",
@@ -146,7 +145,7 @@ const HEADS: &[Row] = &[
     ),
 ];
 
-const TEXTS: &[Row] = &[(
+const TEXTS: &[Edit] = &[(
     "network_text_before_the_head",
     b"UNLIMITED\n)\n",
     b"UNLIMITED\n)\nNODES ( )\n",
@@ -156,21 +155,21 @@ const TEXTS: &[Row] = &[(
 
 #[test]
 fn routings(rt: HostRuntime) -> Result<(), Fail> {
-    certs(&rt, rt.alloc(), ONE_LINK, ROUTING, ROUTINGS)?;
-    certs(&rt, rt.alloc(), BOTH_WAYS, BOTH_ROUTED, TWO_WAYS)?;
-    certs(&rt, rt.alloc(), ONE_LINK, ROUTING, WHOLE)
+    expect_certs(&rt, rt.alloc(), ONE_LINK, ROUTING, ROUTINGS)?;
+    expect_certs(&rt, rt.alloc(), BOTH_WAYS, BOTH_ROUTED, TWO_WAYS)?;
+    expect_certs(&rt, rt.alloc(), ONE_LINK, ROUTING, WHOLE)
 }
 
 #[test]
 fn networks(rt: HostRuntime) -> Result<(), Fail> {
-    nets(&rt, rt.alloc(), ONE_LINK, ROUTING, NETWORKS)
+    expect_on_nets(&rt, rt.alloc(), ONE_LINK, ROUTING, NETWORKS)
 }
 
 #[test]
 fn refusals_in_order(rt: HostRuntime) -> Result<(), Fail> {
     let too_fine = edited(rt.alloc(), ONE_LINK, b"10 0 0 0", b"10.0000001 0 0 0")?;
-    certs(&rt, rt.alloc(), &too_fine, CERTIFICATE, HEADS)?;
-    nets(&rt, rt.alloc(), ONE_LINK, b"", TEXTS)
+    expect_certs(&rt, rt.alloc(), &too_fine, CERTIFICATE, HEADS)?;
+    expect_on_nets(&rt, rt.alloc(), ONE_LINK, b"", TEXTS)
 }
 
 #[test]

@@ -1,18 +1,22 @@
 //! Rows of `gen` and `trial`: networks that are drawn from a seed.
 
-use crate::expected::expect;
-use crate::running::{AMPLE, File, answer_to};
-use std::alloc::Global;
-use std::process::Abort;
+ghost use Rattle.std.specs.Prelude.{◌≤◌};
+
+use crate::expected::{PRINT, expect, expect_net};
+use crate::running::{AMPLE, Answer, Outside, ample_answer, answer_to};
+use std::str;
 use std::test::Fail;
-use std::thread::Threads;
 
 const SMALL: &[&str] = &["gen", "5", "2", "2", "1"];
+
+const SMALL_DRAWN: &[u8] =
+    b"?SNDlib native format; type: network; version: 1.0\nNODES (\n  N0\n  N1\n)\nLINKS (\n  L0 ( N0 N1 ) 1000000000 0 0 0 ( )\n  L1 ( N1 N0 ) 845 0 0 0 ( )\n)\nDEMANDS (\n  D0 ( N1 N0 ) 1 1 UNLIMITED\n)\n";
 
 /// What a row shows, the words, the status, and the text.
 type Row = (&'static str, &'static [&'static str], u8, &'static [u8]);
 
-const TRIALS: &[Row] = &[
+const ROWS: &[Row] = &[
+    ("least_network", SMALL, 0, SMALL_DRAWN),
     (
         "one_worker",
         &[
@@ -77,31 +81,69 @@ const TRIALS: &[Row] = &[
     ),
 ];
 
+#[test]
+fn draws_and_trials(rt: HostRuntime) -> Result<(), Fail> {
+    for (shows, words, status, text) in ROWS {
+        expect(&rt, rt.alloc(), shows, words, &[], *status, text)?;
+    }
+    Ok(())
+}
+
 // The text that is drawn is canonical: printing repeats it.
-fn expect_canonical(rt: &(impl Abort + Threads + Sync), alloc: Global) -> Result<(), Fail> {
-    let drawn = answer_to(rt, alloc, SMALL, &[], AMPLE)?;
-    assert!(rt; drawn.begins(0, b"?SNDlib native format"));
-    let files: [File<'_>; 1] = [("net", drawn.text())];
-    expect(
-        rt,
-        alloc,
+#[test]
+fn drawn_text_is_canonical(rt: HostRuntime) -> Result<(), Fail> {
+    expect_net(
+        &rt,
+        rt.alloc(),
         "canonical",
-        &["print", "net"],
-        &files,
+        PRINT,
+        SMALL_DRAWN,
         0,
-        drawn.text(),
+        SMALL_DRAWN,
     )
 }
 
-#[test]
-fn drawn_text_is_canonical(rt: HostRuntime) -> Result<(), Fail> {
-    expect_canonical(&rt, rt.alloc())
+// What was written as text.
+fn text_of(drawn: &Answer) -> &str {
+    str::from_utf8(drawn.text()).unwrap_or("")
+}
+
+// The line of that number, counted from 1.
+fn line_of(text: &str, number: usize) -> &str
+    requires { 1 ≤ number }
+{
+    text.lines().nth(number - 1).unwrap_or("")
 }
 
 #[test]
-fn trials(rt: HostRuntime) -> Result<(), Fail> {
-    for (shows, words, status, text) in TRIALS {
-        expect(&rt, rt.alloc(), shows, words, &[], *status, text)?;
-    }
+fn known_lines(rt: HostRuntime) -> Result<(), Fail> {
+    let words = ["gen", "7", "40", "120", "400"];
+    let drawn = ample_answer(&rt, rt.alloc(), &words, &[])?;
+    let text = text_of(&drawn);
+    assert!(rt; drawn.status == 0);
+    assert_eq!(rt; line_of(text, 45), "  L0 ( N0 N1 ) 1000000000 0 0 0 ( )");
+    assert_eq!(rt; line_of(text, 46), "  L1 ( N1 N2 ) 216 0 0 0 ( )");
+    assert_eq!(rt; line_of(text, 85), "  L40 ( N38 N13 ) 976 0 0 0 ( )");
+    assert_eq!(rt; line_of(text, 167), "  D0 ( N22 N11 ) 1 1 UNLIMITED");
+    assert_eq!(rt; line_of(text, 566), "  D399 ( N9 N1 ) 1 10 UNLIMITED");
+    Ok(())
+}
+
+/// Room for the text of the greatest network.
+const ROOMY: Outside = Outside {
+    room: 2 << 20,
+    ..AMPLE
+};
+
+#[test]
+fn greatest_network(rt: HostRuntime) -> Result<(), Fail> {
+    let words = ["gen", "18446744073709551615", "512", "4096", "32768"];
+    let drawn = answer_to(&rt, rt.alloc(), &words, &[], ROOMY)?;
+    let text = text_of(&drawn);
+    assert!(rt; drawn.status == 0);
+    assert_eq!(rt; text.len(), 1338430);
+    assert_eq!(rt; text.lines().count(), 37383);
+    assert_eq!(rt; line_of(text, 4612), "  L4095 ( N433 N10 ) 108 0 0 0 ( )");
+    assert_eq!(rt; line_of(text, 37382), "  D32767 ( N130 N62 ) 1 8 UNLIMITED");
     Ok(())
 }

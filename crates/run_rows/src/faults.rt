@@ -1,9 +1,10 @@
 //! Files and output that fail: at each read, at each write, and where nothing stands.
 
 use crate::expected::expect;
+use crate::networks::{FREE_LAYOUT, FREE_LAYOUT_PRINTED, TWO_LINKS};
 use crate::running::{AMPLE, File, Outside, ample_answer, answer_to};
-use crate::texts::{CERTIFICATE, FREE_LAYOUT, FREE_LAYOUT_PRINTED, ONE_LINK, ROUTING};
-use crate::whatifs::{OPEN, TWO_LINKS};
+use crate::whatifs::OPEN;
+use cert_cases::{CERTIFICATE, ONE_LINK, ROUTING, VALID};
 use std::alloc::Global;
 use std::process::Abort;
 use std::test::Fail;
@@ -29,7 +30,7 @@ const SMALL: Outside = Outside {
 const CHECK: Run = Run {
     words: &["check", "net", "cert"],
     files: &[("net", ONE_LINK), ("cert", CERTIFICATE)],
-    text: b"valid closed directed largest lower 10/4 2.500000 upper 45035996273704960/18014398509481984 2.500000\n",
+    text: VALID,
     reads: 12,
 };
 

@@ -7,22 +7,24 @@ mod certificates;
 mod checks;
 #[cfg(test)]
 mod draws;
-#[cfg(test)]
+mod edits;
 mod expected;
 #[cfg(test)]
 mod faults;
 #[cfg(test)]
+mod networks;
+#[cfg(test)]
 mod prints;
 mod running;
 #[cfg(test)]
-mod said;
-#[cfg(test)]
 mod solves;
-#[cfg(test)]
-mod texts;
 #[cfg(test)]
 mod usages;
 #[cfg(test)]
 mod whatifs;
+#[cfg(test)]
+mod words;
 
-pub use running::{AMPLE, Answer, File, Outside, ample_answer, answer_to};
+pub use edits::{Edit, expect_certs, expect_nets, expect_on_nets};
+pub use expected::{CHECK, PRINT, WHAT_IF, expect, expect_cert, expect_net, expect_script};
+pub use running::{AMPLE, Answer, File, Outside, ample_answer, answer_to, judged};

@@ -1,23 +1,13 @@
 //! Rows of `print`: the canonical text of a network, or its refusal.
 
-use crate::expected::expect;
-use crate::running::File;
-use crate::texts::{FREE_LAYOUT, FREE_LAYOUT_PRINTED, ONE_LINK, edited, repeated};
+use crate::edits::{Edit, expect_nets};
+use crate::expected::{PRINT, expect_net};
+use crate::networks::{FREE_LAYOUT, FREE_LAYOUT_PRINTED};
+use cert_cases::{ONE_LINK, edited, repeated};
 use std::alloc::{AllocError, Global};
 use std::test::Fail;
 
-const PRINT: &[&str] = &["print", "net"];
-
-// What a row shows, a part of the network of one link and what takes its place, the status, and the text.
-type Row = (
-    &'static str,
-    &'static [u8],
-    &'static [u8],
-    u8,
-    &'static [u8],
-);
-
-const ROWS: &[Row] = &[
+const ROWS: &[Edit] = &[
     ("canonical_text", b"", b"", 0, ONE_LINK),
     ("free_layout", ONE_LINK, FREE_LAYOUT, 0, FREE_LAYOUT_PRINTED),
     (
@@ -103,28 +93,14 @@ const ROWS: &[Row] = &[
 
 #[test]
 fn prints(rt: HostRuntime) -> Result<(), Fail> {
-    for (shows, part, by, status, text) in ROWS {
-        let net = edited(rt.alloc(), ONE_LINK, part, by)?;
-        let files: [File<'_>; 1] = [("net", &net)];
-        expect(&rt, rt.alloc(), shows, PRINT, &files, *status, text)?;
-    }
-    Ok(())
+    expect_nets(&rt, rt.alloc(), PRINT, ONE_LINK, ROWS)
 }
 
 // Every byte but blanks, parentheses and `#` may stand in an id.
 #[test]
 fn id_of_unknown_bytes(rt: HostRuntime) -> Result<(), Fail> {
     let net = edited(rt.alloc(), ONE_LINK, b"  B\n", b"  B\n  \xff\x00\x80\n")?;
-    let files: [File<'_>; 1] = [("net", &net)];
-    expect(
-        &rt,
-        rt.alloc(),
-        "id_of_unknown_bytes",
-        PRINT,
-        &files,
-        0,
-        &net,
-    )
+    expect_net(&rt, rt.alloc(), "id_of_unknown_bytes", PRINT, &net, 0, &net)
 }
 
 // The network of one link with another line in its nodes, in which so many bytes stand for the `@`.
@@ -137,20 +113,26 @@ fn lengthened(alloc: Global, line: &[u8], times: u32) -> Result<Vec<u8>, AllocEr
 #[test]
 fn long_words(rt: HostRuntime) -> Result<(), Fail> {
     let longest = lengthened(rt.alloc(), b"  B\n  @\n", 255)?;
-    let files: [File<'_>; 1] = [("net", &longest)];
-    expect(&rt, rt.alloc(), "longest_word", PRINT, &files, 0, &longest)?;
-    let too_long = lengthened(rt.alloc(), b"  B\n  @\n", 256)?;
-    let files: [File<'_>; 1] = [("net", &too_long)];
-    expect(
+    expect_net(
         &rt,
         rt.alloc(),
-        "word_too_long",
+        "longest_word",
         PRINT,
-        &files,
-        3,
-        b"refused net N2 line 5\n",
+        &longest,
+        0,
+        &longest,
     )?;
+    let too_long = lengthened(rt.alloc(), b"  B\n  @\n", 256)?;
+    let line = b"refused net N2 line 5\n";
+    expect_net(&rt, rt.alloc(), "word_too_long", PRINT, &too_long, 3, line)?;
     let comment = lengthened(rt.alloc(), b"  B #@\n", 300)?;
-    let files: [File<'_>; 1] = [("net", &comment)];
-    expect(&rt, rt.alloc(), "long_comment", PRINT, &files, 0, ONE_LINK)
+    expect_net(
+        &rt,
+        rt.alloc(),
+        "long_comment",
+        PRINT,
+        &comment,
+        0,
+        ONE_LINK,
+    )
 }

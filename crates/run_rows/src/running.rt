@@ -2,6 +2,7 @@
 
 ghost use Rattle.std.specs.Prelude.{◌≡◌, ◌≤◌, ◌↔◌, IsTrue};
 
+use crate::expected::CHECK;
 use mcf_base::{MemShelf, MemSink, OpenGate};
 use mcf_cli::run;
 use std::alloc::{AllocError, Global};
@@ -56,7 +57,8 @@ impl Answer {
     }
 }
 
-fn owned_words(alloc: Global, words: &[&str]) -> Result<Vec<String>, AllocError> {
+/// The words as a run takes them.
+pub fn owned_words(alloc: Global, words: &[&str]) -> Result<Vec<String>, AllocError> {
     let mut owned = Vec::new(alloc);
     for word in words {
         owned.push(String::from_str(alloc, word)?)?;
@@ -112,4 +114,15 @@ pub fn ample_answer<R: Threads + Sync>(
     files: &[File<'_>],
 ) -> Result<Answer, AllocError> {
     answer_to(rt, alloc, words, files, AMPLE)
+}
+
+/// What `check` says of the certificate or the routing on the network, where nothing fails.
+pub fn judged<'a, R: Threads + Sync>(
+    rt: &R,
+    alloc: Global,
+    net: &'a [u8],
+    cert: &'a [u8],
+) -> Result<Answer, AllocError> {
+    let files: [File<'a>; 2] = [("net", net), ("cert", cert)];
+    ample_answer(rt, alloc, CHECK, &files)
 }

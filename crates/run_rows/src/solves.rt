@@ -1,20 +1,18 @@
 //! Rows of `solve`: the certificate of a network, or its refusal. Each certificate is then judged by `check`.
 
-use crate::expected::expect;
-use crate::running::{AMPLE, File, answer_to};
-use crate::texts::{BOTH_WAYS, NO_CAPACITY, ONE_LINK};
-use std::alloc::Global;
-use std::process::Abort;
+use crate::expected::expect_net;
+use crate::networks::{BOTH_WAYS, NO_CAPACITY, TWO_LINKS};
+use crate::running::judged;
+use cert_cases::ONE_LINK;
 use std::test::Fail;
-use std::thread::Threads;
-
-/// Links of 3 and 7 side by side, and a demand of 10.
-const TWO_LINKS: &[u8] =
-    b"?SNDlib native format; type: network; version: 1.0\nNODES (\n  A\n  B\n)\nLINKS (\n  L1 ( A B ) 3 0 0 0 ( )\n  L2 ( A B ) 7 0 0 0 ( )\n)\nDEMANDS (\n  D1 ( A B ) 1 10 UNLIMITED\n)\n";
 
 /// Three nodes in a row with modules, a skipped section, and a demand from a node to itself.
 const THREE_CITIES: &[u8] =
     b"?SNDlib native format; type: network; version: 1.0\n# network tri\nMETA (\n  granularity = 1\n)\n# NODE SECTION\nNODES (\n  Berlin ( 13.48 52.52 )\n  Essen ( 7.01 51.45 )\n  Ulm ( 9.99 48.40 )\n)\nLINKS (\n  L1 ( Berlin Essen ) 0.00 0.00 0.00 0.00 ( 155.00 100.00 622.00 300.00 )\n  L2 ( Essen Ulm ) 0.00 0.00 0.00 0.00 ( 155.00 100.00 622.00 300.00 )\n)\nDEMANDS (\n  D1 ( Berlin Ulm ) 1 100.00 UNLIMITED\n  D2 ( Ulm Ulm ) 1 5.00 UNLIMITED\n  D3 ( Essen Ulm ) 1 100.00 3\n)\nADMISSIBLE_PATHS (\n  D1 ( P1 ( L1 L2 ) )\n)\n";
+
+/// What is solved of it.
+const THREE_CITIES_SOLVED: &[u8] =
+    b"mcf-certificate 1\nverdict closed\nlinks undirected\nmodules largest\nnet nodes 3 cells 2 commodities 2 decimals 0 skipped 2 left 1 hops 1\ngap 0.050000\nphases 1\nscale 622 200\nlower 622/200 3.110000\nupper 2812181307944075264/902479144078540800 3.116063\npath D1 100 L1 L2\npath D3 100 L2\nlength L1 17592186044416\nlength L2 4503599627370496\npotential Berlin 0 17592186044416 4521191813414912\npotential Essen 17592186044416 0 4503599627370496\nend\n";
 
 /// A demand from a node to itself alone.
 const FROM_A_TO_A: &[u8] =
@@ -116,7 +114,7 @@ const SOLVED: &[Row] = &[
         &["solve", "net", "--step", "1048576"],
         THREE_CITIES,
         0,
-        b"mcf-certificate 1\nverdict closed\nlinks undirected\nmodules largest\nnet nodes 3 cells 2 commodities 2 decimals 0 skipped 2 left 1 hops 1\ngap 0.050000\nphases 1\nscale 622 200\nlower 622/200 3.110000\nupper 2812181307944075264/902479144078540800 3.116063\npath D1 100 L1 L2\npath D3 100 L2\nlength L1 17592186044416\nlength L2 4503599627370496\npotential Berlin 0 17592186044416 4521191813414912\npotential Essen 17592186044416 0 4503599627370496\nend\n",
+        THREE_CITIES_SOLVED,
     ),
 ];
 
@@ -147,26 +145,12 @@ const REFUSED: &[Row] = &[
 /// The paths are forced, so the text is the same for every number of workers.
 const FORCED: &[&str] = &["1", "2", "16"];
 
-// The certificate is valid on its network.
-fn expect_valid<'a>(
-    rt: &(impl Abort + Threads + Sync),
-    alloc: Global,
-    shows: &str,
-    net: &'a [u8],
-    cert: &'a [u8],
-) -> Result<(), Fail> {
-    let files: [File<'a>; 2] = [("net", net), ("cert", cert)];
-    let judged = answer_to(rt, alloc, &["check", "net", "cert"], &files, AMPLE)?;
-    assert!(rt; judged.begins(0, b"valid "), "{shows}");
-    Ok(())
-}
-
 #[test]
 fn solved(rt: HostRuntime) -> Result<(), Fail> {
     for (shows, words, net, status, text) in SOLVED {
-        let files: [File<'_>; 1] = [("net", net)];
-        expect(&rt, rt.alloc(), shows, words, &files, *status, text)?;
-        expect_valid(&rt, rt.alloc(), shows, net, text)?;
+        expect_net(&rt, rt.alloc(), shows, words, net, *status, text)?;
+        let said = judged(&rt, rt.alloc(), net, text)?;
+        assert!(&rt; said.begins(0, b"valid "), "{shows}");
     }
     Ok(())
 }
@@ -174,8 +158,7 @@ fn solved(rt: HostRuntime) -> Result<(), Fail> {
 #[test]
 fn refused(rt: HostRuntime) -> Result<(), Fail> {
     for (shows, words, net, status, text) in REFUSED {
-        let files: [File<'_>; 1] = [("net", net)];
-        expect(&rt, rt.alloc(), shows, words, &files, *status, text)?;
+        expect_net(&rt, rt.alloc(), shows, words, net, *status, text)?;
     }
     Ok(())
 }
@@ -184,10 +167,15 @@ fn refused(rt: HostRuntime) -> Result<(), Fail> {
 fn same_for_every_number_of_workers(rt: HostRuntime) -> Result<(), Fail> {
     for workers in FORCED {
         let words = ["solve", "net", "--step", "1048576", "--workers", workers];
-        let files: [File<'_>; 1] = [("net", THREE_CITIES)];
-        let text =
-            b"mcf-certificate 1\nverdict closed\nlinks undirected\nmodules largest\nnet nodes 3 cells 2 commodities 2 decimals 0 skipped 2 left 1 hops 1\ngap 0.050000\nphases 1\nscale 622 200\nlower 622/200 3.110000\nupper 2812181307944075264/902479144078540800 3.116063\npath D1 100 L1 L2\npath D3 100 L2\nlength L1 17592186044416\nlength L2 4503599627370496\npotential Berlin 0 17592186044416 4521191813414912\npotential Essen 17592186044416 0 4503599627370496\nend\n";
-        expect(&rt, rt.alloc(), workers, &words, &files, 0, text)?;
+        expect_net(
+            &rt,
+            rt.alloc(),
+            workers,
+            &words,
+            THREE_CITIES,
+            0,
+            THREE_CITIES_SOLVED,
+        )?;
     }
     Ok(())
 }

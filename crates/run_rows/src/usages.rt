@@ -1,7 +1,7 @@
 //! Words that ask for nothing.
 
-use crate::running::{AMPLE, answer_to};
-use crate::texts::{ONE_LINK, ROUTING};
+use crate::running::{File, ample_answer};
+use cert_cases::{ONE_LINK, ROUTING};
 use std::test::Fail;
 
 const USAGES: &[&[&str]] = &[
@@ -27,13 +27,33 @@ const USAGES: &[&[&str]] = &[
     &["solve", "net", "--gap", "0.05", "--gap", "0.1"],
     &["solve", "net", "--workers="],
     &["solve", "net", "--workers", "17"],
+    &["solve", "net", "--gap", "0.1", "--gap=0.1"],
+    &["solve", "net", "--workers=17"],
+    &["solve", "net", "--workers", "-1"],
+    &["solve", "net", "--workers=-1"],
+    &["solve", "net", "--gap", "--"],
+    &["solve", "--gap", "--", "net"],
+    &["solve", "--gap", "--links=directed", "net"],
+    &["solve", "net", "--links", "--modules", "sum"],
+    &["solve", "net", "--=x"],
+    &["solve", "net", "-g", "0.1"],
+    &["solve", "-ü", "net"],
+    &["solve", "net", "--WORDS", "x"],
+    &["solve", "net", "--", "--gap"],
+    &["check", "net", "cert", "--gap", "0.1"],
+    &["print", "--help"],
+    &["print", "-h"],
+    &["print", "net", "--version"],
+    &["trial", "1", "2", "2"],
+    &["trial", "1", "2", "2", "1", "--step", "0"],
+    &["gen", "18446744073709551616", "2", "2", "1"],
 ];
 
 #[test]
 fn usage(rt: HostRuntime) -> Result<(), Fail> {
-    let files: [(&str, &[u8]); 2] = [("net", ONE_LINK), ("cert", ROUTING)];
+    let files: [File<'_>; 2] = [("net", ONE_LINK), ("cert", ROUTING)];
     for words in USAGES {
-        let given = answer_to(&rt, rt.alloc(), words, &files, AMPLE)?;
+        let given = ample_answer(&rt, rt.alloc(), words, &files)?;
         assert!(&rt; given.is(2, b"usage\n"), "{words:?}");
     }
     Ok(())

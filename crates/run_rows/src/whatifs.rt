@@ -1,16 +1,10 @@
 //! Rows of `whatif`: what a script shows of a certificate, or the first refusal of the three files.
 
-use crate::expected::expect;
+use crate::expected::{WHAT_IF, expect, expect_script};
+use crate::networks::{CUT, NO_CAPACITY, TWO_LINKS};
 use crate::running::File;
-use crate::texts::{CERTIFICATE, CUT, NO_CAPACITY, ONE_LINK, ROUTING, repeated};
-use std::alloc::Global;
-use std::process::Abort;
+use cert_cases::{CERTIFICATE, ONE_LINK, ROUTING, repeated};
 use std::test::Fail;
-use std::thread::Threads;
-
-/// Links of 3 and 7 side by side, and a demand of 10.
-pub const TWO_LINKS: &[u8] =
-    b"?SNDlib native format; type: network; version: 1.0\nNODES (\n  A\n  B\n)\nLINKS (\n  L1 ( A B ) 3 0 0 0 ( )\n  L2 ( A B ) 7 0 0 0 ( )\n)\nDEMANDS (\n  D1 ( A B ) 1 10 UNLIMITED\n)\n";
 
 /// The header of a routing, without the end of its line.
 const HEADER_OF_A_ROUTING: &[u8] = b"mcf-routing 1";
@@ -161,8 +155,6 @@ const ROWS: &[Row] = &[
     ),
 ];
 
-const WHAT_IF: &[&str] = &["whatif", "net", "cert", "script"];
-
 #[test]
 fn scripts(rt: HostRuntime) -> Result<(), Fail> {
     for (shows, net, cert, script, status, text) in ROWS {
@@ -173,25 +165,15 @@ fn scripts(rt: HostRuntime) -> Result<(), Fail> {
 }
 
 // A script over its limit is refused before it is judged.
-fn expect_too_long(rt: &(impl Abort + Threads + Sync), alloc: Global) -> Result<(), Fail> {
-    let script = repeated(alloc, b"show ", 209_716)?;
-    let files: [File<'_>; 3] = [
-        ("net", ONE_LINK),
-        ("cert", CERTIFICATE),
-        ("script", &script),
-    ];
-    expect(
-        rt,
-        alloc,
+#[test]
+fn script_over_its_limit(rt: HostRuntime) -> Result<(), Fail> {
+    let script = repeated(rt.alloc(), b"show ", 209_716)?;
+    expect_script(
+        &rt,
+        rt.alloc(),
         "too_long",
-        WHAT_IF,
-        &files,
+        &script,
         3,
         b"refused script TooLong\n",
     )
-}
-
-#[test]
-fn script_over_its_limit(rt: HostRuntime) -> Result<(), Fail> {
-    expect_too_long(&rt, rt.alloc())
 }

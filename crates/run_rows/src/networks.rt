@@ -1,0 +1,33 @@
+//! Other small networks, and certificates and routings for some.
+
+/// A link of 10 and a demand of 5 each way.
+pub const BOTH_WAYS: &[u8] =
+    b"?SNDlib native format; type: network; version: 1.0\nNODES (\n  A\n  B\n)\nLINKS (\n  L1 ( A B ) 10 0 0 0 ( )\n)\nDEMANDS (\n  D1 ( A B ) 1 5 UNLIMITED\n  D2 ( B A ) 1 5 UNLIMITED\n)\n";
+
+/// A routing for the network of two demands.
+pub const BOTH_ROUTED: &[u8] =
+    b"mcf-routing 1\nlinks undirected\nmodules none\nphases 1\nscale 10 10\npath D1 5 L1\npath D2 5 L1\nend\n";
+
+/// A routing for the network of one link that uses its link there, back and there again.
+pub const THERE_AND_BACK: &[u8] =
+    b"mcf-routing 1\nlinks undirected\nmodules none\nphases 1\nscale 10 12\npath D1 4 L1 L1 L1\nend\n";
+
+/// A link without capacity and a demand of 5 over it.
+pub const NO_CAPACITY: &[u8] =
+    b"?SNDlib native format; type: network; version: 1.0\nNODES (\n  A\n  B\n)\nLINKS (\n  L1 ( A B ) 0 0 0 0 ( )\n)\nDEMANDS (\n  D1 ( A B ) 1 5 UNLIMITED\n)\n";
+
+/// A certificate for the network without capacity.
+pub const CUT: &[u8] =
+    b"mcf-certificate 1\nverdict closed\nlinks undirected\nmodules largest\nnet nodes 2 cells 1 commodities 1 decimals 0 skipped 0 left 0 hops 0\ngap 0.050000\nphases 0\nscale 0 1\nlower 0/1 0.000000\nupper 0/5 0.000000\nlength L1 1\npotential A 0 1\nend\n";
+
+/// Links of 3 and 7 side by side, and a demand of 10.
+pub const TWO_LINKS: &[u8] =
+    b"?SNDlib native format; type: network; version: 1.0\nNODES (\n  A\n  B\n)\nLINKS (\n  L1 ( A B ) 3 0 0 0 ( )\n  L2 ( A B ) 7 0 0 0 ( )\n)\nDEMANDS (\n  D1 ( A B ) 1 10 UNLIMITED\n)\n";
+
+/// A network in free layout, with a comment, a place, a module, and numbers of several spellings.
+pub const FREE_LAYOUT: &[u8] =
+    b"?SNDlib native format; type: network; version: 1.0\nNODES(A B#note\nC ( 1 2 ))LINKS(L1(A B)1.0E3 0 0 0()L2(B C)5. 0 0 0(.5 9))\nDEMANDS(D1(A C)1 .5 UNLIMITED)\n";
+
+/// The canonical text of the same rows.
+pub const FREE_LAYOUT_PRINTED: &[u8] =
+    b"?SNDlib native format; type: network; version: 1.0\nNODES (\n  A\n  B\n  C ( 1 2 )\n)\nLINKS (\n  L1 ( A B ) 1.0E3 0 0 0 ( )\n  L2 ( B C ) 5. 0 0 0 ( .5 9 )\n)\nDEMANDS (\n  D1 ( A C ) 1 .5 UNLIMITED\n)\n";
