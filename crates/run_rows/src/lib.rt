@@ -12,6 +12,8 @@ mod expected;
 #[cfg(test)]
 mod faults;
 #[cfg(test)]
+mod gates;
+#[cfg(test)]
 mod prints;
 mod running;
 #[cfg(test)]
@@ -25,4 +27,4 @@ mod usages;
 #[cfg(test)]
 mod whatifs;
 
-pub use running::{AMPLE, Answer, File, Outside, ample_answer, answer_to};
+pub use running::{AMPLE, Answer, File, Outside, ample_answer, answer_through, answer_to};
