@@ -1,5 +1,5 @@
 -- What closing tells makes the phase.
-use Rattle.std.proofs.Common.{◌≡◌, ◌≢◌, ℕ, zero, suc, ◌<◌, ◌≤◌, Bool, true, false, nat_eq, nat_lt, List, [], ◌∷◌, ◌++◌, length, get_or, Some, None, refl, sym, ap, ◌∙◌, subst, arith, inl, inr}
+use Rattle.std.proofs.Common.{◌≡◌, ◌≢◌, ℕ, zero, suc, ◌<◌, ◌≤◌, min, Bool, true, false, nat_eq, nat_lt, List, [], ◌∷◌, ◌++◌, length, get_or, Some, None, refl, sym, ap, ◌∙◌, subst, arith, inl, inr}
 use Rattle.std.specs.Prelude.{Contains, All, slice_get}
 use Rattle.std.proofs.lemmas.List.{get_or-map, length-map}
 use Rattle.std.proofs.lemmas.List.Elements.{Contains-append_left, Contains-append_right, Contains-append_cases}
@@ -11,10 +11,11 @@ use Rattle.flow_core.specs.declared.state.Entry.{Entry}
 use Rattle.flow_core.specs.declared.state.Worker.{Worker}
 use Rattle.flow_core.specs.Core as core
 use Rattle.flow_core.specs.Core.{Terms, IsStart, IsComplete, start, after_schedule, worker_at, idle, total, path_of, group_of, commodity_count}
-use Rattle.flow_core.specs.Laws.{one_if, AllComplete, AllMembers, MembersOnly}
+use Rattle.flow_core.specs.Laws.{one_if, stops_of, AllComplete, AllMembers, MembersOnly}
 use Rattle.flow_core.specs.Phase.{HasAdded, HasStopped, EachIsComplete, IsPhase}
-use Rattle.flow_core.proofs.Steps.{laws}
-use Rattle.flow_core.proofs.Whole.{whole, no_entry, contained, members-at, path-member, path-some, log-inside}
+use Rattle.flow_core.proofs.Steps.{laws, counts_of}
+use Rattle.flow_core.proofs.Sums.{total-at}
+use Rattle.flow_core.proofs.Whole.{whole, no_entry, contained, members-at, path-member, path-some, log-inside, stopped-inside}
 use Rattle.load_table.specs.declared.view.Hand as table
 use Rattle.load_table.specs.Rule.{AllFit, Closes}
 use Rattle.commodity_claims.specs.Routes.{Route}
@@ -24,6 +25,7 @@ use Rattle.commodity_claims.proofs.Goings.{routes_more}
 use Rattle.phase_engine.specs.declared.hand.Hand.{Hand}
 use Rattle.phase_engine.specs.Hands.{no_hand, EachWork, SomeStopped}
 use Rattle.phase_engine.specs.Routing.{HasRouted, IsRoutedPhase}
+use Rattle.phase_engine.proofs.Counting.{routes-are-all}
 
 fit_at : (s : core.State) (hs : List table.Hand) (k : ℕ) → AllFit s hs → k < length hs → worker_at s (get_or hs k no_hand).number ≡ (get_or hs k no_hand).work
 fit_at s [] k f h = absurd (omega arith)
@@ -171,6 +173,12 @@ phase_of t hands works loads h each some closes =
     ((get_or works some.0 no_hand).number, ap (λ (u : Worker). u.stopped) (fit_at s works some.0 closes.works inside) ∙ some.2)) in
     let complete : EachIsComplete t s = λ k d l. subst (λ (u : Worker). All (IsComplete t) u.log) (any-default s.workers k idle d l) (all-of t (worker_at s k).log (complete_at k)) in
     let done = whole t closes.events h closes.legal stopped complete in
+    let claimed : core.ticket_count t < s.claims = (
+    let inside = stopped-inside s.workers stopped.0 stopped.1 in
+    let stop = total-at stops_of s.workers stopped.0 idle inside in
+    let one : stops_of (worker_at s stopped.0) ≡ 1 = ap one_if stopped.1 in
+    (counts_of t s inv).stop_past_end (omega arith)) in
+    let given : min s.claims (core.ticket_count t) ≡ core.ticket_count t = omega arith in
     record {
       entries = done.entries;
       count = done.count;
@@ -179,5 +187,7 @@ phase_of t hands works loads h each some closes =
         λ is. to-hand t hands works s w k path each inv.members mine nobody ((done.whole.entries_are k w path).0 is),
         λ has. (done.whole.entries_are k w path).1 (of-hand t hands works s w k path h.net each mine complete_at has),
       );
+      once = routes-are-all t.net hands s.workers (min s.claims (core.ticket_count t)) h.net
+          (λ k d l. (each.each k d l).2 ∙ ap (λ (u : Worker). routes_of t.net u.log) (sym (mine k l))) nobody inv.weighed given;
       sums = λ c few. sym (ap (λ (xs : List ℕ). get_or xs c 0) closes.loads_there) ∙ done.sums c few;
     }

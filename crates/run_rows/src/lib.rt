@@ -12,6 +12,8 @@ mod expected;
 #[cfg(test)]
 mod faults;
 #[cfg(test)]
+mod gates;
+#[cfg(test)]
 mod networks;
 #[cfg(test)]
 mod prints;
@@ -27,4 +29,4 @@ mod words;
 
 pub use edits::{Edit, expect_certs, expect_nets, expect_on_nets};
 pub use expected::{CHECK, PRINT, WHAT_IF, expect, expect_cert, expect_net, expect_script};
-pub use running::{AMPLE, Answer, File, Outside, ample_answer, answer_to, judged};
+pub use running::{AMPLE, Answer, File, Outside, ample_answer, answer_through, answer_to, judged};

@@ -3,7 +3,7 @@
 ghost use Rattle.std.specs.Prelude.{◌≡◌, ◌≤◌, ◌↔◌, IsTrue};
 
 use crate::expected::CHECK;
-use mcf_base::{MemShelf, MemSink, OpenGate};
+use mcf_base::{Gate, MemShelf, MemSink, OpenGate};
 use mcf_cli::run;
 use std::alloc::{AllocError, Global};
 use std::thread::Threads;
@@ -83,6 +83,30 @@ fn only(alloc: Global, number: u64) -> Result<Vec<u64>, AllocError> {
     Ok(numbers)
 }
 
+/// The answer to the words, where these files stand, with this gate behind each claim.
+pub fn answer_through<G: Gate, R: Threads + Sync>(
+    rt: &R,
+    alloc: Global,
+    words: &[&str],
+    files: &[File<'_>],
+    outside: Outside,
+    gate: &G,
+) -> Result<Answer, AllocError>
+    requires reads { 1 ≤ outside.most_read }
+    requires writes { 1 ≤ outside.most_written }
+{
+    let owned = owned_words(alloc, words)?;
+    let failing = only(alloc, outside.failing_read)?;
+    let mut shelf = MemShelf::new(owned_files(alloc, files)?, outside.most_read, failing);
+    let failing = only(alloc, outside.failing_write)?;
+    let mut sink = MemSink::new(alloc, outside.room, outside.most_written, failing)?;
+    let ended = run(rt, alloc, &owned, &mut shelf, &mut sink, gate);
+    Ok(Answer {
+        status: ended.status,
+        sink,
+    })
+}
+
 /// The answer to the words, where these files stand.
 pub fn answer_to<R: Threads + Sync>(
     rt: &R,
@@ -94,16 +118,7 @@ pub fn answer_to<R: Threads + Sync>(
     requires reads { 1 ≤ outside.most_read }
     requires writes { 1 ≤ outside.most_written }
 {
-    let owned = owned_words(alloc, words)?;
-    let failing = only(alloc, outside.failing_read)?;
-    let mut shelf = MemShelf::new(owned_files(alloc, files)?, outside.most_read, failing);
-    let failing = only(alloc, outside.failing_write)?;
-    let mut sink = MemSink::new(alloc, outside.room, outside.most_written, failing)?;
-    let ended = run(rt, alloc, &owned, &mut shelf, &mut sink, &OpenGate);
-    Ok(Answer {
-        status: ended.status,
-        sink,
-    })
+    answer_through(rt, alloc, words, files, outside, &OpenGate)
 }
 
 /// The answer where nothing fails.

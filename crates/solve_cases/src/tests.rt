@@ -3,13 +3,11 @@
 use crate::{entry_of, solved};
 use flow_model::Net;
 use flow_solver::Solved;
-use mcf_base::{Gate, OpenGate};
+use mcf_base::OpenGate;
 use solver_run::{Entry, SolveOptions};
 use std::alloc::Global;
 use std::process::Abort;
-use std::sync::atomic::{AtomicBool, AtomicU64, Ordering};
 use std::test::Fail;
-use std::thread;
 use std::thread::Threads;
 use walk_rows::{cell, demand, network};
 
@@ -143,95 +141,5 @@ fn the_same_for_all_workers(rt: HostRuntime) -> Result<(), Fail> {
         assert_eq!(rt; upper(&found), (36327864181719040, 18086966276915200));
         assert_eq!(rt; found.proof().routing.paths.rows(), 3);
     }
-    Ok(())
-}
-
-/// Turns that a held worker waits at most.
-const TURNS: u32 = 10_000_000;
-
-/// Waits until the flag is set.
-fn hold(flag: &AtomicBool) {
-    for _ in 0..TURNS {
-        if flag.load(Ordering::SeqCst) {
-            return;
-        }
-        thread::yield_now();
-    }
-}
-
-/// Holds the worker of one call until a worker of another number has called with a ticket that is not below the least.
-#[derive(Drop)]
-struct Meeting {
-    calls: AtomicU64,
-    held_call: u64,
-    least_ticket: u64,
-    held: AtomicU64,
-    met: AtomicBool,
-}
-
-impl Meeting {
-    fn new(held_call: u64, least_ticket: u64) -> Self {
-        Meeting {
-            calls: AtomicU64::new(0),
-            held_call,
-            least_ticket,
-            held: AtomicU64::new(u64::MAX),
-            met: AtomicBool::new(false),
-        }
-    }
-
-    /// The worker of the call that is held, once it is known.
-    fn held_worker(&self) -> u64 {
-        for _ in 0..TURNS {
-            let worker = self.held.load(Ordering::SeqCst);
-            if worker != u64::MAX {
-                return worker;
-            }
-            thread::yield_now();
-        }
-        u64::MAX
-    }
-}
-
-impl Gate for Meeting {
-    fn claimed(&self, worker: u16, ticket: u64) {
-        let call = self.calls.fetch_add(1, Ordering::SeqCst);
-        let worker = u64::from(worker);
-        if call == self.held_call {
-            self.held.store(worker, Ordering::SeqCst);
-            hold(&self.met);
-        }
-        if call > self.held_call && ticket >= self.least_ticket && self.held_worker() != worker {
-            self.met.store(true, Ordering::SeqCst);
-        }
-    }
-}
-
-/// A link that both demands share, one each way.
-#[test]
-fn two_workers_overlap(rt: HostRuntime) -> Result<(), Fail> {
-    let alloc = rt.alloc();
-    let demands = [demand(0, 1, 5), demand(1, 0, 5)];
-    let net = network(alloc, 2, &[cell(0, 1, true, 10)], &demands)?.expect(&rt, "a network");
-    let gate = Meeting::new(0, 0);
-    let found = solved(&rt, alloc, &net, &asked(50_000, 1000, 2, 65536), &gate)?.expect(
-        &rt, "options",
-    );
-    assert!(rt; gate.met.load(Ordering::SeqCst));
-    assert_eq!(rt; outcome(&found), (1, 10, 10, true));
-    Ok(())
-}
-
-/// The held worker reads the loads of the other one, and takes the other link.
-#[test]
-fn a_held_worker_reads_the_shared_loads(rt: HostRuntime) -> Result<(), Fail> {
-    let alloc = rt.alloc();
-    let cells = [cell(0, 1, true, 3), cell(0, 1, true, 7)];
-    let demands = [demand(0, 1, 5), demand(1, 0, 5)];
-    let net = network(alloc, 2, &cells, &demands)?.expect(&rt, "a network");
-    let gate = Meeting::new(4, 2);
-    let found = solved(&rt, alloc, &net, &asked(0, 2, 2, 65536), &gate)?.expect(&rt, "options");
-    assert!(rt; gate.met.load(Ordering::SeqCst));
-    assert_eq!(rt; outcome(&found), (2, 7, 15, false));
     Ok(())
 }
