@@ -125,7 +125,7 @@ impl Powers {
     }
 
     /// Puts the length of each cell in its place.
-    fn put_all_lengths(
+    pub fn put_all_lengths(
         &self,
         scale: &Scale,
         top: u128,

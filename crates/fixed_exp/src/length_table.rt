@@ -4,7 +4,7 @@ ghost use Rattle.std.specs.Prelude.{◌≡◌, ℕ, ◌≤◌, length, slice_ind
 ghost use Rattle.flow_model.specs.Lengths.{AreLengths, IsSetting, lengths_of};
 ghost use Rattle.fixed_exp.specs.Far.{EmptyAreFar};
 
-use crate::lengths::{exponents_of, least_of};
+use crate::lengths::least_of;
 use crate::powers::Powers;
 use crate::rates::{NO_RATE, Rate};
 use crate::scale::Scale;
@@ -54,7 +54,7 @@ fn put_rates(scale: &Scale, cells: &[Cell], least: u64, into: &mut [Rate])
 impl LengthTable {
     ghost use Rattle.std.specs.Prelude.{◌≡◌, replicate};
 
-    /// The lengths under loads of 0.
+    /// The lengths under loads of 0, at which every exponent is 0.
     pub fn new(
         alloc: Global,
         powers: &Powers,
@@ -66,20 +66,28 @@ impl LengthTable {
     {
         let cells = net.cells();
         let loads = vec![in alloc; 0; cells.len()]?;
-        let mut exponents = vec![in alloc; 0; cells.len()]?;
+        let exponents = vec![in alloc; 0; cells.len()]?;
         let mut lengths = vec![in alloc; 0; cells.len()]?;
         let places = vec![in alloc; 0u16; cells.len()]?;
         let scale = Scale::new(setting);
         let least = least_of(cells);
         let mut rates = vec![in alloc; NO_RATE; cells.len()]?;
         put_rates(&scale, cells, least, &mut rates);
-        let top = exponents_of(&scale, cells, &loads, &mut exponents);
-        powers.lengths(net, setting, &loads, &mut lengths);
+        powers.put_all_lengths(
+            &scale,
+            0,
+            least,
+            cells,
+            &loads,
+            &rates,
+            &exponents,
+            &mut lengths,
+        );
         Ok(LengthTable {
             net: Snapshot::of(net),
             scale,
             least,
-            top,
+            top: 0,
             loads,
             exponents,
             lengths,

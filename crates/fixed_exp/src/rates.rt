@@ -23,8 +23,8 @@ pub const NO_RATE: Rate = Rate {
     length: 0,
 };
 
-/// The quotient, rounded down. It is quick where the guess is it, or one less: a division takes as long as some ten
-/// multiplications.
+/// The quotient, rounded down. It is quick where the guess is it, or one less: then multiplications stand in the place of
+/// a division, which takes up to five times as long.
 #[inline(always)]
 pub fn quotient(above: u128, below: u128, guess: u64) -> u128
     requires positive { 0 < below }

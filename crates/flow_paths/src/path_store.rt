@@ -15,7 +15,7 @@ use std::marker::Model;
 #[derive(Drop)]
 pub struct PathStore {
     rows: RowBuffer,
-    // The keys of the first rows. `add` brings it up to the last row before it looks for one.
+    // The keys of the first rows. `add` and `index_rows` bring it up to the last row.
     index: KeyIndex,
 }
 
@@ -150,8 +150,8 @@ impl PathStore {
         total
     }
 
-    /// The first row of this commodity and path. It is looked up among the rows that `add` has seen, and then one by
-    /// one among those that were pushed since. Takes no memory.
+    /// The first row of this commodity and path. It is looked up among the rows that `add` or `index_rows` has seen, and
+    /// then one by one among those that were pushed since. Takes no memory.
     pub fn find(&self, k: u32, path: &[u16]) -> Option<u32>
         ensures { MatchOption result (HasNoRow self.now k path.now) (IsFirstRow self.now k path.now) }
     {
@@ -179,6 +179,13 @@ impl PathStore {
         ensures err { OnErr result (self.new ≡ self.old) }
     {
         self.rows.push(k, path, weight)
+    }
+
+    /// Makes `find` quick for the rows that were pushed since. The rows stay.
+    pub fn index_rows(&mut self) -> Result<(), AllocError>
+        ensures { self.new ≡ self.old }
+    {
+        catch_up(&mut self.index, &self.rows)
     }
 
     /// The first row of this commodity and path grows by the amount, or, where there is none, a new row is appended; answers its number.

@@ -43,9 +43,9 @@ impl Model for PathHistory {
 }
 
 impl PathHistory {
-    ghost use Rattle.std.specs.Prelude.{◌≡◌, ℕ, ◌+◌, ◌*◌, ◌<◌, ◌≤◌, ◌++◌, ◌∷◌, [], List, None, OnOk, OnErr, IfOk, IfSome, length, map, slice_index_or};
+    ghost use Rattle.std.specs.Prelude.{◌≡◌, ℕ, ◌+◌, ◌*◌, ◌<◌, ◌≤◌, ◌++◌, ◌∷◌, [], List, None, OnOk, OnErr, IfOk, MatchOption, length, map, slice_index_or};
     ghost use Rattle.flow_model.specs.Network.{Network};
-    ghost use Rattle.flow_paths.specs.PathRows.{row_at, IsFirstRow, Adds};
+    ghost use Rattle.flow_paths.specs.PathRows.{row_at, HasNoRow, IsFirstRow, Adds};
     ghost use Rattle.flow_core.specs.Phase.{Routed};
     ghost use Rattle.solver_run.specs.History.{routed_in, AreRowsOf};
     ghost use Rattle.path_history.specs.Rows.{phases_kept, AreRowsFor};
@@ -70,7 +70,7 @@ impl PathHistory {
         self.entries.phases()
     }
 
-    /// Adds a path to the rows, whose row may have been found.
+    /// Adds a path to the rows: its row grows where it was found, and else there is none, so one is appended.
     fn add_path(
         &mut self,
         found: Option<u32>,
@@ -78,7 +78,7 @@ impl PathHistory {
         path: &[u16],
         amount: u64,
     ) -> Result<u32, AllocError>
-        requires found { IfSome found (IsFirstRow self.old.rows k path.now) }
+        requires found { MatchOption found (HasNoRow self.old.rows k path.now) (IsFirstRow self.old.rows k path.now) }
         requires room { length self.old.rows < 4294967295 }
         requires amount { amount ≤ MAX_LENGTH }
         requires weight { (n : ℕ) → IsFirstRow self.old.rows k path.now n → (row_at self.old.rows n).weight + amount ≤ MAX_LENGTH }
@@ -92,11 +92,11 @@ impl PathHistory {
                 self.paths.grow(row, amount);
                 Ok(row)
             }
-            None => self.paths.add(k, path, amount),
+            None => self.paths.push(k, path, amount),
         }
     }
 
-    /// Adds the path of each commodity to the rows, where its row may have been found, and answers the entries.
+    /// Adds the path of each commodity to the rows, as it was found among them or not, and answers the entries.
     fn name_rows(
         &mut self,
         alloc: Global,
@@ -128,6 +128,7 @@ impl PathHistory {
                 row,
             })?;
         }
+        self.paths.index_rows()?;
         Ok(entries)
     }
 

@@ -1,16 +1,16 @@
 use Rattle.std.proofs.Common.{◌≡◌, ℕ, ◌+◌, ◌<◌, ◌≤◌, List, [], ◌∷◌, ◌++◌, length, get_or, ap, ◌∙◌, subst, arith, length-append, None}
 use Rattle.std.proofs.lemmas.List.Elements.{All-get_or}
 use Rattle.std.proofs.lemmas.Option.{slice_get-get_or}
-use Rattle.std.specs.Prelude.{IfSome}
+use Rattle.std.specs.Prelude.{MatchOption}
 use denote.Ref.{Bor}
 use Rattle.mcf_limits.specs.declared.TheConstants.{MAX_UNITS}
 use Rattle.flow_model.specs.declared.net.Commodity.{Commodity}
 use Rattle.flow_model.specs.Network.{IsCommodity}
-use Rattle.flow_paths.specs.PathRows.{IsFirstRow, Adds}
+use Rattle.flow_paths.specs.PathRows.{HasNoRow, IsFirstRow, Adds}
 use Rattle.solver_run.specs.declared.options.Entry.{Entry}
 use Rattle.path_history.specs.declared.places.Place.{Place}
 use Rattle.path_history.specs.Adding.{paths_in}
-use Rattle.path_history.proofs.RowsFound.{path_in, still_found}
+use Rattle.path_history.proofs.RowsFound.{path_in, still_found, new_more}
 use Rattle.path_history.proofs.Named.{can_add, adds_begun, adds_named, adds_keep}
 use Rattle.path_history.proofs.history.PathHistory.name_rows.Goals as goal
 
@@ -28,8 +28,8 @@ add_path-requires-clause-found c =
     let slices = c.args.paths.now in
     let inside : k < length slices = omega (arith, l, c.requires.path_count) in
     let row = get_or c.args.found.now k None in
-    subst (λ (p : List ℕ). IfSome row (IsFirstRow c.loop-k.self.rows k p)) (path_in slices k no_slice inside)
-    (still_found c.args.self.now.rows c.loop-k.self.rows (paths_in slices) k row c.loop-k.invariant.keeps c.loop-k.invariant.begun.apart (c.requires.found k l))
+    subst (λ (p : List ℕ). MatchOption row (HasNoRow c.loop-k.self.rows k p) (IsFirstRow c.loop-k.self.rows k p)) (path_in slices k no_slice inside)
+    (still_found c.args.self.now.rows c.loop-k.self.rows (paths_in slices) k row c.loop-k.invariant.keeps c.loop-k.invariant.begun.apart c.loop-k.invariant.below (c.requires.found k l))
 
 pub add_path-requires-clause-weight : goal.add_path-requires-clause-weight
 unfolding no_commodity no_slice
@@ -70,6 +70,7 @@ loop-k-preserved c =
       commodities = c.in_ok-row.ensures.commodities ∙ c.loop-k.invariant.commodities;
       history = c.in_ok-row.ensures.history ∙ c.loop-k.invariant.history;
       keeps = adds_keep c.args.self.now.rows old new path k c.in_ok-row.row this.amount c.loop-k.invariant.keeps adds;
+      below = new_more c.args.self.now.rows old new path k c.in_ok-row.row this.amount adds c.loop-k.invariant.below;
       begun = rw pushed (adds_begun net c.args.self.now.history es old new path this k c.in_ok-row.row p.hand c.loop-k.invariant.count c.loop-k.invariant.begun (slice_get-get_or net.commodities k no_commodity l) adds);
       named = rw pushed (adds_named net c.args.self.now.history c.args.places.now c.args.paths.now es old new no_slice k c.in_ok-row.row this.amount c.loop-k.invariant.count inside c.loop-k.invariant.begun adds c.loop-k.invariant.named);
     }

@@ -1,5 +1,6 @@
 use Rattle.std.proofs.Common.{◌≡◌, length}
 use Rattle.path_history.specs.Adding.{paths_in, KeepsRows, AreBegun, AreNamed}
+use Rattle.path_history.proofs.RowsFound.{AreNewBelow}
 use Rattle.path_history.proofs.history.PathHistory.name_rows.Given as goal
 
 abbrev pub invariant-loop-k : goal.invariant-loop-k
@@ -8,6 +9,7 @@ invariant-loop-k l = record {
   commodities : l.self.commodities ≡ l.initial.self.commodities;
   history : l.self.history ≡ l.initial.self.history;
   keeps : KeepsRows l.initial.self.rows l.self.rows;
+  below : AreNewBelow l.initial.self.rows l.self.rows l.k;
   begun : AreBegun l.fn.net l.initial.self.history l.entries.items l.self.rows;
   named : AreNamed l.places (paths_in l.paths) l.self.rows l.entries.items;
 }
