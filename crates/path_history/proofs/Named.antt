@@ -5,14 +5,12 @@ use Rattle.std.proofs.lemmas.List.{same_lists, length-map, get_or-map, map-appen
 use Rattle.std.proofs.lemmas.List.Elements.{All-push, All-head, All-tail, All-weaker, Contains-get_or}
 use Rattle.std.proofs.lemmas.List.Sums.{sum_by_push}
 use Rattle.std.proofs.lemmas.Option.{slice_get-get_or, slice_get_within, get_or_from_slice_get}
-use denote.Ref.{Bor}
 use Rattle.mcf_limits.specs.declared.TheConstants.{MAX_LENGTH, MAX_PHASES, MAX_UNITS}
 use Rattle.flow_model.specs.declared.net.Commodity.{Commodity}
 use Rattle.flow_model.specs.Network.{Network}
 use Rattle.flow_model.specs.Routing.{Row}
 use Rattle.flow_paths.specs.PathRows.{row_at, IsFirstRow, Adds}
 use Rattle.flow_core.specs.Phase.{Routed}
-use Rattle.commodity_claims.specs.Routes.{Route}
 use Rattle.phase_engine.specs.declared.hand.Hand.{Hand}
 use Rattle.phase_engine.specs.Routing.{HasRouted}
 use Rattle.solver_run.specs.declared.options.Entry.{Entry}
@@ -21,10 +19,9 @@ use Rattle.path_history.specs.declared.places.Place.{Place}
 use Rattle.path_history.specs.Phases.{NamesBelow}
 use Rattle.path_history.specs.Rows.{AreRowsFor}
 use Rattle.path_history.specs.Routes.{IsRoutedOnce}
-use Rattle.path_history.specs.Adding.{no_route, no_place, path_at, paths_in, IsPlaceOf, KeepsRows, AreBegun, IsNamedAt, AreNamed}
+use Rattle.path_history.specs.Adding.{no_place, path_at, KeepsRows, AreBegun, IsNamedAt, AreNamed}
 use Rattle.path_history.proofs.Adds.{pushed_at, added, keeps_both}
 use Rattle.path_history.proofs.Times.{names_of, can_grow}
-use Rattle.path_history.proofs.RowsFound.{path_in}
 use Rattle.path_history.proofs.OneMore.{one_more}
 
 pub begins : (net : Network) (h : List (List Entry)) (rows : List Row) → AreRowsFor net h rows → AreBegun net h [] rows
@@ -46,41 +43,28 @@ ends net h es rows b count = record {
   few = let f = b.few in let l : length (h ++ es ∷ []) ≡ length h + 1 = length-append h (es ∷ []) in rw l (omega (arith, f, count));
 }
 
--- the routes of the hand of that number
-pub routes_there : (hands : List Hand) (w : ℕ) (hand : Hand) → slice_get hands w ≡ Some hand → get_or (map (λ (h : Hand). h.routes) hands) w [] ≡ hand.routes
-routes_there hands w hand found =
-    get_or-map (λ (h : Hand). h.routes) hands w hand [] (slice_get_within hands w hand found) ∙ ap (λ (h : Hand). h.routes) (get_or_from_slice_get hands w hand hand found)
+pub named_none : (places : List Place) (rows : List Row) → AreNamed places rows []
+named_none places rows = record { each = λ k e is. cc }
 
--- the route at a place
-pub routed_at : (hands : List Hand) (k : ℕ) (p : Place) (path : List ℕ) → IsPlaceOf hands k p → path ≡ path_at hands p → HasRouted hands p.hand k path
-routed_at hands k p path is has =
-    let r = get_or is.hand.routes p.route no_route in
-    let along : r.path ≡ path = sym (has ∙ ap (λ (rs : List Route). (get_or rs p.route no_route).path) (routes_there hands p.hand is.hand is.found)) in
-    (is.hand, is.found, subst (λ i. Contains is.hand.routes (record { commodity = i; path = path })) is.at.commodity (subst (λ q. Contains is.hand.routes (record { commodity = r.commodity; path = q })) along (Contains-get_or is.hand.routes p.route no_route is.at.within)))
-
-pub named_none : (places : List Place) (paths : List (List ℕ)) (rows : List Row) → AreNamed places paths rows []
-named_none places paths rows = record { each = λ k e is. cc }
-
-pub named_more : (net : Network) (h : List (List Entry)) (places : List Place) (paths : List (List ℕ)) (es : List Entry) (old new : List Row) (e : Entry) → AreBegun net h es old → KeepsRows old new → AreNamed places paths old es
-    → IsNamedAt places paths new (length es) e → AreNamed places paths new (es ++ e ∷ [])
-named_more net h places paths es old new e b keeps named has = record {
-  each = λ k x is. pushed_at es e k x is (λ y i. IsNamedAt places paths new i y)
+pub named_more : (net : Network) (h : List (List Entry)) (places : List Place) (es : List Entry) (old new : List Row) (e : Entry) → AreBegun net h es old → KeepsRows old new → AreNamed places old es
+    → IsNamedAt places new (length es) e → AreNamed places new (es ++ e ∷ [])
+named_more net h places es old new e b keeps named has = record {
+  each = λ k x is. pushed_at es e k x is (λ y i. IsNamedAt places new i y)
       (λ y at. let before = named.each k y at in record { worker = before.worker; path = keeps.walk y.row (b.begun k y at).0 ∙ before.path })
-      (λ last. subst (λ i. IsNamedAt places paths new i e) (sym last) has);
+      (λ last. subst (λ i. IsNamedAt places new i e) (sym last) has);
 }
 
 -- the entries, with their paths, are what the hands have routed
 pub routed_is : (net : Network) (hands : List Hand) (places : List Place) (rows : List Row) (es : List Entry) (entries : List Routed) → length places ≡ length net.commodities
-    → ((k : ℕ) → k < length net.commodities → IsPlaceOf hands k (get_or places k no_place)) → length es ≡ length net.commodities → AreNamed places (map (path_at hands) places) rows es → IsRoutedOnce net hands entries → routed_in rows es ≡ entries
+    → ((k : ℕ) → k < length net.commodities → HasRouted hands (get_or places k no_place).hand k (path_at places k)) → length es ≡ length net.commodities → AreNamed places rows es → IsRoutedOnce net hands entries → routed_in rows es ≡ entries
 routed_is net hands places rows es entries many placed count named once =
     let long : length (routed_in rows es) ≡ length es = length-map es (λ (e : Entry). record { worker = e.worker; path = path_named rows e }) in
     same_lists (routed_in rows es) entries (long ∙ count ∙ sym once.count) (λ k d l.
     let none : Entry = record { worker = 0; row = 0 } in
     let e = get_or es k none in
     let in' : k < length es = omega (arith, long, l) in
-    let within : k < length places = omega (arith, in', count, many) in
     let named_at = named.each k e (slice_get-get_or es k none in') in
-    let has = routed_at hands k (get_or places k no_place) (path_named rows e) (placed k (omega (arith, in', count))) (named_at.path ∙ get_or-map (path_at hands) places k no_place [] within) in
+    let has : HasRouted hands (get_or places k no_place).hand k (path_named rows e) = subst (HasRouted hands (get_or places k no_place).hand k) (sym named_at.path) (placed k (omega (arith, in', count))) in
     let is = (once.routes k e.worker (path_named rows e)).1 (subst (λ w. HasRouted hands w k (path_named rows e)) (sym named_at.worker) has) in
     get_or-map (λ (e : Entry). record { worker = e.worker; path = path_named rows e }) es k none d in' ∙ sym (get_or_from_slice_get entries k (record { worker = e.worker; path = path_named rows e }) d is))
 
@@ -116,13 +100,13 @@ pub adds_begun : (net : Network) (h : List (List Entry)) (es : List Entry) (old 
     → Adds old new k path c.amount n → AreBegun net h (es ++ record { worker = w; row = n } ∷ []) new
 adds_begun net h es old new path c k n w is b at adds = one_more net h es old new path c n w b (ap (slice_get net.commodities) is ∙ at) (subst (λ i. Adds old new i path c.amount n) (sym is) adds)
 
-pub adds_named : (net : Network) (h : List (List Entry)) (places : List Place) (slices : List (Bor (List ℕ))) (es : List Entry) (old new : List Row) (d : Bor (List ℕ)) (k n a : ℕ) → length es ≡ k → k < length slices → AreBegun net h es old
-    → Adds old new k (get_or slices k d).now a n → AreNamed places (paths_in slices) old es → AreNamed places (paths_in slices) new (es ++ record { worker = (get_or places k no_place).hand; row = n } ∷ [])
-adds_named net h places slices es old new d k n a is inside b adds named =
-    let it = added old new k (get_or slices k d).now a n adds in
+pub adds_named : (net : Network) (h : List (List Entry)) (places : List Place) (es : List Entry) (old new : List Row) (k n a : ℕ) → length es ≡ k → AreBegun net h es old → Adds old new k (path_at places k) a n
+    → AreNamed places old es → AreNamed places new (es ++ record { worker = (get_or places k no_place).hand; row = n } ∷ [])
+adds_named net h places es old new k n a is b adds named =
+    let it = added old new k (path_at places k) a n adds in
     let e : Entry = record { worker = (get_or places k no_place).hand; row = n } in
-    let here : IsNamedAt places (paths_in slices) new k e = record { worker = refl; path = it.walk ∙ sym (path_in slices k d inside) } in
-    named_more net h places (paths_in slices) es old new e b it.keeps named (subst (λ i. IsNamedAt places (paths_in slices) new i e) (sym is) here)
+    let here : IsNamedAt places new k e = record { worker = refl; path = it.walk } in
+    named_more net h places es old new e b it.keeps named (subst (λ i. IsNamedAt places new i e) (sym is) here)
 
 pub adds_keep : (first old new : List Row) (path : List ℕ) (k n a : ℕ) → KeepsRows first old → Adds old new k path a n → KeepsRows first new
 adds_keep first old new path k n a keeps adds = keeps_both first old new keeps (added old new k path a n adds).keeps
@@ -133,7 +117,7 @@ names_below net rows h all = All-weaker (NamesRows net rows) (NamesBelow (length
 
 -- the phases before, and the one that the hands have routed
 pub phase_added : (net : Network) (hands : List Hand) (places : List Place) (old new : List Row) (h : List (List Entry)) (es : List Entry) (entries : List Routed) → KeepsRows old new → All (NamesRows net old) h → length places ≡ length net.commodities
-    → ((k : ℕ) → k < length net.commodities → IsPlaceOf hands k (get_or places k no_place)) → length es ≡ length net.commodities → AreNamed places (map (path_at hands) places) new es
+    → ((k : ℕ) → k < length net.commodities → HasRouted hands (get_or places k no_place).hand k (path_at places k)) → length es ≡ length net.commodities → AreNamed places new es
     → IsRoutedOnce net hands entries → map (routed_in new) (h ++ es ∷ []) ≡ map (routed_in old) h ++ entries ∷ []
 phase_added net hands places old new h es entries keeps all many placed count named once =
     let same = same_phases old new h keeps (names_below net old h all) in

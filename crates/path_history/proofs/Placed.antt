@@ -3,15 +3,17 @@ use Rattle.std.proofs.Common.{◌≡◌, ℕ, ◌+◌, ◌<◌, ◌≤◌, List,
 use Rattle.std.specs.Prelude.{◌⊎◌, All, Contains, slice_get}
 use Rattle.std.proofs.lemmas.Bool.{cases_eq, cases_lt}
 use Rattle.std.proofs.lemmas.List.{get_or-set_same, get_or-set_other}
-use Rattle.std.proofs.lemmas.List.Elements.{All-weaker, All-more, All-contains, All-contains_itself}
+use Rattle.std.proofs.lemmas.List.Elements.{All-weaker, All-more, All-contains, All-contains_itself, Contains-get_or}
 use Rattle.std.proofs.lemmas.Option.{slice_get-get_or, slice_get_within, same_Some}
+use denote.Ref.{Bor}
 use Rattle.flow_model.specs.Network.{Network}
 use Rattle.flow_core.specs.Phase.{Routed}
 use Rattle.commodity_claims.specs.Routes.{Route}
 use Rattle.phase_engine.specs.declared.hand.Hand.{Hand}
+use Rattle.phase_engine.specs.Routing.{HasRouted}
 use Rattle.path_history.specs.declared.places.Place.{Place}
 use Rattle.path_history.specs.Routes.{HaveRouted}
-use Rattle.path_history.specs.Adding.{no_route, no_place, IsPlaceAt, IsPlaceOf}
+use Rattle.path_history.specs.Adding.{no_route, no_place, IsPlaceAt}
 
 -- each place is as before, or one of the hand's
 abbrev pub AreKept : ℕ → Hand → List Place → List Place → Type 0
@@ -21,23 +23,27 @@ AreKept w hand old new = (k : ℕ) → k < length old → (get_or new k no_place
 abbrev pub IsNoted : ℕ → Hand → List Place → Route → Type 0
 IsNoted w hand places r = IsPlaceAt w hand r.commodity (get_or places r.commodity no_place)
 
-here : (w i k : ℕ) (hand : Hand) → i < length hand.routes → (get_or hand.routes i no_route).commodity ≡ k → IsPlaceAt w hand k (record { hand = w; route = i })
-here w i k hand l is = record { hand_is = refl; within = l; commodity = is }
+-- the place of the hand's i-th route
+abbrev pub place_at : ℕ → Bor (List ℕ) → Place
+place_at w path = record { hand = w; path = path }
+
+here : (w i k : ℕ) (hand : Hand) (path : Bor (List ℕ)) → i < length hand.routes → get_or hand.routes i no_route ≡ record { commodity = k; path = path.now } → IsPlaceAt w hand k (place_at w path)
+here w i k hand path l is = record { hand_is = refl; along = subst (Contains hand.routes) is (Contains-get_or hand.routes i no_route l) }
 
 -- after a write each place is the new one or as before
-after_set : (w i c k : ℕ) (hand : Hand) (places : List Place) → c < length places → i < length hand.routes → (get_or hand.routes i no_route).commodity ≡ c
-    → (get_or (set places c (record { hand = w; route = i })) k no_place ≡ get_or places k no_place) ⊎ IsPlaceAt w hand k (get_or (set places c (record { hand = w; route = i })) k no_place)
-after_set w i c k hand places l in' is =
-    let p : Place = record { hand = w; route = i } in
+after_set : (w i c k : ℕ) (hand : Hand) (path : Bor (List ℕ)) (places : List Place) → c < length places → i < length hand.routes → get_or hand.routes i no_route ≡ record { commodity = c; path = path.now }
+    → (get_or (set places c (place_at w path)) k no_place ≡ get_or places k no_place) ⊎ IsPlaceAt w hand k (get_or (set places c (place_at w path)) k no_place)
+after_set w i c k hand path places l in' is =
+    let p = place_at w path in
     elim (cases_eq k c) [
-      | inl e ↦ inr (subst (IsPlaceAt w hand k) (sym (ap (λ j. get_or (set places c p) j no_place) e ∙ get_or-set_same places c p no_place l)) (here w i k hand in' (is ∙ sym e)))
+      | inl e ↦ inr (subst (λ (j : ℕ). IsPlaceAt w hand j (get_or (set places c p) j no_place)) (sym e) (subst (IsPlaceAt w hand c) (sym (get_or-set_same places c p no_place l)) (here w i c hand path in' is)))
       | inr ne ↦ inl (get_or-set_other places c k p no_place ne)
     ]
 
-pub kept_more : (w i c : ℕ) (hand : Hand) (old places : List Place) → c < length places → i < length hand.routes → (get_or hand.routes i no_route).commodity ≡ c → AreKept w hand old places → AreKept w hand old (set places c (record { hand = w; route = i }))
-kept_more w i c hand old places l in' is kept k below =
-    let new = set places c (record { hand = w; route = i }) in
-    elim (after_set w i c k hand places l in' is) [
+pub kept_more : (w i c : ℕ) (hand : Hand) (path : Bor (List ℕ)) (old places : List Place) → c < length places → i < length hand.routes → get_or hand.routes i no_route ≡ record { commodity = c; path = path.now } → AreKept w hand old places
+    → AreKept w hand old (set places c (place_at w path))
+kept_more w i c hand path old places l in' is kept k below =
+    elim (after_set w i c k hand path places l in' is) [
       | inr at ↦ inr at
       | inl same ↦ elim (kept k below) [
         | inl e ↦ inl (same ∙ e)
@@ -45,28 +51,29 @@ kept_more w i c hand old places l in' is kept k below =
       ]
     ]
 
-pub noted_more : (w i c : ℕ) (hand : Hand) (places : List Place) → c < length places → i < length hand.routes → (get_or hand.routes i no_route).commodity ≡ c → All (IsNoted w hand places) (take i hand.routes)
-    → All (IsNoted w hand (set places c (record { hand = w; route = i }))) (take (i + 1) hand.routes)
-noted_more w i c hand places l in' is noted =
-    let p : Place = record { hand = w; route = i } in
+pub noted_more : (w i c : ℕ) (hand : Hand) (path : Bor (List ℕ)) (places : List Place) → c < length places → i < length hand.routes → get_or hand.routes i no_route ≡ record { commodity = c; path = path.now }
+    → All (IsNoted w hand places) (take i hand.routes) → All (IsNoted w hand (set places c (place_at w path))) (take (i + 1) hand.routes)
+noted_more w i c hand path places l in' is noted =
+    let p = place_at w path in
     let new = set places c p in
-    let old : All (IsNoted w hand new) (take i hand.routes) = All-weaker (IsNoted w hand places) (IsNoted w hand new) (λ r n. elim (after_set w i c r.commodity hand places l in' is) [
+    let old : All (IsNoted w hand new) (take i hand.routes) = All-weaker (IsNoted w hand places) (IsNoted w hand new) (λ r n. elim (after_set w i c r.commodity hand path places l in' is) [
       | inr at ↦ at
       | inl same ↦ subst (IsPlaceAt w hand r.commodity) (sym same) n
     ]) (take i hand.routes) noted in
-    let last : IsNoted w hand new (get_or hand.routes i no_route) = subst (λ k. IsPlaceAt w hand k (get_or new k no_place)) (sym is) (subst (IsPlaceAt w hand c) (sym (get_or-set_same places c p no_place l)) (here w i c hand in' is)) in
+    let k : (get_or hand.routes i no_route).commodity ≡ c = ap (λ (r : Route). r.commodity) is in
+    let last : IsNoted w hand new (get_or hand.routes i no_route) = subst (λ k. IsPlaceAt w hand k (get_or new k no_place)) (sym k) (subst (IsPlaceAt w hand c) (sym (get_or-set_same places c p no_place l)) (here w i c hand path in' is)) in
     All-more (IsNoted w hand new) hand.routes i no_route in' old last
 
 -- what follows of two facts on each element
 pub All-both : {X : Type 0} (P Q R : X → Type 0) → ((x : X) → P x → Q x → R x) → (xs : List X) → All P xs → All Q xs → All R xs
 All-both P Q R f xs p q = λ k d l. f (get_or xs k d) (p k d l) (q k d l)
 
+-- a hand has routed the commodity along the path of the place
+abbrev pub IsPlaceOf : List Hand → ℕ → Place → Type 0
+IsPlaceOf hands k p = HasRouted hands p.hand k p.path.now
+
 pub place_of : (hands : List Hand) (w k : ℕ) (hand : Hand) (p : Place) → slice_get hands w ≡ Some hand → IsPlaceAt w hand k p → IsPlaceOf hands k p
-place_of hands w k hand p found at = record {
-  hand = hand;
-  found = ap (slice_get hands) at.hand_is ∙ found;
-  at = record { hand_is = refl; within = at.within; commodity = at.commodity };
-}
+place_of hands w k hand p found at = (hand, ap (slice_get hands) at.hand_is ∙ found, at.along)
 
 -- the routes are of commodities of the network
 pub routes_inside : (net : Network) (hands : List Hand) (w : ℕ) (hand : Hand) → HaveRouted net hands → slice_get hands w ≡ Some hand → All (λ (r : Route). r.commodity < length net.commodities) hand.routes

@@ -2,12 +2,11 @@
 use Rattle.std.proofs.Common.{◌≡◌, ℕ, ◌+◌, ◌<◌, ◌≤◌, List, [], length, length-set, ap, get_or, set, Option, Some, None, inl, inr, sym, subst, ◌∙◌, arith, get_or-set_other, get_or-set_same}
 use Rattle.std.specs.Prelude.{MatchOption}
 use Rattle.std.proofs.lemmas.Bool.{cases_eq, cases_lt}
-use Rattle.std.proofs.lemmas.List.{get_or-map}
-use denote.Ref.{Bor}
 use Rattle.flow_model.specs.Routing.{Row}
 use Rattle.flow_paths.specs.PathRows.{row_at, HasNoRow, IsFirstRow, Adds}
+use Rattle.path_history.specs.declared.places.Place.{Place}
 use Rattle.path_history.specs.Rows.{AreApart}
-use Rattle.path_history.specs.Adding.{paths_in, IsRowFor, KeepsRows}
+use Rattle.path_history.specs.Adding.{path_at, IsRowFor, KeepsRows}
 use Rattle.path_history.proofs.Adds.{added}
 
 -- where no two rows are alike, a row that is kept is still the first of its commodity and path
@@ -60,30 +59,19 @@ still_none old new k path keeps below none = λ j l has. elim (cases_lt j (lengt
 ]
 
 -- so what was found among the old rows holds of the new ones
-pub still_found : (old new : List Row) (paths : List (List ℕ)) (k : ℕ) (row : Option ℕ) → KeepsRows old new → AreApart new → AreNewBelow old new k → IsRowFor old paths k row
-    → MatchOption row (HasNoRow new k (get_or paths k [])) (IsFirstRow new k (get_or paths k []))
-still_found old new paths k None keeps apart below found = still_none old new k (get_or paths k []) keeps below found.is
-still_found old new paths k (Some n) keeps apart below found = still_first old new k (get_or paths k []) n keeps apart found.is
+pub still_found : (old new : List Row) (places : List Place) (k : ℕ) (row : Option ℕ) → KeepsRows old new → AreApart new → AreNewBelow old new k → IsRowFor old places k row
+    → MatchOption row (HasNoRow new k (path_at places k)) (IsFirstRow new k (path_at places k))
+still_found old new places k None keeps apart below found = still_none old new k (path_at places k) keeps below found.is
+still_found old new places k (Some n) keeps apart below found = still_first old new k (path_at places k) n keeps apart found.is
 
 -- the rows of the first commodities have been found
-abbrev pub AreFound : List Row → List (List ℕ) → ℕ → ℕ → List (Option ℕ) → Type 0
-AreFound rows paths first n found = (i : ℕ) → i < n → IsRowFor rows paths (first + i) (get_or found i None)
+abbrev pub AreFound : List Row → List Place → ℕ → ℕ → List (Option ℕ) → Type 0
+AreFound rows places first n found = (i : ℕ) → i < n → IsRowFor rows places (first + i) (get_or found i None)
 
 -- the row of one commodity more
-pub found_more : (rows : List Row) (paths : List (List ℕ)) (first i : ℕ) (found : List (Option ℕ)) (row : Option ℕ) → i < length found → AreFound rows paths first i found → IsRowFor rows paths (first + i) row
-    → AreFound rows paths first (i + 1) (set found i row)
-found_more rows paths first i found row inside h here k l = elim (cases_eq k i) [
-  | inl e ↦ subst (λ (n : ℕ). IsRowFor rows paths (first + n) (get_or (set found i row) n None)) (sym e) (subst (IsRowFor rows paths (first + i)) (sym (get_or-set_same found i row None inside)) here)
-  | inr n ↦ subst (IsRowFor rows paths (first + k)) (sym (get_or-set_other found i k row None n)) (h k (omega arith))
+pub found_more : (rows : List Row) (places : List Place) (first i : ℕ) (found : List (Option ℕ)) (row : Option ℕ) → i < length found → AreFound rows places first i found → IsRowFor rows places (first + i) row
+    → AreFound rows places first (i + 1) (set found i row)
+found_more rows places first i found row inside h here k l = elim (cases_eq k i) [
+  | inl e ↦ subst (λ (n : ℕ). IsRowFor rows places (first + n) (get_or (set found i row) n None)) (sym e) (subst (IsRowFor rows places (first + i)) (sym (get_or-set_same found i row None inside)) here)
+  | inr n ↦ subst (IsRowFor rows places (first + k)) (sym (get_or-set_other found i k row None n)) (h k (omega arith))
 ]
-
--- the path in a slice
-pub path_in : (slices : List (Bor (List ℕ))) (k : ℕ) (d : Bor (List ℕ)) → k < length slices → get_or (paths_in slices) k [] ≡ (get_or slices k d).now
-path_in slices k d inside = get_or-map (λ (s : Bor (List ℕ)). s.now) slices k d [] inside
-
--- what a search for the path in a slice has found
-pub row_for : (rows : List Row) (slices : List (Bor (List ℕ))) (k : ℕ) (d : Bor (List ℕ)) (row : Option ℕ) → k < length slices → MatchOption row (HasNoRow rows k (get_or slices k d).now) (IsFirstRow rows k (get_or slices k d).now)
-    → IsRowFor rows (paths_in slices) k row
-row_for rows slices k d row inside found = record {
-  is = subst (λ (p : List ℕ). MatchOption row (HasNoRow rows k p) (IsFirstRow rows k p)) (sym (path_in slices k d inside)) found;
-}

@@ -5,7 +5,7 @@ ghost use Rattle.std.specs.Prelude.{◌≡◌};
 use crate::entries::Entries;
 use crate::found::found_rows;
 use crate::ordering::{new_numbers, order_of, stored};
-use crate::places::{Place, paths_of, places_of};
+use crate::places::{Place, places_of};
 use flow_model::Net;
 use flow_paths::PathStore;
 use mcf_limits::{MAX_LENGTH, MAX_PHASES, MAX_WORK, MAX_WORKERS};
@@ -50,7 +50,7 @@ impl PathHistory {
     ghost use Rattle.solver_run.specs.History.{routed_in, AreRowsOf};
     ghost use Rattle.path_history.specs.Rows.{phases_kept, AreRowsFor};
     ghost use Rattle.path_history.specs.Routes.{IsRoutedOnce, HaveRouted};
-    ghost use Rattle.path_history.specs.Adding.{paths_in, IsRowFor, KeepsRows, AreBegun, AreNamed};
+    ghost use Rattle.path_history.specs.Adding.{IsRowFor, KeepsRows, AreBegun, AreNamed};
 
     /// No phase and no row, for the commodities of the network.
     pub fn new(alloc: Global, net: &Net) -> Self
@@ -102,27 +102,25 @@ impl PathHistory {
         alloc: Global,
         net: &Net,
         places: &[Place],
-        paths: &[&[u16]],
         found: &[Option<u32>],
     ) -> Result<Vec<Entry>, AllocError>
         requires rows { AreRowsFor net.now self.old.history self.old.rows }
         requires phases { length self.old.history < MAX_PHASES }
         requires work { length net.now.commodities * (length self.old.history + 1) ≤ MAX_WORK }
         requires count { length places.now ≡ length net.now.commodities }
-        requires path_count { length paths.now ≡ length net.now.commodities }
         requires found_count { length found.now ≡ length net.now.commodities }
-        requires found { (k : ℕ) → k < length net.now.commodities → IsRowFor self.old.rows (paths_in paths.now) k (slice_index_or found.now k None) }
+        requires found { (k : ℕ) → k < length net.now.commodities → IsRowFor self.old.rows places.now k (slice_index_or found.now k None) }
         ensures commodities { self.new.commodities ≡ self.old.commodities }
         ensures history { self.new.history ≡ self.old.history }
         ensures keeps { KeepsRows self.old.rows self.new.rows }
         ensures count { IfOk result (λ v. length v.items ≡ length net.now.commodities) }
         ensures begun { IfOk result (λ v. AreBegun net.now self.old.history v.items self.new.rows) }
-        ensures named { IfOk result (λ v. AreNamed places.now (paths_in paths.now) self.new.rows v.items) }
+        ensures named { IfOk result (λ v. AreNamed places.now self.new.rows v.items) }
     {
         let commodities = net.commodities();
         let mut entries = Vec::with_capacity(alloc, commodities.len())?;
         for k in 0..commodities.len() {
-            let row = self.add_path(found[k], k as u32, paths[k], commodities[k].amount)?;
+            let row = self.add_path(found[k], k as u32, places[k].path, commodities[k].amount)?;
             entries.push(Entry {
                 worker: places[k].hand,
                 row,
@@ -155,9 +153,8 @@ impl PathHistory {
         ensures err { OnErr result (phases_kept self.new ≡ phases_kept self.old) }
     {
         let places = places_of(alloc, net, hands)?;
-        let paths = paths_of(alloc, hands, &places)?;
-        let found = found_rows(rt, alloc, hands.len(), &self.paths, &paths)?;
-        let entries = self.name_rows(alloc, net, &places, &paths, &found)?;
+        let found = found_rows(rt, alloc, hands.len(), &self.paths, &places)?;
+        let entries = self.name_rows(alloc, net, &places, &found)?;
         self.entries.push(&entries)?;
         Ok(())
     }

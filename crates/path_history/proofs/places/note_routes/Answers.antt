@@ -1,4 +1,4 @@
-use Rattle.std.proofs.Common.{◌≡◌, ◌<◌, length, get_or, sym, subst, arith}
+use Rattle.std.proofs.Common.{◌≡◌, ◌<◌, ◌∙◌, ℕ, List, length, get_or, sym, ap, subst, arith}
 use Rattle.std.specs.Prelude.{All}
 use Rattle.std.proofs.lemmas.List.{take_all}
 use Rattle.std.proofs.lemmas.List.Elements.{All-get_or}
@@ -13,12 +13,15 @@ loop-route-preserved c =
     let i = c.loop-route.route in
     let k = c.commodity-k.result in
     let in' : i < length hand.routes = omega arith in
-    let is : (get_or hand.routes i no_route).commodity ≡ k = sym c.commodity-k.ensures in
+    let path = c.path-path.result in
+    let r = get_or hand.routes i no_route in
+    let of : r.commodity ≡ k = sym c.commodity-k.ensures in
+    let is : r ≡ record { commodity = k; path = path.now } = ap (λ n. record { commodity = n; path = r.path }) of ∙ ap (λ (p : List ℕ). record { commodity = k; path = p }) (sym c.path-path.ensures) in
     let all : (get_or hand.routes i no_route).commodity < length c.args.places.now = All-get_or (λ (r : Route). r.commodity < length c.args.places.now) hand.routes i no_route in' c.requires in
-    let l : k < length c.loop-route.places = omega (arith, is, all) in
+    let l : k < length c.loop-route.places = omega (arith, of, all) in
     record {
-      kept = kept_more c.args.w i k hand c.args.places.now c.loop-route.places l in' is c.loop-route.invariant.kept;
-      noted = noted_more c.args.w i k hand c.loop-route.places l in' is c.loop-route.invariant.noted;
+      kept = kept_more c.args.w i k hand path c.args.places.now c.loop-route.places l in' is c.loop-route.invariant.kept;
+      noted = noted_more c.args.w i k hand path c.loop-route.places l in' is c.loop-route.invariant.noted;
     }
 
 pub returns-clause-noted : goal.returns-clause-noted

@@ -4,7 +4,7 @@ use Rattle.flow_model.specs.Routing.{Row}
 use Rattle.solver_run.specs.declared.options.Entry.{Entry}
 use Rattle.solver_run.specs.History.{routed_in}
 use Rattle.path_history.specs.declared.places.Place.{Place}
-use Rattle.path_history.specs.Adding.{path_at, paths_in, AreNamed}
+use Rattle.path_history.specs.Adding.{AreNamed}
 use Rattle.path_history.specs.Rows.{HistoryView, AreRowsFor}
 use Rattle.path_history.proofs.Named.{ends, names_below, phase_added, same_phases}
 use Rattle.path_history.proofs.history.PathHistory.add_phase.Goals as goal
@@ -38,7 +38,7 @@ returns-clause-rows g c =
     let h = c.args.self.now.history in
     let es = c.in_ok-entries.entries.items in
     let r : c.self-2.inside.paths ≡ new = ap (λ (v : HistoryView). v.rows) c.self-2.view_is in
-    let p : c.push.new.self.phases ≡ h ++ es ∷ [] = c.in_ok-push.ensures.ok ∙ ap (λ (t : List (List Entry)). t ++ c.deref-6.result.now ∷ []) (ap (λ (v : HistoryView). v.history) c.self-2.view_is ∙ c.name_rows.ensures.history) ∙ ap (λ (t : List Entry). h ++ t ∷ []) c.deref-6.ensures.value in
+    let p : c.push.new.self.phases ≡ h ++ es ∷ [] = c.in_ok-push.ensures.ok ∙ ap (λ (t : List (List Entry)). t ++ c.deref-4.result.now ∷ []) (ap (λ (v : HistoryView). v.history) c.self-2.view_is ∙ c.name_rows.ensures.history) ∙ ap (λ (t : List Entry). h ++ t ∷ []) c.deref-4.ensures.value in
     subst (AreRowsFor c.args.net.now c.push.new.self.phases) (sym r) (subst (λ (t : List (List Entry)). AreRowsFor c.args.net.now t new) (sym p) (ends c.args.net.now h es new c.in_ok-entries.ensures.begun c.in_ok-entries.ensures.count))
 
 pub returns-clause-phases : goal.returns-clause-phases
@@ -48,11 +48,9 @@ returns-clause-phases g c = λ entries once.
     let h = c.args.self.now.history in
     let es = c.in_ok-entries.entries.items in
     let r : c.self-2.inside.paths ≡ new = ap (λ (v : HistoryView). v.rows) c.self-2.view_is in
-    let p : c.push.new.self.phases ≡ h ++ es ∷ [] = c.in_ok-push.ensures.ok ∙ ap (λ (t : List (List Entry)). t ++ c.deref-6.result.now ∷ []) (ap (λ (v : HistoryView). v.history) c.self-2.view_is ∙ c.name_rows.ensures.history) ∙ ap (λ (t : List Entry). h ++ t ∷ []) c.deref-6.ensures.value in
+    let p : c.push.new.self.phases ≡ h ++ es ∷ [] = c.in_ok-push.ensures.ok ∙ ap (λ (t : List (List Entry)). t ++ c.deref-4.result.now ∷ []) (ap (λ (v : HistoryView). v.history) c.self-2.view_is ∙ c.name_rows.ensures.history) ∙ ap (λ (t : List Entry). h ++ t ∷ []) c.deref-4.ensures.value in
     let places = c.in_ok-places.places.items in
-    let paths : paths_in c.deref-4.result.now ≡ map (path_at c.args.hands.now) places = ap paths_in c.deref-4.ensures.value ∙ c.in_ok-paths.ensures ∙ ap (map (path_at c.args.hands.now)) c.deref.ensures.value in
-    let named : AreNamed places (map (path_at c.args.hands.now) places) new es =
-    subst (λ (t : List Place). AreNamed t (map (path_at c.args.hands.now) places) new es) c.deref-3.ensures.value (subst (λ (t : List (List ℕ)). AreNamed c.deref-3.result.now t new es) paths c.in_ok-entries.ensures.named) in
+    let named : AreNamed places new es = subst (λ (t : List Place). AreNamed t new es) c.deref-2.ensures.value c.in_ok-entries.ensures.named in
     ap (λ (t : List Row). map (routed_in t) c.push.new.self.phases) r ∙ ap (map (routed_in new)) p ∙ phase_added c.args.net.now c.args.hands.now places old new h es entries c.name_rows.ensures.keeps c.requires.rows.entries c.in_ok-places.ensures.count c.in_ok-places.ensures.places c.in_ok-entries.ensures.count named once
 
 pub invariant_of-self-2 : goal.invariant_of-self-2

@@ -1,5 +1,5 @@
 use Rattle.std.proofs.Common.{◌≡◌, length}
-use Rattle.path_history.specs.Adding.{paths_in, KeepsRows, AreBegun, AreNamed}
+use Rattle.path_history.specs.Adding.{KeepsRows, AreBegun, AreNamed}
 use Rattle.path_history.proofs.RowsFound.{AreNewBelow}
 use Rattle.path_history.proofs.history.PathHistory.name_rows.Given as goal
 
@@ -11,5 +11,5 @@ invariant-loop-k l = record {
   keeps : KeepsRows l.initial.self.rows l.self.rows;
   below : AreNewBelow l.initial.self.rows l.self.rows l.k;
   begun : AreBegun l.fn.net l.initial.self.history l.entries.items l.self.rows;
-  named : AreNamed l.places (paths_in l.paths) l.self.rows l.entries.items;
+  named : AreNamed l.places l.self.rows l.entries.items;
 }
