@@ -13,7 +13,8 @@ use Rattle.flow_model.specs.declared.setting.Setting.{Setting}
 use Rattle.flow_model.specs.Lengths.{AreLengths, exponent, greatest_exponent, least_capacity, length_at, lengths_at}
 use Rattle.fixed_exp.specs.Far.{EmptyAreFar}
 use Rattle.fixed_exp.specs.Changes.{IsNotIn}
-use Rattle.fixed_exp.specs.Kept.{no_cell, cell_at, KeepsExponent, greatest}
+use Rattle.fixed_exp.specs.Kept.{no_cell, no_rate, cell_at, KeepsExponent, greatest, length_from}
+use Rattle.fixed_exp.specs.declared.rates.Rate.{Rate}
 use Rattle.mcf_limits.specs.declared.TheConstants.{MAX_UNITS}
 
 pub least_small : (cells : List Cell) → least_capacity cells ≤ MAX_UNITS
@@ -96,6 +97,22 @@ pub put_more : (s : Setting) (top least : ℕ) (cells : List Cell) (loads into :
     → (k : ℕ) → k < i + 1 → get_or (set into i x) k 0 ≡ length_at s top least (cell_at cells k) (get_or loads k 0)
 put_more s top least cells loads into i x l e h =
     below_more (λ (k : ℕ). get_or (set into i x) k 0 ≡ length_at s top least (cell_at cells k) (get_or loads k 0)) i
+    (λ k b. let ne : k ≢ i = omega arith in rw get_or-set_other (h k b))
+    (rw get_or-set_same e)
+
+pub near_more : (top least : ℕ) (cells : List Cell) (kept into : List ℕ) (i x : ℕ) → i < length into → x ≡ length_from top least (cell_at cells i) (get_or kept i 0)
+    → ((k : ℕ) → k < i → get_or into k 0 ≡ length_from top least (cell_at cells k) (get_or kept k 0))
+    → (k : ℕ) → k < i + 1 → get_or (set into i x) k 0 ≡ length_from top least (cell_at cells k) (get_or kept k 0)
+near_more top least cells kept into i x l e h =
+    below_more (λ (k : ℕ). get_or (set into i x) k 0 ≡ length_from top least (cell_at cells k) (get_or kept k 0)) i
+    (λ k b. let ne : k ≢ i = omega arith in rw get_or-set_other (h k b))
+    (rw get_or-set_same e)
+
+pub rates_more : (cells : List Cell) (least : ℕ) (into : List Rate) (i : ℕ) (x : Rate) → i < length into → x.length ≡ 2 ^ 52 * least / (cell_at cells i).cap
+    → ((k : ℕ) → k < i → (get_or into k no_rate).length ≡ 2 ^ 52 * least / (cell_at cells k).cap)
+    → (k : ℕ) → k < i + 1 → (get_or (set into i x) k no_rate).length ≡ 2 ^ 52 * least / (cell_at cells k).cap
+rates_more cells least into i x l e h =
+    below_more (λ (k : ℕ). (get_or (set into i x) k no_rate).length ≡ 2 ^ 52 * least / (cell_at cells k).cap) i
     (λ k b. let ne : k ≢ i = omega arith in rw get_or-set_other (h k b))
     (rw get_or-set_same e)
 

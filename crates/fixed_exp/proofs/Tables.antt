@@ -7,12 +7,13 @@ use Rattle.flow_model.specs.Network.{Network, IsNetwork}
 use Rattle.flow_model.specs.Lengths.{AreLengths, IsSetting, exponent, greatest_exponent, least_capacity, length_at, lengths_at, lengths_of}
 use Rattle.mcf_limits.specs.declared.TheConstants.{MAX_LENGTH}
 use Rattle.fixed_exp.specs.Far.{EmptyAreFar}
-use Rattle.fixed_exp.specs.Kept.{cell_at, KeepsExponent}
+use Rattle.fixed_exp.specs.Kept.{cell_at, AreRates, KeepsExponent}
+use Rattle.fixed_exp.specs.declared.rates.Rate.{Rate}
 use Rattle.fixed_exp.specs.LoadedNetwork.{IsLengthTable}
 use Rattle.fixed_exp.proofs.Passes.{get_or-lengths_at, lengths-fit, empty-far, least_bounds, greatest_bounds}
 
 -- the length of each cell
-pub ready-at : (net : Network) (s : Setting) (loads kept ready : List ℕ) (top least rates places : ℕ) → IsLengthTable net s loads kept ready top least rates places
+pub ready-at : (net : Network) (s : Setting) (loads kept ready : List ℕ) (top least : ℕ) (rates : List Rate) (places : ℕ) → IsLengthTable net s loads kept ready top least rates places
     → (k : ℕ) → k < length net.cells → get_or ready k 0 ≡ length_at s top least (cell_at net.cells k) (get_or loads k 0)
 ready-at net s loads kept ready top least rates places t k l =
     ap (λ (xs : List ℕ). get_or xs k 0) t.lengths ∙ (get_or-lengths_at s (greatest_exponent s net.cells loads) (least_capacity net.cells) net.cells loads k t.count l
@@ -20,9 +21,9 @@ ready-at net s loads kept ready top least rates places t k l =
     ∙ ap (λ (n : ℕ). length_at s top n (cell_at net.cells k) (get_or loads k 0)) (sym t.least)))
 
 -- the table of other loads
-pub table-of : (net : Network) (s : Setting) (loads kept ready : List ℕ) (top least rates places : ℕ) → IsNetwork net → IsSetting s → length loads ≡ length net.cells → All (λ x. x ≤ MAX_LENGTH) loads
+pub table-of : (net : Network) (s : Setting) (loads kept ready : List ℕ) (top least : ℕ) (rates : List Rate) (places : ℕ) → IsNetwork net → IsSetting s → length loads ≡ length net.cells → All (λ x. x ≤ MAX_LENGTH) loads
     → least ≡ least_capacity net.cells → top ≡ greatest_exponent s net.cells loads → length kept ≡ length net.cells → ((k : ℕ) → k < length net.cells → KeepsExponent s net.cells loads kept k)
-    → ready ≡ lengths_at s top least net.cells loads → rates ≡ length net.cells → places ≡ length net.cells → IsLengthTable net s loads kept ready top least rates places
+    → ready ≡ lengths_at s top least net.cells loads → AreRates net.cells least rates → places ≡ length net.cells → IsLengthTable net s loads kept ready top least rates places
 table-of net s loads kept ready top least rates places fits setting count small p q size each e rated room =
     let is : ready ≡ lengths_of net s loads = e ∙ (ap (λ (n : ℕ). lengths_at s n least net.cells loads) q ∙ ap (λ (n : ℕ). lengths_at s (greatest_exponent s net.cells loads) n net.cells loads) p) in
     record {

@@ -5,7 +5,8 @@ use Rattle.flow_model.specs.Network.{Network, IsNetwork}
 use Rattle.flow_model.specs.Lengths.{AreLengths, IsSetting, greatest_exponent, least_capacity, lengths_of}
 use Rattle.mcf_limits.specs.declared.TheConstants.{MAX_LENGTH}
 use Rattle.fixed_exp.specs.Far.{EmptyAreFar}
-use Rattle.fixed_exp.specs.Kept.{KeepsExponent}
+use Rattle.fixed_exp.specs.Kept.{KeepsExponent, AreRates}
+use Rattle.fixed_exp.specs.declared.rates.Rate.{Rate}
 
 -- a network with a load for each cell, and the setting under which their lengths are taken
 pub record LoadedNetwork : Type 0 where
@@ -13,8 +14,8 @@ pub record LoadedNetwork : Type 0 where
   pub setting : Setting
   pub loads : List ℕ
 
--- the exponents, the greatest of them, the least capacity and the lengths are those of the loads, and there are as many rates and as much room for places
-pub record IsLengthTable (net : Network) (s : Setting) (loads kept ready : List ℕ) (greatest smallest rates places : ℕ) : Type 0 where
+-- the exponents, the greatest of them, the least capacity and the lengths are those of the loads, the rates are those of the cells, and there is as much room for places
+pub record IsLengthTable (net : Network) (s : Setting) (loads kept ready : List ℕ) (greatest smallest : ℕ) (rates : List Rate) (places : ℕ) : Type 0 where
   pub fits : IsNetwork net
   pub setting : IsSetting s
   pub count : length loads ≡ length net.cells
@@ -26,5 +27,5 @@ pub record IsLengthTable (net : Network) (s : Setting) (loads kept ready : List 
   pub lengths : ready ≡ lengths_of net s loads
   pub long : AreLengths net.cells ready
   pub empty : EmptyAreFar net.cells ready
-  pub rated : rates ≡ length net.cells
+  pub rated : AreRates net.cells smallest rates
   pub room : places ≡ length net.cells

@@ -3,7 +3,7 @@
 ghost use Rattle.std.specs.Prelude.{◌≡◌, ℕ, ◌-◌, ◌^◌, ◌<◌, ◌≤◌, min, length, slice_index, All, IsTrue};
 ghost use Rattle.flow_model.specs.Lengths.{exponent, length_at, greatest_exponent, lengths_at};
 ghost use Rattle.fixed_exp.specs.Changes.{AreBelow, IsNotIn};
-ghost use Rattle.fixed_exp.specs.Kept.{KeepsExponent, cell_at, greatest};
+ghost use Rattle.fixed_exp.specs.Kept.{AreRates, KeepsExponent, cell_at, greatest, length_from};
 
 use crate::changes::changed_places;
 use crate::lengths::exponents_of;
@@ -99,7 +99,7 @@ impl Powers {
         requires caps { All (λ cell. cell.cap ≤ MAX_UNITS) cells.now }
         requires loads { length loads.now ≡ length cells.now }
         requires small { All (λ x. x ≤ MAX_LENGTH) loads.now }
-        requires rates { length rates.now ≡ length cells.now }
+        requires rates { AreRates cells.now least rates.now }
         requires exponents { length kept.now ≡ length cells.now }
         requires into { length into.old ≡ length cells.now }
         requires within { count ≤ length places.now }
@@ -112,6 +112,65 @@ impl Powers {
     {
         for j in 0..count {
             let i = places[j] as usize;
+            into[i] = self.cell_length_by_rate(
+                scale,
+                top,
+                least,
+                &cells[i],
+                loads[i],
+                kept[i],
+                rates[i].length,
+            );
+        }
+    }
+
+    /// Puts the length of each cell in its place, where every exponent was kept whole.
+    fn put_near_lengths(
+        &self,
+        top: u64,
+        least: u64,
+        cells: &[Cell],
+        rates: &[Rate],
+        kept: &[u64],
+        into: &mut [u64],
+    )
+        requires caps { All (λ cell. cell.cap ≤ MAX_UNITS) cells.now }
+        requires rates { AreRates cells.now least rates.now }
+        requires exponents { length kept.now ≡ length cells.now }
+        requires into { length into.old ≡ length cells.now }
+        requires least { (k : ℕ) → k < length cells.now → 1 ≤ (cell_at cells.now k).cap → least ≤ (cell_at cells.now k).cap }
+        requires top { (k : ℕ) → k < length cells.now → slice_index kept.now k ≤ top }
+        ensures { (k : ℕ) → k < length cells.now → slice_index into.new k ≡ length_from top least (cell_at cells.now k) (slice_index kept.now k) }
+    {
+        for i in 0..into.len() {
+            into[i] = self.near_length(top, least, &cells[i], kept[i], rates[i].length);
+        }
+    }
+
+    /// The same where an exponent may have been too great to be kept.
+    fn put_far_lengths(
+        &self,
+        scale: &Scale,
+        top: u128,
+        least: u64,
+        cells: &[Cell],
+        loads: &[u64],
+        rates: &[Rate],
+        kept: &[u64],
+        into: &mut [u64],
+    )
+        requires caps { All (λ cell. cell.cap ≤ MAX_UNITS) cells.now }
+        requires loads { length loads.now ≡ length cells.now }
+        requires small { All (λ x. x ≤ MAX_LENGTH) loads.now }
+        requires rates { AreRates cells.now least rates.now }
+        requires exponents { length kept.now ≡ length cells.now }
+        requires into { length into.old ≡ length cells.now }
+        requires least { (k : ℕ) → k < length cells.now → 1 ≤ (cell_at cells.now k).cap → least ≤ (cell_at cells.now k).cap }
+        requires greatest { (k : ℕ) → k < length cells.now → exponent scale.now.setting (cell_at cells.now k) (slice_index loads.now k) ≤ top }
+        requires kept { (k : ℕ) → k < length cells.now → KeepsExponent scale.now.setting cells.now loads.now kept.now k }
+        ensures { into.new ≡ lengths_at scale.now.setting top least cells.now loads.now }
+    {
+        for i in 0..into.len() {
             into[i] = self.cell_length_by_rate(
                 scale,
                 top,
@@ -139,7 +198,7 @@ impl Powers {
         requires caps { All (λ cell. cell.cap ≤ MAX_UNITS) cells.now }
         requires loads { length loads.now ≡ length cells.now }
         requires small { All (λ x. x ≤ MAX_LENGTH) loads.now }
-        requires rates { length rates.now ≡ length cells.now }
+        requires rates { AreRates cells.now least rates.now }
         requires exponents { length kept.now ≡ length cells.now }
         requires into { length into.old ≡ length cells.now }
         requires least { (k : ℕ) → k < length cells.now → 1 ≤ (cell_at cells.now k).cap → least ≤ (cell_at cells.now k).cap }
@@ -147,16 +206,10 @@ impl Powers {
         requires kept { (k : ℕ) → k < length cells.now → KeepsExponent scale.now.setting cells.now loads.now kept.now k }
         ensures { into.new ≡ lengths_at scale.now.setting top least cells.now loads.now }
     {
-        for i in 0..into.len() {
-            into[i] = self.cell_length_by_rate(
-                scale,
-                top,
-                least,
-                &cells[i],
-                loads[i],
-                kept[i],
-                rates[i].length,
-            );
+        if top <= u128::from(u64::MAX) {
+            self.put_near_lengths(top as u64, least, cells, rates, kept, into);
+        } else {
+            self.put_far_lengths(scale, top, least, cells, loads, rates, kept, into);
         }
     }
 
@@ -179,7 +232,7 @@ impl Powers {
         requires caps { All (λ cell. cell.cap ≤ MAX_UNITS) cells.now }
         requires loads { length loads.now ≡ length cells.now }
         requires small { All (λ x. x ≤ MAX_LENGTH) loads.now }
-        requires rates { length rates.now ≡ length cells.now }
+        requires rates { AreRates cells.now least rates.now }
         requires exponents { length kept.now ≡ length cells.now }
         requires into { length into.old ≡ length cells.now }
         requires within { count ≤ length places.now }
@@ -219,7 +272,7 @@ impl Powers {
         requires old { length old.now ≡ length cells.now }
         requires loads { length loads.now ≡ length cells.now }
         requires small { All (λ x. x ≤ MAX_LENGTH) loads.now }
-        requires rates { length rates.now ≡ length cells.now }
+        requires rates { AreRates cells.now least rates.now }
         requires room { length places.old ≡ length cells.now }
         requires exponents { length kept.old ≡ length cells.now }
         requires into { length into.old ≡ length cells.now }

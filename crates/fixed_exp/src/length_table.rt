@@ -1,8 +1,9 @@
 //! Lengths that stand ready, and follow the loads.
 
-ghost use Rattle.std.specs.Prelude.{◌≡◌, ℕ, ◌≤◌, length, slice_index, All, IfOk};
+ghost use Rattle.std.specs.Prelude.{◌≡◌, ℕ, ◌<◌, ◌≤◌, length, slice_index, All, IfOk};
 ghost use Rattle.flow_model.specs.Lengths.{AreLengths, IsSetting, lengths_of};
 ghost use Rattle.fixed_exp.specs.Far.{EmptyAreFar};
+ghost use Rattle.fixed_exp.specs.Kept.{AreRates, cell_at};
 
 use crate::lengths::least_of;
 use crate::powers::Powers;
@@ -38,13 +39,15 @@ impl Model for LengthTable {
 
     ghost view = { λ t. record { net = t.net.value; setting = t.scale.setting; loads = t.loads.items } };
 
-    ghost invariant = { λ t. IsLengthTable t.net.value t.scale.setting t.loads.items t.exponents.items t.lengths.items t.top t.least (length t.rates.items) (length t.places.items) };
+    ghost invariant = { λ t. IsLengthTable t.net.value t.scale.setting t.loads.items t.exponents.items t.lengths.items t.top t.least t.rates.items (length t.places.items) };
 }
 
 /// Puts each cell's rate in its place.
 fn put_rates(scale: &Scale, cells: &[Cell], least: u64, into: &mut [Rate])
     requires caps { All (λ cell. cell.cap ≤ MAX_UNITS) cells.now }
+    requires least { (k : ℕ) → k < length cells.now → 1 ≤ (cell_at cells.now k).cap → least ≤ (cell_at cells.now k).cap }
     requires into { length into.old ≡ length cells.now }
+    ensures { AreRates cells.now least into.new }
 {
     for (i, slot) in into.iter_mut().enumerate() {
         *slot = scale.rate(&cells[i], least);

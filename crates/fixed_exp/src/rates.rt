@@ -1,16 +1,17 @@
-//! Divisions by numbers that stay the same, by a guess that is verified.
+//! Divisions by numbers that stay the same, by guesses.
 
 ghost use Rattle.std.specs.Prelude.{◌≡◌, ◌-◌, ◌*◌, ◌/◌, ◌^◌, ◌<◌, ◌≤◌, max, min};
 ghost use Rattle.flow_model.specs.Lengths.{exponent, length_at};
 ghost use Rattle.flow_model.specs.Powers.{weight_of};
+ghost use Rattle.fixed_exp.specs.Kept.{length_from};
 
 use crate::powers::Powers;
 use crate::scale::Scale;
 use flow_model::Cell;
 use mcf_limits::{MAX_LENGTH, MAX_UNITS};
 
-/// What a unit of load adds to a cell's exponent, and what a unit of weight adds to its length, in fixed point. Guesses
-/// of quotients are made by them; no answer depends on them.
+/// What a unit of load adds to a cell's exponent, and what a unit of weight adds to its length, in fixed point. The
+/// first is for guesses of quotients, and no answer depends on it; the second is a quotient itself, rounded down.
 #[derive(Clone, Copy)]
 pub struct Rate {
     pub exponent: u64,
@@ -44,36 +45,40 @@ pub fn quotient(above: u128, below: u128, guess: u64) -> u128
     above / below
 }
 
-/// The same for a guess that may be of any size.
-#[inline(always)]
-pub fn quotient_near(above: u128, below: u64, guess: u128) -> u128
-    requires { 0 < below }
-    ensures { result ≡ above / below }
-{
-    if guess <= u128::from(u64::MAX) {
-        return quotient(above, u128::from(below), guess as u64);
-    }
-    above / u128::from(below)
-}
-
 impl Powers {
-    /// The length of a positive cell. The rate makes it quick, and has no part in the value.
+    /// The length of a positive cell, without a division: the guess by the rate is the length, or one less.
     #[inline(always)]
     fn length_by_rate(&self, drop: u128, least: u64, cap: u64, rate: u64) -> u64
         requires positive { 1 ≤ cap }
         requires least { least ≤ cap }
         requires cap { cap ≤ MAX_UNITS }
+        requires rate { rate ≡ 2 ^ 52 * least / cap }
         ensures { result ≡ max 1 (weight_of drop * 4096 * least / cap) }
     {
         let weight = u128::from(self.weight(drop));
+        let guess = ((weight * u128::from(rate)) >> 40) as u64;
         let above = weight * 4096 * u128::from(least);
-        let guess = (weight * u128::from(rate)) >> 40;
-        let length = quotient_near(above, cap, guess);
-        (length as u64).max(1)
+        let rest = above - u128::from(guess) * u128::from(cap);
+        let length = if rest as u64 >= cap { guess + 1 } else { guess };
+        length.max(1)
     }
 
-    /// The length of a cell whose exponent was kept as far as it fits. The rate makes it quick, and has no part in the
-    /// value.
+    /// The length of a cell whose exponent is known.
+    #[inline(always)]
+    pub fn near_length(&self, top: u64, least: u64, cell: &Cell, exponent: u64, rate: u64) -> u64
+        requires least { 1 ≤ cell.now.cap → least ≤ cell.now.cap }
+        requires cap { cell.now.cap ≤ MAX_UNITS }
+        requires exponent { exponent ≤ top }
+        requires rate { rate ≡ 2 ^ 52 * least / cell.now.cap }
+        ensures { result ≡ length_from top least cell.now exponent }
+    {
+        if cell.cap == 0 {
+            return MAX_LENGTH;
+        }
+        self.length_by_rate(u128::from(top - exponent), least, cell.cap, rate)
+    }
+
+    /// The length of a cell whose exponent was kept as far as it fits.
     #[inline(always)]
     pub fn cell_length_by_rate(
         &self,
@@ -90,6 +95,7 @@ impl Powers {
         requires load { load ≤ MAX_LENGTH }
         requires top { exponent scale.now.setting cell.now load ≤ top }
         requires kept { kept ≡ min (exponent scale.now.setting cell.now load) (2 ^ 64 - 1) }
+        requires rate { rate ≡ 2 ^ 52 * least / cell.now.cap }
         ensures { result ≡ length_at scale.now.setting top least cell.now load }
     {
         if cell.cap == 0 {

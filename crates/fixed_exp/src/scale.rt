@@ -1,6 +1,6 @@
 //! Loads of cells in terms of a setting's reference.
 
-ghost use Rattle.std.specs.Prelude.{◌≡◌, ◌*◌, ◌^◌, ◌<◌, ◌≤◌, if◌then◌else◌};
+ghost use Rattle.std.specs.Prelude.{◌≡◌, ◌*◌, ◌/◌, ◌^◌, ◌<◌, ◌≤◌, if◌then◌else◌};
 ghost use Rattle.flow_model.specs.Lengths.{IsSetting, exponent};
 
 use crate::rates::{NO_RATE, Rate, quotient};
@@ -70,17 +70,19 @@ impl Scale {
 
     /// A cell's rates, where the least capacity is known.
     pub fn rate(&self, cell: &Cell, least: u64) -> Rate
-        requires { cell.now.cap ≤ MAX_UNITS }
+        requires cap { cell.now.cap ≤ MAX_UNITS }
+        requires least { 1 ≤ cell.now.cap → least ≤ cell.now.cap }
+        ensures { result.length ≡ 2 ^ 52 * least / cell.now.cap }
     {
         if cell.cap == 0 {
             return NO_RATE;
         }
         let below = u128::from(cell.cap) * u128::from(self.under);
         let exponent = (self.over << self.places) / below;
-        let length = (u128::from(least) << 52) / u128::from(cell.cap);
+        let length = u128::from(least) * (1 << 52) / u128::from(cell.cap);
         Rate {
             exponent: exponent.min(u128::from(u64::MAX)) as u64,
-            length: length.min(u128::from(u64::MAX)) as u64,
+            length: length as u64,
         }
     }
 

@@ -8,11 +8,10 @@ use Rattle.flow_model.specs.declared.net.Commodity.{Commodity}
 use Rattle.flow_model.specs.Network.{Network}
 use Rattle.flow_model.specs.Routing.{Row, carried}
 use Rattle.flow_model.proofs.Duality.{dot, dot-carried}
-use Rattle.flow_core.specs.Phase.{Routed}
-use Rattle.flow_paths.specs.Certificate.{IsRowOf, PhasesAreCarried}
+use Rattle.flow_paths.specs.Certificate.{IsRowOf}
 use Rattle.solver_run.specs.declared.options.Entry.{Entry}
 use Rattle.solver_run.specs.declared.options.SolveOptions.{SolveOptions}
-use Rattle.solver_run.specs.History.{SolvedView, phases_of, routed_in}
+use Rattle.solver_run.specs.History.{SolvedView, routed_in}
 use Rattle.solver_run.specs.Run.{IsSolverRun}
 use Rattle.solver_run.specs.Headline.{IsSolved}
 use Rattle.net_solve.specs.Tally.{total_of, routes_of, carried_of}

@@ -1,4 +1,4 @@
-use Rattle.std.proofs.Common.{◌+◌, arith}
+use Rattle.std.proofs.Common.{arith}
 use Rattle.path_history.proofs.RowsFound.{found_more}
 use Rattle.path_history.proofs.found.find_rows.Goals as goal
 

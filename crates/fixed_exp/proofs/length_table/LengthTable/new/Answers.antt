@@ -7,10 +7,13 @@ use Rattle.flow_model.specs.declared.net.Cell.{Cell}
 use Rattle.flow_model.specs.declared.setting.Setting.{Setting}
 use Rattle.flow_model.specs.Network.{Network, IsNetwork}
 use Rattle.flow_model.specs.Lengths.{IsSetting, greatest_exponent, lengths_at, least_capacity}
-use Rattle.fixed_exp.specs.Kept.{KeepsExponent}
+use Rattle.fixed_exp.specs.Kept.{AreRates, KeepsExponent}
 use Rattle.fixed_exp.proofs.Tables.{table-of, least-below}
 use Rattle.fixed_exp.proofs.Unloaded.{greatest-unloaded, kept-unloaded}
 use Rattle.fixed_exp.proofs.length_table.LengthTable.new.Goals as goal
+
+pub put_rates-requires-clause-least : goal.put_rates-requires-clause-least
+put_rates-requires-clause-least c = least-below c.cells-cells.result.now c.least_of-least.result c.least_of-least.ensures.value
 
 pub put_all_lengths-requires-clause-least : goal.put_all_lengths-requires-clause-least
 put_all_lengths-requires-clause-least c = least-below c.cells-cells.result.now c.least_of-least.result c.least_of-least.ensures.value
@@ -53,7 +56,7 @@ invariant_of-result c =
     let setting : IsSetting s = subst (λ (x : Setting). IsSetting x) (sym c.new-scale.ensures) c.requires in
     let w1 : length into ≡ c.in_ok-lengths.lengths.len = omega arith in
     let w2 : length c.put_rates.new.into ≡ c.in_ok-rates.rates.len = omega arith in
-    let rated : length c.put_rates.new.into ≡ length net.cells = omega (arith, many, c.in_ok-rates.ensures.len) in
+    let rated : AreRates net.cells least c.put_rates.new.into = subst (λ (xs : List Cell). AreRates xs least c.put_rates.new.into) same c.put_rates.ensures in
     let room : length c.in_ok-places.places.items ≡ length net.cells = omega (arith, many, c.in_ok-places.ensures.len) in
     rw (with_items_is c.in_ok-lengths.lengths into w1, with_items_is c.in_ok-rates.rates c.put_rates.new.into w2)
-    (table-of net s loads kept into 0 least (length c.put_rates.new.into) (length c.in_ok-places.places.items) fits setting count small p q size each e rated room)
+    (table-of net s loads kept into 0 least c.put_rates.new.into (length c.in_ok-places.places.items) fits setting count small p q size each e rated room)

@@ -21,7 +21,7 @@ follow-top-requires-clause-lengths c = λ k l.
     let cells = c.cells-cells.result.now in
     let same : i.net.value.cells ≡ cells = ap (λ (n : LoadedNetwork). n.net.cells) c.self.view_is ∙ (ap (λ (n : Network). n.cells) (sym c.requires.net) ∙ sym c.cells-cells.ensures.value) in
     let inside : k < length i.net.value.cells = subst (λ (xs : List Cell). k < length xs) (sym same) l in
-    let was = ready-at i.net.value i.scale.setting i.loads.items i.exponents.items i.lengths.items i.top i.least (length i.rates.items) (length i.places.items) c.self.invariant k inside in
+    let was = ready-at i.net.value i.scale.setting i.loads.items i.exponents.items i.lengths.items i.top i.least i.rates.items (length i.places.items) c.self.invariant k inside in
     ap (λ (xs : List ℕ). get_or xs k 0) c.deref_mut-3.ensures.value ∙ (was
     ∙ (ap (λ (xs : List Cell). length_at i.scale.setting i.top i.least (cell_at xs k) (get_or i.loads.items k 0)) same
     ∙ ap (λ (xs : List ℕ). length_at i.scale.setting i.top i.least (cell_at cells k) (get_or xs k 0)) (sym c.deref.ensures.value)))
@@ -47,4 +47,4 @@ invariant_of-self c =
     let lengths : c.follow-top.new.into ≡ lengths_at s top i.least i.net.value.cells loads = c.follow-top.ensures.lengths ∙ ap (λ (xs : List Cell). lengths_at s top i.least xs loads) same in
     let greatest : top ≡ greatest_exponent s i.net.value.cells loads = c.follow-top.ensures.greatest ∙ ap (λ (xs : List Cell). greatest_exponent s xs loads) same in
     rw (with_items_is i.loads c.copy_from_slice.new.self w1, with_items_is i.exponents c.follow-top.new.kept w2, with_items_is i.lengths c.follow-top.new.into w3, with_items_is i.places c.follow-top.new.places w4, c.copy_from_slice.ensures.after)
-    (table-of i.net.value s loads c.follow-top.new.kept c.follow-top.new.into top i.least (length i.rates.items) (length c.follow-top.new.places) c.self.invariant.fits c.self.invariant.setting count c.requires.small c.self.invariant.least greatest size each lengths c.self.invariant.rated room)
+    (table-of i.net.value s loads c.follow-top.new.kept c.follow-top.new.into top i.least i.rates.items (length c.follow-top.new.places) c.self.invariant.fits c.self.invariant.setting count c.requires.small c.self.invariant.least greatest size each lengths c.self.invariant.rated room)

@@ -1,11 +1,16 @@
-use Rattle.std.proofs.Common.{arith}
-use Rattle.fixed_exp.proofs.Passes.{put_more, all_put}
+use Rattle.std.proofs.Common.{◌≡◌, ◌∙◌, get_or, arith, ap}
+use Rattle.flow_model.specs.Lengths.{exponent}
+use Rattle.fixed_exp.specs.Kept.{cell_at, length_from}
+use Rattle.fixed_exp.proofs.Passes.{all_put}
 use Rattle.fixed_exp.proofs.powers.Powers.put_all_lengths.Goals as goal
 
-pub loop-i-preserved : goal.loop-i-preserved
-loop-i-preserved c = record {
-  done = put_more c.args.scale.now.setting c.args.top c.args.least c.args.cells.now c.args.loads.now c.loop-i.into c.loop-i.i c.cell_length_by_rate.result (omega arith) c.cell_length_by_rate.ensures c.loop-i.invariant.done;
-}
-
-pub returns : goal.returns
-returns c = all_put c.args.scale.now.setting c.args.top c.args.least c.args.cells.now c.args.loads.now c.loop-i.into c.requires.loads (omega arith) (λ k l. c.loop-i.invariant.done k (omega arith))
+pub returns-then-top-from : goal.returns-then-top-from
+returns-then-top-from c =
+    let s = c.args.scale.now.setting in
+    let top = c.args.top in
+    let cells = c.args.cells.now in
+    let loads = c.args.loads.now in
+    all_put s top c.args.least cells loads c.put_near_lengths.new.into c.requires.loads (omega arith)
+    (λ k l.
+    let kept : get_or c.args.kept.now k 0 ≡ exponent s (cell_at cells k) (get_or loads k 0) = omega (arith, c.requires.kept k l, c.requires.greatest k l, c.if-top-from.true, c.from.ensures) in
+    c.put_near_lengths.ensures k l ∙ ap (length_from top c.args.least (cell_at cells k)) kept)

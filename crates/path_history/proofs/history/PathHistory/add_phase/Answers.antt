@@ -1,4 +1,4 @@
-use Rattle.std.proofs.Common.{◌≡◌, ℕ, ◌++◌, ◌∷◌, [], List, map, sym, ap, ◌∙◌, subst}
+use Rattle.std.proofs.Common.{◌≡◌, ◌++◌, ◌∷◌, [], List, map, sym, ap, ◌∙◌, subst}
 use Rattle.std.specs.Prelude.{Ok, Err, Result, OnErr}
 use Rattle.flow_model.specs.Routing.{Row}
 use Rattle.solver_run.specs.declared.options.Entry.{Entry}

@@ -1,7 +1,7 @@
 use Rattle.std.proofs.Common.{◌≡◌, ◌<◌, ℕ, get_or}
 use Rattle.flow_model.specs.Lengths.{length_at}
 use Rattle.fixed_exp.specs.Kept.{cell_at}
-use Rattle.fixed_exp.proofs.powers.Powers.put_all_lengths.Given as goal
+use Rattle.fixed_exp.proofs.powers.Powers.put_far_lengths.Given as goal
 
 abbrev pub invariant-loop-i : goal.invariant-loop-i
 invariant-loop-i l = record {
