@@ -184,7 +184,7 @@ impl Powers {
     }
 
     /// Puts the length of each cell in its place.
-    pub fn put_all_lengths(
+    pub(crate) fn put_all_lengths(
         &self,
         scale: &Scale,
         top: u128,

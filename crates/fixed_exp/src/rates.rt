@@ -10,8 +10,8 @@ use crate::scale::Scale;
 use flow_model::Cell;
 use mcf_limits::{MAX_LENGTH, MAX_UNITS};
 
-/// What a unit of load adds to a cell's exponent, and what a unit of weight adds to its length, in fixed point. The
-/// first is for guesses of quotients, and no answer depends on it; the second is a quotient itself, rounded down.
+/// What a unit of load adds to a cell's exponent, for guesses of quotients on which no answer depends; and what a unit
+/// of weight adds to its length, with 40 binary places, rounded down.
 #[derive(Clone, Copy)]
 pub struct Rate {
     pub exponent: u64,
@@ -65,7 +65,14 @@ impl Powers {
 
     /// The length of a cell whose exponent is known.
     #[inline(always)]
-    pub fn near_length(&self, top: u64, least: u64, cell: &Cell, exponent: u64, rate: u64) -> u64
+    pub(crate) fn near_length(
+        &self,
+        top: u64,
+        least: u64,
+        cell: &Cell,
+        exponent: u64,
+        rate: u64,
+    ) -> u64
         requires least { 1 ≤ cell.now.cap → least ≤ cell.now.cap }
         requires cap { cell.now.cap ≤ MAX_UNITS }
         requires exponent { exponent ≤ top }

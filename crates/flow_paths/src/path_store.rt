@@ -15,7 +15,7 @@ use std::marker::Model;
 #[derive(Drop)]
 pub struct PathStore {
     rows: RowBuffer,
-    // The keys of the first rows. `add` and `index_rows` bring it up to the last row.
+    // The keys of the first rows. `index_rows` brings it up to the last row, and so does `add` before it looks for one.
     index: KeyIndex,
 }
 
@@ -151,7 +151,7 @@ impl PathStore {
     }
 
     /// The first row of this commodity and path. It is looked up among the rows that `add` or `index_rows` has seen, and
-    /// then one by one among those that were pushed since. Takes no memory.
+    /// then one by one among those that were pushed since then. Takes no memory.
     pub fn find(&self, k: u32, path: &[u16]) -> Option<u32>
         ensures { MatchOption result (HasNoRow self.now k path.now) (IsFirstRow self.now k path.now) }
     {
@@ -181,7 +181,7 @@ impl PathStore {
         self.rows.push(k, path, weight)
     }
 
-    /// Makes `find` quick for the rows that were pushed since. The rows stay.
+    /// Makes `find` quick for the rows that were pushed since it was called before. The rows stay.
     pub fn index_rows(&mut self) -> Result<(), AllocError>
         ensures { self.new ≡ self.old }
     {

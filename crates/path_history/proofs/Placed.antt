@@ -13,7 +13,11 @@ use Rattle.phase_engine.specs.declared.hand.Hand.{Hand}
 use Rattle.phase_engine.specs.Routing.{HasRouted}
 use Rattle.path_history.specs.declared.places.Place.{Place}
 use Rattle.path_history.specs.Routes.{HaveRouted}
-use Rattle.path_history.specs.Adding.{no_route, no_place, IsPlaceAt}
+use Rattle.path_history.specs.Adding.{no_place, IsPlaceAt}
+
+-- what is read past the end
+abbrev pub no_route : Route
+no_route = record { commodity = 0; path = [] }
 
 -- each place is as before, or one of the hand's
 abbrev pub AreKept : ℕ → Hand → List Place → List Place → Type 0
@@ -23,7 +27,7 @@ AreKept w hand old new = (k : ℕ) → k < length old → (get_or new k no_place
 abbrev pub IsNoted : ℕ → Hand → List Place → Route → Type 0
 IsNoted w hand places r = IsPlaceAt w hand r.commodity (get_or places r.commodity no_place)
 
--- the place of the hand's i-th route
+-- the place of hand w with this path
 abbrev pub place_at : ℕ → Bor (List ℕ) → Place
 place_at w path = record { hand = w; path = path }
 

@@ -3,15 +3,11 @@ use Rattle.std.specs.Prelude.{◌≡◌, ℕ, ◌+◌, ◌*◌, ◌<◌, ◌≤�
 use Rattle.flow_model.specs.Network.{Network}
 use Rattle.flow_model.specs.Routing.{Row}
 use Rattle.flow_paths.specs.PathRows.{row_at, HasNoRow, IsFirstRow}
-use Rattle.commodity_claims.specs.Routes.{Route}
 use Rattle.phase_engine.specs.declared.hand.Hand.{Hand}
 use Rattle.solver_run.specs.declared.options.Entry.{Entry}
 use Rattle.solver_run.specs.History.{path_named, IsWeighed, NamesRows}
 use Rattle.path_history.specs.declared.places.Place.{Place}
 use Rattle.path_history.specs.Rows.{AreApart}
-
-abbrev pub no_route : Route
-no_route = record { commodity = 0; path = [] }
 
 abbrev pub no_place : Place
 no_place = record { hand = 0; path = record { ref_ptr = (0, 0); now = [] } }

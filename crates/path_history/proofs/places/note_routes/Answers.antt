@@ -3,8 +3,7 @@ use Rattle.std.specs.Prelude.{All}
 use Rattle.std.proofs.lemmas.List.{take_all}
 use Rattle.std.proofs.lemmas.List.Elements.{All-get_or}
 use Rattle.commodity_claims.specs.Routes.{Route}
-use Rattle.path_history.specs.Adding.{no_route}
-use Rattle.path_history.proofs.Placed.{IsNoted, kept_more, noted_more}
+use Rattle.path_history.proofs.Placed.{no_route, IsNoted, kept_more, noted_more}
 use Rattle.path_history.proofs.places.note_routes.Goals as goal
 
 pub loop-route-preserved : goal.loop-route-preserved
