@@ -43,12 +43,13 @@ fn median(mut run: impl FnMut()) -> f64 {
 }
 
 fn main() {
-    for steps in [200_000, 2_000_000] {
+    // no work at all: what the threads take themselves
+    for steps in [0, 200_000, 2_000_000] {
         let one = median(|| {
             work(steps);
         });
         let flat = median(|| started_by_one(steps));
         let halves = median(|| started_by_halves(steps));
-        println!("one {one:.2} ms; four started by one thread {flat:.2} ms, by halves {halves:.2} ms");
+        println!("one {one:.3} ms; four started by one thread {flat:.3} ms, by halves {halves:.3} ms");
     }
 }
