@@ -18,7 +18,7 @@ pub fn volume(cells: &[Cell], lengths: &[u64]) -> u128
     requires sizes { length lengths.now ≡ length cells.now }
     requires size_limit { All (λ n. n ≤ MAX_LENGTH) lengths.now }
     ensures value { result ≡ volume cells.now lengths.now }
-    ensures limit { result ≤ 2 ^ 118 }
+    ensures limit { result ≤ 2 ^ 119 }
 {
     let mut total = 0u128;
     for (c, cell) in cells.iter().enumerate() {

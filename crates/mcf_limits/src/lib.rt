@@ -1,9 +1,6 @@
 //! The limits within which every text, network and certificate lies, each in one place.
 #![tactic(auto)]
 
-ghost use Rattle.std.specs.Prelude.{◌≡◌, ◌^◌, ◌*◌};
-ghost use Rattle.mcf_limits.specs.declared.TheConstants.{MAX_NET_BYTES, MAX_CERT_BYTES, MAX_SCRIPT_BYTES, MAX_WORD_BYTES, MAX_NODES, MAX_LINKS, MAX_CELLS, MAX_DEMANDS, MAX_UNITS, MAX_TOTAL, MAX_DECIMALS, MAX_PHASES, MAX_WORK, MAX_WORKERS, MAX_GAP, MAX_STEP, MAX_LENGTH, MAX_PATH_CELLS};
-
 /// The most bytes of a network text: 64 MiB.
 pub const MAX_NET_BYTES: usize = 64 << 20;
 
@@ -22,8 +19,8 @@ pub const MAX_NODES: u16 = 512;
 /// The most links of a network.
 pub const MAX_LINKS: u16 = 4096;
 
-/// The most cells of a network.
-pub const MAX_CELLS: u16 = 4096;
+/// The most cells of a network: two for each link, where its capacity counts in each direction.
+pub const MAX_CELLS: u16 = 8192;
 
 /// The most demands of a network, and so the most commodities.
 pub const MAX_DEMANDS: u32 = 32_768;
@@ -58,36 +55,14 @@ pub const MAX_LENGTH: u64 = 1 << 62;
 /// The most cells of a path.
 pub const MAX_PATH_CELLS: usize = 511;
 
-/// The most bytes of each kind of file and of a word.
-pub fn limits_of_texts()
-    ensures net_bytes { MAX_NET_BYTES ≡ 64 * 2 ^ 20 }
-    ensures cert_bytes { MAX_CERT_BYTES ≡ 2 ^ 30 }
-    ensures script_bytes { MAX_SCRIPT_BYTES ≡ 2 ^ 20 }
-    ensures word_bytes { MAX_WORD_BYTES ≡ 255 }
-{}
+/// The gap where none is asked, in millionths: 5 %.
+pub const DEFAULT_GAP: u64 = 50_000;
 
-/// The most parts of a network and of a path.
-pub fn limits_of_networks()
-    ensures nodes { MAX_NODES ≡ 512 }
-    ensures links { MAX_LINKS ≡ 4096 }
-    ensures cells { MAX_CELLS ≡ 4096 }
-    ensures demands { MAX_DEMANDS ≡ 32768 }
-    ensures path_cells { MAX_PATH_CELLS ≡ 511 }
-{}
+/// The most phases where no budget is asked; fewer where these would be more than the most work.
+pub const DEFAULT_PHASES: u64 = 1000;
 
-/// The greatest numbers in units, and of lengths.
-pub fn limits_of_amounts()
-    ensures units { MAX_UNITS ≡ 2 ^ 44 }
-    ensures total { MAX_TOTAL ≡ 2 ^ 46 }
-    ensures decimals { MAX_DECIMALS ≡ 6 }
-    ensures length { MAX_LENGTH ≡ 2 ^ 62 }
-{}
+/// The workers where no number is asked.
+pub const DEFAULT_WORKERS: u16 = 4;
 
-/// The greatest options of a run, and the most work of one.
-pub fn limits_of_runs()
-    ensures phases { MAX_PHASES ≡ 65536 }
-    ensures work { MAX_WORK ≡ 2097152 }
-    ensures workers { MAX_WORKERS ≡ 16 }
-    ensures gap { MAX_GAP ≡ 1000000000 }
-    ensures step { MAX_STEP ≡ 2 ^ 20 }
-{}
+/// The step of the lengths where none is asked.
+pub const DEFAULT_STEP: u32 = 8192;

@@ -66,7 +66,7 @@ capacities-small net n =
     let most : length net.cells * MAX_UNITS ≤ MAX_CELLS * MAX_UNITS = mul-le-mul_right MAX_UNITS n.cell_count in
     omega arith
 
--- the volume is at most 2 ^ 118, the weighted distance at most 2 ^ 108
+-- the volume is at most 2 ^ 119, the weighted distance at most 2 ^ 108
 upper-parts : (net : Network) (dual : DualRows) → IsNetwork net → AreSmall dual → ((upper_of net dual).num ≤ MAX_PART) × ((upper_of net dual).den ≤ MAX_PART)
 upper-parts net dual n small =
     let num = weighted-small (λ (cell : Cell). cell.cap) MAX_LENGTH net.cells (lengths_in net dual) (lengths-small net dual small) in

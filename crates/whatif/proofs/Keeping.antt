@@ -39,7 +39,7 @@ part_within p loads lengths tree sum distance c k lt =
     let part = part-le p.net.cells p.caps lengths c lt k.planned.count s.lengths_count in
     omega (arith, k.sum_is)
 
-pub sum_within : (p : Planned) (loads lengths : List ℕ) (tree : List Ratio) (sum distance : ℕ) → IsKept p loads lengths tree sum distance → sum ≤ 2 ^ 118
+pub sum_within : (p : Planned) (loads lengths : List ℕ) (tree : List Ratio) (sum distance : ℕ) → IsKept p loads lengths tree sum distance → sum ≤ 2 ^ 119
 sum_within p loads lengths tree sum distance k =
     let le = volume-le p.net.cells p.caps lengths k.planned.count k.planned.caps k.length_limit in
     omega (arith, k.sum_is, k.planned.net.cell_count)
