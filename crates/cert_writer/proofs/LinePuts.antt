@@ -6,6 +6,7 @@ use Rattle.std.proofs.lemmas.List.{append-nil, take-append-drop, take_more}
 use Rattle.std.proofs.lemmas.List.Concat.{flat_map-cons}
 use Rattle.text_lines.specs.Lines.{Line, spelled, text_of}
 use Rattle.line_writer.specs.Spelling.{behind}
+use Rattle.mcf_base.specs.Sink.{SinkView}
 use Rattle.line_writer.specs.Writing.{Puts, ended, failed}
 use Rattle.line_writer.proofs.Putting.{puts_then, puts_stop}
 use Rattle.line_writer.proofs.Joining.{behind-append, line_put, line_first_stops, line_words_stop}
@@ -23,13 +24,13 @@ one_longer : {X : Type 0} (f : X → Line) (rows : List X) (i : ℕ) (x : X) →
 one_longer f rows i x lt =
     ap (λ (l : List ℕ). text_of (map f (take i rows)) ++ l) (sym (one_line (f (get_or rows i x)))) ∙ sym (text_of-append f (take i rows) (get_or rows i x ∷ [])) ∙ ap (λ rs. text_of (map f rs)) (sym (take_more rows i x lt))
 
-pub one_line_on : {X E : Type 0} (f : X → Line) (a b c : Option (List ℕ)) (u v w : List ℕ) (rows : List X) (i : ℕ) (x : X) → i < length rows
+pub one_line_on : {X E : Type 0} (f : X → Line) (a b c : SinkView) (u v w : List ℕ) (rows : List X) (i : ℕ) (x : X) → i < length rows
     → Puts a b u v (ended (Unit {0}) E tt) (text_of (map f (take i rows))) → Puts b c v w (ended (Unit {0}) E tt) (spelled (f (get_or rows i x))) → Puts a c u w (ended (Unit {0}) E tt) (text_of (map f (take (i + 1) rows)))
 one_line_on {X} {E} f a b c u v w rows i x lt h k =
     let both = puts_then a b c u v w tt (ended (Unit {0}) E tt) (text_of (map f (take i rows))) (spelled (f (get_or rows i x))) h k in
     subst (λ (l : List ℕ). Puts a c u w (ended (Unit {0}) E tt) l) (one_longer f rows i x lt) both
 
-pub line_stops : {X E : Type 0} (f : X → Line) (a b c : Option (List ℕ)) (u v w : List ℕ) (e : E) (rows : List X) (i : ℕ) (x : X) → i < length rows
+pub line_stops : {X E : Type 0} (f : X → Line) (a b c : SinkView) (u v w : List ℕ) (e : E) (rows : List X) (i : ℕ) (x : X) → i < length rows
     → Puts a b u v (ended (Unit {0}) E tt) (text_of (map f (take i rows))) → Puts b c v w (failed (Unit {0}) E e) (spelled (f (get_or rows i x))) → Puts a c u w (failed (Unit {0}) E e) (text_of (map f rows))
 line_stops {X} {E} f a b c u v w e rows i x lt h k =
     let both = puts_then a b c u v w tt (failed (Unit {0}) E e) (text_of (map f (take i rows))) (spelled (f (get_or rows i x))) h k in
@@ -51,18 +52,18 @@ row_is : (first : List ℕ) (front more : Line) → ((first ++ behind front) ++ 
 row_is first front more =
     ap (λ (l : List ℕ). l ++ 10 ∷ []) (append_assoc first (behind front) (behind more) ∙ ap (λ (l : List ℕ). first ++ l) (sym (behind_both front more))) ∙ sym (joined_is first (front ++ more))
 
-pub row_front_stops : {E : Type 0} (a b : Option (List ℕ)) (u v : List ℕ) (e : E) (first : List ℕ) (front more : Line) → Puts a b u v (failed (Unit {0}) E e) (first ++ behind front) → Puts a b u v (failed (Unit {0}) E e) (spelled (first ∷ (front ++ more)))
+pub row_front_stops : {E : Type 0} (a b : SinkView) (u v : List ℕ) (e : E) (first : List ℕ) (front more : Line) → Puts a b u v (failed (Unit {0}) E e) (first ++ behind front) → Puts a b u v (failed (Unit {0}) E e) (spelled (first ∷ (front ++ more)))
 row_front_stops {E} a b u v e first front more h =
     let inner : Puts a b u v (failed (Unit {0}) E e) ((first ++ behind front) ++ behind more) = puts_stop a b u v v e (first ++ behind front) (behind more) h in
     subst (λ (l : List ℕ). Puts a b u v (failed (Unit {0}) E e) l) (row_is first front more) (puts_stop a b u v v e ((first ++ behind front) ++ behind more) (10 ∷ []) inner)
 
-pub row_more_stops : {E : Type 0} (a b c : Option (List ℕ)) (u v w : List ℕ) (e : E) (first : List ℕ) (front more : Line) → Puts a b u v (ended (Unit {0}) E tt) (first ++ behind front) → Puts b c v w (failed (Unit {0}) E e) (behind more)
+pub row_more_stops : {E : Type 0} (a b c : SinkView) (u v w : List ℕ) (e : E) (first : List ℕ) (front more : Line) → Puts a b u v (ended (Unit {0}) E tt) (first ++ behind front) → Puts b c v w (failed (Unit {0}) E e) (behind more)
     → Puts a c u w (failed (Unit {0}) E e) (spelled (first ∷ (front ++ more)))
 row_more_stops {E} a b c u v w e first front more h k =
     let inner : Puts a c u w (failed (Unit {0}) E e) ((first ++ behind front) ++ behind more) = puts_then a b c u v w tt (failed (Unit {0}) E e) (first ++ behind front) (behind more) h k in
     subst (λ (l : List ℕ). Puts a c u w (failed (Unit {0}) E e) l) (row_is first front more) (puts_stop a c u w w e ((first ++ behind front) ++ behind more) (10 ∷ []) inner)
 
-pub row_put : {E : Type 0} (a b c d : Option (List ℕ)) (u v w z : List ℕ) (r : Result (Unit {0}) E) (first : List ℕ) (front more : Line) → Puts a b u v (ended (Unit {0}) E tt) (first ++ behind front) → Puts b c v w (ended (Unit {0}) E tt) (behind more)
+pub row_put : {E : Type 0} (a b c d : SinkView) (u v w z : List ℕ) (r : Result (Unit {0}) E) (first : List ℕ) (front more : Line) → Puts a b u v (ended (Unit {0}) E tt) (first ++ behind front) → Puts b c v w (ended (Unit {0}) E tt) (behind more)
     → Puts c d w z r (10 ∷ []) → Puts a d u z r (spelled (first ∷ (front ++ more)))
 row_put {E} a b c d u v w z r first front more h k l =
     subst (λ (t : List ℕ). Puts a d u z r t) (row_is first front more) (puts_then a c d u w z tt r ((first ++ behind front) ++ behind more) (10 ∷ []) (puts_then a b c u v w tt (ended (Unit {0}) E tt) (first ++ behind front) (behind more) h k) l)

@@ -1,15 +1,13 @@
 -- Parts of a text, put one after the other.
 use Rattle.std.proofs.Common.{◌≡◌, ℕ, ◌<◌, List, [], ◌∷◌, ◌++◌, length, map, Option, Result, Ok, Err, refl, sym, ap, subst, ◌∙◌, append_assoc}
-use Rattle.std.specs.Prelude.{All, OnOk, OnErr}
+use Rattle.std.specs.Prelude.{All}
 use Rattle.std.specs.List.{AllByRecursion}
-use Rattle.std.specs.Io.KnownBytes.{Appends}
-use Rattle.std.proofs.lemmas.List.{append-nil}
 use Rattle.std.proofs.lemmas.List.Concat.{flat_map-cons}
 use Rattle.std.proofs.lemmas.List.Elements.{All-from_recursion, All-weaker}
-use Rattle.mcf_base.specs.Sink.{AppendsFront}
 use Rattle.text_lines.specs.Lines.{Line, spelled, text_of}
+use Rattle.mcf_base.specs.Sink.{SinkView}
 use Rattle.line_writer.specs.Writing.{Puts, ended, failed}
-use Rattle.line_writer.proofs.Putting.{puts_then, puts_stop, written_whole, written_front}
+use Rattle.line_writer.proofs.Putting.{puts_then, puts_stop}
 use Rattle.flow_paths.specs.declared.certificate.Proof.{Proof}
 use Rattle.cert_names.specs.Sheet.{Sheet}
 use Rattle.cert_lines.specs.Spelling.{FitsPath, FitsLength, FitsPotential}
@@ -21,25 +19,11 @@ text_of-both (x ∷ xs) ys =
     ap (λ (l : List ℕ). l ++ text_of ys) (flat_map-cons spelled x xs) ∙ append_assoc (spelled x) (text_of xs) (text_of ys)
     ∙ ap (λ (l : List ℕ). spelled x ++ l) (text_of-both xs ys) ∙ sym (flat_map-cons spelled x (xs ++ ys))
 
-pub part_then : {E : Type 0} (a b c : Option (List ℕ)) (u v w : List ℕ) (r : Result (Unit {0}) E) (xs ys : List Line) → Puts a b u v (ended (Unit {0}) E tt) (text_of xs) → Puts b c v w r (text_of ys) → Puts a c u w r (text_of (xs ++ ys))
+pub part_then : {E : Type 0} (a b c : SinkView) (u v w : List ℕ) (r : Result (Unit {0}) E) (xs ys : List Line) → Puts a b u v (ended (Unit {0}) E tt) (text_of xs) → Puts b c v w r (text_of ys) → Puts a c u w r (text_of (xs ++ ys))
 part_then {E} a b c u v w r xs ys h k = subst (λ (t : List ℕ). Puts a c u w r t) (text_of-both xs ys) (puts_then a b c u v w tt r (text_of xs) (text_of ys) h k)
 
-pub part_stops : {E : Type 0} (a b : Option (List ℕ)) (u v : List ℕ) (e : E) (xs ys : List Line) → Puts a b u v (failed (Unit {0}) E e) (text_of xs) → Puts a b u v (failed (Unit {0}) E e) (text_of (xs ++ ys))
+pub part_stops : {E : Type 0} (a b : SinkView) (u v : List ℕ) (e : E) (xs ys : List Line) → Puts a b u v (failed (Unit {0}) E e) (text_of xs) → Puts a b u v (failed (Unit {0}) E e) (text_of (xs ++ ys))
 part_stops {E} a b u v e xs ys h = subst (λ (t : List ℕ). Puts a b u v (failed (Unit {0}) E e) t) (text_of-both xs ys) (puts_stop a b u v v e (text_of xs) (text_of ys) h)
-
--- all was put, and what waited was written or not
-pub whole_flushed : {E : Type 0} (a b c : Option (List ℕ)) (u v w : List ℕ) (r : Result (Unit {0}) E) (text : List ℕ) → u ≡ [] → Puts a b u v (ended (Unit {0}) E tt) text → Puts b c v w r [] → OnOk r (w ≡ [])
-    → OnOk r (Appends a c text) × OnErr r (AppendsFront a c text)
-whole_flushed {E} a b c u v w (Ok x) text none h k empty =
-    let both : Puts a c u w (ended (Unit {0}) E tt) text = subst (λ (t : List ℕ). Puts a c u w (ended (Unit {0}) E tt) t) (append-nil text) (puts_then a b c u v w tt (ended (Unit {0}) E tt) text [] h k) in
-    let from : Puts a c [] w (ended (Unit {0}) E tt) text = subst (λ (q : List ℕ). Puts a c q w (ended (Unit {0}) E tt) text) none both in
-    (written_whole a c text (subst (λ (q : List ℕ). Puts a c [] q (ended (Unit {0}) E tt) text) empty from), tt)
-whole_flushed {E} a b c u v w (Err e) text none h k empty =
-    let both : Puts a c u w (failed (Unit {0}) E e) text = subst (λ (t : List ℕ). Puts a c u w (failed (Unit {0}) E e) t) (append-nil text) (puts_then a b c u v w tt (failed (Unit {0}) E e) text [] h k) in
-    (tt, written_front a c w text e (subst (λ (q : List ℕ). Puts a c q w (failed (Unit {0}) E e) text) none both))
-
-pub whole_failed : {E : Type 0} (a b : Option (List ℕ)) (u w : List ℕ) (e : E) (text : List ℕ) → u ≡ [] → Puts a b u w (failed (Unit {0}) E e) text → AppendsFront a b text
-whole_failed {E} a b u w e text none h = written_front a b w text e (subst (λ (q : List ℕ). Puts a b q w (failed (Unit {0}) E e) text) none h)
 
 -- a certificate that fits can be written
 pub is_writable : (sheet : Sheet) (p : Proof) → FitsProof sheet p → IsWritable sheet p

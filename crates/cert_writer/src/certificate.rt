@@ -1,10 +1,8 @@
 //! The text of a certificate, written.
 
 ghost use Rattle.std.specs.Prelude.{◌≡◌, ◌<◌, ◌∷◌, [], OnOk, OnErr, codes, if◌then◌else◌};
-ghost use Rattle.std.specs.Io.KnownBytes.{Appends};
 ghost use Rattle.text_lines.specs.Lines.{text_of};
-ghost use Rattle.mcf_base.specs.Faults.{HasCause};
-ghost use Rattle.mcf_base.specs.Sink.{AppendsFront};
+ghost use Rattle.mcf_base.specs.Sink.{Wrote};
 ghost use Rattle.line_writer.specs.Writing.{Puts};
 ghost use Rattle.cert_lines.specs.Spelling.{count_at, counts_words};
 ghost use Rattle.cert_writer.specs.Text.{IsWritable, FitsProof, opening_lines, figure_lines, end_line, from_potentials, from_lengths, from_paths, from_figures, from_counts, certificate_lines, certificate_text};
@@ -24,8 +22,7 @@ fn verdict_word(closed: bool) -> &'static [u8]
 
 // Puts the form.
 fn put_form<K: Sink>(buffer: &mut Buffer, out: &mut K) -> Result<(), WriteFault>
-    ensures puts { Puts (K.written out.old) (K.written out.new) buffer.old buffer.new result (text_of ((codes "mcf-certificate" ∷ codes "1" ∷ []) ∷ [])) }
-    ensures cause { HasCause (K.faults out.old) (K.faults out.new) result }
+    ensures { Puts (K.seen out.old) (K.seen out.new) buffer.old buffer.new result (text_of ((codes "mcf-certificate" ∷ codes "1" ∷ []) ∷ [])) }
 {
     let form: [&[u8]; 2] = [b"mcf-certificate", b"1"];
     put_lines(buffer, out, &[&form])
@@ -39,8 +36,7 @@ fn put_modes<'a, K: Sink>(
     links: &'a [u8],
     modules: &'a [u8],
 ) -> Result<(), WriteFault>
-    ensures puts { Puts (K.written out.old) (K.written out.new) buffer.old buffer.new result (text_of ((codes "verdict" ∷ verdict.now ∷ []) ∷ (codes "links" ∷ links.now ∷ []) ∷ (codes "modules" ∷ modules.now ∷ []) ∷ [])) }
-    ensures cause { HasCause (K.faults out.old) (K.faults out.new) result }
+    ensures { Puts (K.seen out.old) (K.seen out.new) buffer.old buffer.new result (text_of ((codes "verdict" ∷ verdict.now ∷ []) ∷ (codes "links" ∷ links.now ∷ []) ∷ (codes "modules" ∷ modules.now ∷ []) ∷ [])) }
 {
     let verdict_line: [&'a [u8]; 2] = [b"verdict", verdict];
     let links_line: [&'a [u8]; 2] = [b"links", links];
@@ -55,8 +51,7 @@ fn put_opening<K: Sink>(
     names: &Names<'_>,
     proof: &Proof,
 ) -> Result<(), WriteFault>
-    ensures puts { Puts (K.written out.old) (K.written out.new) buffer.old buffer.new result (text_of (opening_lines names.now proof.now)) }
-    ensures cause { HasCause (K.faults out.old) (K.faults out.new) result }
+    ensures { Puts (K.seen out.old) (K.seen out.new) buffer.old buffer.new result (text_of (opening_lines names.now proof.now)) }
 {
     match put_form(buffer, out) {
         Ok(()) => {}
@@ -81,8 +76,7 @@ fn put_counts<K: Sink>(
     out: &mut K,
     names: &Names<'_>,
 ) -> Result<(), WriteFault>
-    ensures puts { Puts (K.written out.old) (K.written out.new) buffer.old buffer.new result (text_of (counts_words names.now ∷ [])) }
-    ensures cause { HasCause (K.faults out.old) (K.faults out.new) result }
+    ensures { Puts (K.seen out.old) (K.seen out.new) buffer.old buffer.new result (text_of (counts_words names.now ∷ [])) }
 {
     let nodes = count_word(names, 0);
     let cells = count_word(names, 1);
@@ -115,8 +109,7 @@ fn put_counts<K: Sink>(
 fn put_figures<K: Sink>(buffer: &mut Buffer, out: &mut K, proof: &Proof) -> Result<(), WriteFault>
     requires lower { proof.now.lower.micro < 1000000 }
     requires upper { proof.now.upper.micro < 1000000 }
-    ensures puts { Puts (K.written out.old) (K.written out.new) buffer.old buffer.new result (text_of (figure_lines proof.now)) }
-    ensures cause { HasCause (K.faults out.old) (K.faults out.new) result }
+    ensures { Puts (K.seen out.old) (K.seen out.new) buffer.old buffer.new result (text_of (figure_lines proof.now)) }
 {
     let gap = Word::decimal(proof.gap as u128 / 1000000, (proof.gap % 1000000) as u32);
     let phases = Word::number(proof.routing.phases as u128);
@@ -146,8 +139,7 @@ fn put_figures<K: Sink>(buffer: &mut Buffer, out: &mut K, proof: &Proof) -> Resu
 
 // Puts the last line.
 fn put_end<K: Sink>(buffer: &mut Buffer, out: &mut K) -> Result<(), WriteFault>
-    ensures puts { Puts (K.written out.old) (K.written out.new) buffer.old buffer.new result (text_of (end_line ∷ [])) }
-    ensures cause { HasCause (K.faults out.old) (K.faults out.new) result }
+    ensures { Puts (K.seen out.old) (K.seen out.new) buffer.old buffer.new result (text_of (end_line ∷ [])) }
 {
     let end: [&[u8]; 1] = [b"end"];
     put_lines(buffer, out, &[&end])
@@ -161,8 +153,7 @@ fn put_from_potentials<K: Sink>(
     proof: &Proof,
 ) -> Result<(), WriteFault>
     requires { IsWritable names.now proof.now }
-    ensures puts { Puts (K.written out.old) (K.written out.new) buffer.old buffer.new result (text_of (from_potentials names.now proof.now)) }
-    ensures cause { HasCause (K.faults out.old) (K.faults out.new) result }
+    ensures { Puts (K.seen out.old) (K.seen out.new) buffer.old buffer.new result (text_of (from_potentials names.now proof.now)) }
 {
     match put_potentials(buffer, out, names, &proof.dual) {
         Ok(()) => {}
@@ -179,8 +170,7 @@ fn put_from_lengths<K: Sink>(
     proof: &Proof,
 ) -> Result<(), WriteFault>
     requires { IsWritable names.now proof.now }
-    ensures puts { Puts (K.written out.old) (K.written out.new) buffer.old buffer.new result (text_of (from_lengths names.now proof.now)) }
-    ensures cause { HasCause (K.faults out.old) (K.faults out.new) result }
+    ensures { Puts (K.seen out.old) (K.seen out.new) buffer.old buffer.new result (text_of (from_lengths names.now proof.now)) }
 {
     match put_lengths(buffer, out, names, &proof.dual) {
         Ok(()) => {}
@@ -197,8 +187,7 @@ fn put_from_paths<K: Sink>(
     proof: &Proof,
 ) -> Result<(), WriteFault>
     requires { IsWritable names.now proof.now }
-    ensures puts { Puts (K.written out.old) (K.written out.new) buffer.old buffer.new result (text_of (from_paths names.now proof.now)) }
-    ensures cause { HasCause (K.faults out.old) (K.faults out.new) result }
+    ensures { Puts (K.seen out.old) (K.seen out.new) buffer.old buffer.new result (text_of (from_paths names.now proof.now)) }
 {
     match put_paths(buffer, out, names, &proof.routing.paths) {
         Ok(()) => {}
@@ -215,8 +204,7 @@ fn put_from_figures<K: Sink>(
     proof: &Proof,
 ) -> Result<(), WriteFault>
     requires { IsWritable names.now proof.now }
-    ensures puts { Puts (K.written out.old) (K.written out.new) buffer.old buffer.new result (text_of (from_figures names.now proof.now)) }
-    ensures cause { HasCause (K.faults out.old) (K.faults out.new) result }
+    ensures { Puts (K.seen out.old) (K.seen out.new) buffer.old buffer.new result (text_of (from_figures names.now proof.now)) }
 {
     match put_figures(buffer, out, proof) {
         Ok(()) => {}
@@ -233,8 +221,7 @@ fn put_from_counts<K: Sink>(
     proof: &Proof,
 ) -> Result<(), WriteFault>
     requires { IsWritable names.now proof.now }
-    ensures puts { Puts (K.written out.old) (K.written out.new) buffer.old buffer.new result (text_of (from_counts names.now proof.now)) }
-    ensures cause { HasCause (K.faults out.old) (K.faults out.new) result }
+    ensures { Puts (K.seen out.old) (K.seen out.new) buffer.old buffer.new result (text_of (from_counts names.now proof.now)) }
 {
     match put_counts(buffer, out, names) {
         Ok(()) => {}
@@ -251,8 +238,7 @@ fn put_certificate<K: Sink>(
     proof: &Proof,
 ) -> Result<(), WriteFault>
     requires { IsWritable names.now proof.now }
-    ensures puts { Puts (K.written out.old) (K.written out.new) buffer.old buffer.new result (text_of (certificate_lines names.now proof.now)) }
-    ensures cause { HasCause (K.faults out.old) (K.faults out.new) result }
+    ensures { Puts (K.seen out.old) (K.seen out.new) buffer.old buffer.new result (text_of (certificate_lines names.now proof.now)) }
 {
     match put_opening(buffer, out, names, proof) {
         Ok(()) => {}
@@ -270,9 +256,7 @@ fn put_whole<K: Sink>(
 ) -> Result<(), WriteFault>
     requires proof { IsWritable names.now proof.now }
     requires none { buffer.old ≡ [] }
-    ensures ok { OnOk result (Appends (K.written out.old) (K.written out.new) (certificate_text names.now proof.now)) }
-    ensures err { OnErr result (AppendsFront (K.written out.old) (K.written out.new) (certificate_text names.now proof.now)) }
-    ensures cause { HasCause (K.faults out.old) (K.faults out.new) result }
+    ensures { Wrote (K.seen out.old) (K.seen out.new) result (certificate_text names.now proof.now) }
 {
     match put_certificate(buffer, out, names, proof) {
         Ok(()) => {}
@@ -284,9 +268,7 @@ fn put_whole<K: Sink>(
 /// Appends the text of the certificate. After a fault some front of it was appended. It takes no memory.
 pub fn write_cert<K: Sink>(names: &Names<'_>, proof: &Proof, out: &mut K) -> Result<(), WriteFault>
     requires { FitsProof names.now proof.now }
-    ensures ok { OnOk result (Appends (K.written out.old) (K.written out.new) (certificate_text names.now proof.now)) }
-    ensures err { OnErr result (AppendsFront (K.written out.old) (K.written out.new) (certificate_text names.now proof.now)) }
-    ensures cause { HasCause (K.faults out.old) (K.faults out.new) result }
+    ensures { Wrote (K.seen out.old) (K.seen out.new) result (certificate_text names.now proof.now) }
 {
     let mut buffer = Buffer::new();
     put_whole(&mut buffer, out, names, proof)

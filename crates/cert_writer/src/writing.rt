@@ -3,7 +3,6 @@
 ghost use Rattle.std.specs.Prelude.{◌≡◌, ◌<◌, ◌≤◌, ◌++◌, ◌∷◌, [], All, length, map, codes};
 ghost use Rattle.std.specs.Fmt.{decimal};
 ghost use Rattle.text_lines.specs.Lines.{spelled, text_of};
-ghost use Rattle.mcf_base.specs.Faults.{HasCause};
 ghost use Rattle.line_writer.specs.Writing.{Puts};
 ghost use Rattle.line_writer.specs.Spelling.{behind};
 ghost use Rattle.cert_names.specs.Sheet.{cell_word, node_word, commodity_word};
@@ -19,8 +18,7 @@ use mcf_base::{Sink, WriteFault};
 // Puts a line of words.
 fn put_line<K: Sink>(buffer: &mut Buffer, out: &mut K, words: &[&[u8]]) -> Result<(), WriteFault>
     requires { 0 < length words.now }
-    ensures puts { Puts (K.written out.old) (K.written out.new) buffer.old buffer.new result (spelled (map (λ w. w.now) words.now)) }
-    ensures cause { HasCause (K.faults out.old) (K.faults out.new) result }
+    ensures { Puts (K.seen out.old) (K.seen out.new) buffer.old buffer.new result (spelled (map (λ w. w.now) words.now)) }
 {
     let first = words[0];
     buffer.put_line(out, first, &words[1..])
@@ -33,8 +31,7 @@ pub fn put_lines<K: Sink>(
     lines: &[&[&[u8]]],
 ) -> Result<(), WriteFault>
     requires { All (λ l. 0 < length l.now) lines.now }
-    ensures puts { Puts (K.written out.old) (K.written out.new) buffer.old buffer.new result (text_of (map (λ l. map (λ w. w.now) l.now) lines.now)) }
-    ensures cause { HasCause (K.faults out.old) (K.faults out.new) result }
+    ensures { Puts (K.seen out.old) (K.seen out.new) buffer.old buffer.new result (text_of (map (λ l. map (λ w. w.now) l.now) lines.now)) }
 {
     for line in lines {
         match put_line(buffer, out, *line) {
@@ -52,8 +49,7 @@ fn put_front<K: Sink>(
     first: &[u8],
     words: &[&[u8]],
 ) -> Result<(), WriteFault>
-    ensures puts { Puts (K.written out.old) (K.written out.new) buffer.old buffer.new result (first.now ++ behind (map (λ w. w.now) words.now)) }
-    ensures cause { HasCause (K.faults out.old) (K.faults out.new) result }
+    ensures { Puts (K.seen out.old) (K.seen out.new) buffer.old buffer.new result (first.now ++ behind (map (λ w. w.now) words.now)) }
 {
     match buffer.put(out, first) {
         Ok(()) => {}
@@ -70,8 +66,7 @@ fn put_cells<K: Sink>(
     cells: &[u16],
 ) -> Result<(), WriteFault>
     requires { All (λ c. c < length names.now.cells) cells.now }
-    ensures puts { Puts (K.written out.old) (K.written out.new) buffer.old buffer.new result (behind (map (cell_word names.now) cells.now)) }
-    ensures cause { HasCause (K.faults out.old) (K.faults out.new) result }
+    ensures { Puts (K.seen out.old) (K.seen out.new) buffer.old buffer.new result (behind (map (cell_word names.now) cells.now)) }
 {
     for cell in cells {
         match buffer.put_word(out, names.cell_word(*cell)) {
@@ -84,8 +79,7 @@ fn put_cells<K: Sink>(
 
 // Puts the numbers, a space before each.
 fn put_numbers<K: Sink>(buffer: &mut Buffer, out: &mut K, numbers: &[u64]) -> Result<(), WriteFault>
-    ensures puts { Puts (K.written out.old) (K.written out.new) buffer.old buffer.new result (behind (map decimal numbers.now)) }
-    ensures cause { HasCause (K.faults out.old) (K.faults out.new) result }
+    ensures { Puts (K.seen out.old) (K.seen out.new) buffer.old buffer.new result (behind (map decimal numbers.now)) }
 {
     for number in numbers {
         match buffer.put_word(out, Word::number(*number as u128).bytes()) {
@@ -113,8 +107,7 @@ fn put_path<K: Sink>(
     requires row { row < length paths.now }
     requires commodity { (row_at paths.now row).commodity < length names.now.commodities }
     requires cells { All (λ c. c < length names.now.cells) (row_at paths.now row).walk }
-    ensures puts { Puts (K.written out.old) (K.written out.new) buffer.old buffer.new result (spelled (path_words names.now (row_at paths.now row))) }
-    ensures cause { HasCause (K.faults out.old) (K.faults out.new) result }
+    ensures { Puts (K.seen out.old) (K.seen out.new) buffer.old buffer.new result (spelled (path_words names.now (row_at paths.now row))) }
 {
     let weight = Word::number(paths.weight(row) as u128);
     let words = [names.commodity_word(paths.commodity(row)), weight.bytes()];
@@ -139,8 +132,7 @@ fn put_potential<K: Sink>(
 ) -> Result<(), WriteFault>
     requires row { row < length dual.now.potentials }
     requires node { (potential_at dual.now.potentials row).node < length names.now.nodes }
-    ensures puts { Puts (K.written out.old) (K.written out.new) buffer.old buffer.new result (spelled (potential_words names.now (potential_at dual.now.potentials row))) }
-    ensures cause { HasCause (K.faults out.old) (K.faults out.new) result }
+    ensures { Puts (K.seen out.old) (K.seen out.new) buffer.old buffer.new result (spelled (potential_words names.now (potential_at dual.now.potentials row))) }
 {
     let words = [names.node_word(dual.row_node(row))];
     match put_front(buffer, out, POTENTIAL, &words) {
@@ -164,8 +156,7 @@ fn put_length<K: Sink>(
 ) -> Result<(), WriteFault>
     requires row { row < length dual.now.lengths }
     requires cell { (length_at dual.now.lengths row).cell < length names.now.cells }
-    ensures puts { Puts (K.written out.old) (K.written out.new) buffer.old buffer.new result (spelled (length_words names.now (length_at dual.now.lengths row))) }
-    ensures cause { HasCause (K.faults out.old) (K.faults out.new) result }
+    ensures { Puts (K.seen out.old) (K.seen out.new) buffer.old buffer.new result (spelled (length_words names.now (length_at dual.now.lengths row))) }
 {
     let (cell, value) = dual.length(row);
     let number = Word::number(value as u128);
@@ -181,8 +172,7 @@ pub fn put_paths<K: Sink>(
 ) -> Result<(), WriteFault>
     requires commodities { All (λ r. r.commodity < length names.now.commodities) paths.now }
     requires cells { All (λ r. All (λ c. c < length names.now.cells) r.walk) paths.now }
-    ensures puts { Puts (K.written out.old) (K.written out.new) buffer.old buffer.new result (text_of (map (path_words names.now) paths.now)) }
-    ensures cause { HasCause (K.faults out.old) (K.faults out.new) result }
+    ensures { Puts (K.seen out.old) (K.seen out.new) buffer.old buffer.new result (text_of (map (path_words names.now) paths.now)) }
 {
     for row in 0..paths.rows() {
         match put_path(buffer, out, names, paths, row) {
@@ -201,8 +191,7 @@ pub fn put_lengths<K: Sink>(
     dual: &Dual,
 ) -> Result<(), WriteFault>
     requires { All (λ r. r.cell < length names.now.cells) dual.now.lengths }
-    ensures puts { Puts (K.written out.old) (K.written out.new) buffer.old buffer.new result (text_of (map (length_words names.now) dual.now.lengths)) }
-    ensures cause { HasCause (K.faults out.old) (K.faults out.new) result }
+    ensures { Puts (K.seen out.old) (K.seen out.new) buffer.old buffer.new result (text_of (map (length_words names.now) dual.now.lengths)) }
 {
     for row in 0..dual.lengths() {
         match put_length(buffer, out, names, dual, row) {
@@ -221,8 +210,7 @@ pub fn put_potentials<K: Sink>(
     dual: &Dual,
 ) -> Result<(), WriteFault>
     requires { All (λ r. r.node < length names.now.nodes) dual.now.potentials }
-    ensures puts { Puts (K.written out.old) (K.written out.new) buffer.old buffer.new result (text_of (map (potential_words names.now) dual.now.potentials)) }
-    ensures cause { HasCause (K.faults out.old) (K.faults out.new) result }
+    ensures { Puts (K.seen out.old) (K.seen out.new) buffer.old buffer.new result (text_of (map (potential_words names.now) dual.now.potentials)) }
 {
     for row in 0..dual.rows() {
         match put_potential(buffer, out, names, dual, row) {

@@ -1,9 +1,10 @@
 -- Words, put one after the other.
-use Rattle.std.proofs.Common.{◌≡◌, ℕ, ◌+◌, ◌<◌, List, [], ◌∷◌, ◌++◌, length, get_or, take, drop, Option, Result, refl, sym, ap, subst, ◌∙◌, append_assoc}
+use Rattle.std.proofs.Common.{◌≡◌, ℕ, ◌+◌, ◌<◌, List, [], ◌∷◌, ◌++◌, length, get_or, take, drop, Result, refl, sym, ap, subst, ◌∙◌, append_assoc}
 use Rattle.std.specs.Prelude.{map}
 use Rattle.std.specs.List.{join_with_byte}
 use Rattle.std.proofs.lemmas.List.{append-nil, take-append-drop, take_more}
 use Rattle.text_lines.specs.Lines.{Line, spelled}
+use Rattle.mcf_base.specs.Sink.{SinkView}
 use Rattle.line_writer.specs.Spelling.{behind}
 use Rattle.line_writer.specs.Writing.{Puts, ended, failed}
 use Rattle.line_writer.proofs.Putting.{puts_then, puts_stop}
@@ -21,13 +22,13 @@ one_longer f words i x lt =
     let last : behind (map f (get_or words i x ∷ [])) ≡ 32 ∷ f (get_or words i x) = append-nil (32 ∷ f (get_or words i x)) in
     ap (λ (l : List ℕ). behind (map f (take i words)) ++ l) (sym last) ∙ sym (behind-append f (take i words) (get_or words i x ∷ [])) ∙ ap (λ ws. behind (map f ws)) (sym (take_more words i x lt))
 
-pub one_word_on : {X E : Type 0} (f : X → List ℕ) (a b c : Option (List ℕ)) (u v w : List ℕ) (words : List X) (i : ℕ) (x : X) → i < length words
+pub one_word_on : {X E : Type 0} (f : X → List ℕ) (a b c : SinkView) (u v w : List ℕ) (words : List X) (i : ℕ) (x : X) → i < length words
     → Puts a b u v (ended (Unit {0}) E tt) (behind (map f (take i words))) → Puts b c v w (ended (Unit {0}) E tt) (32 ∷ f (get_or words i x)) → Puts a c u w (ended (Unit {0}) E tt) (behind (map f (take (i + 1) words)))
 one_word_on {X} {E} f a b c u v w words i x lt h k =
     let both = puts_then a b c u v w tt (ended (Unit {0}) E tt) (behind (map f (take i words))) (32 ∷ f (get_or words i x)) h k in
     subst (λ (l : List ℕ). Puts a c u w (ended (Unit {0}) E tt) l) (one_longer f words i x lt) both
 
-pub word_stops : {X E : Type 0} (f : X → List ℕ) (a b c : Option (List ℕ)) (u v w : List ℕ) (e : E) (words : List X) (i : ℕ) (x : X) → i < length words
+pub word_stops : {X E : Type 0} (f : X → List ℕ) (a b c : SinkView) (u v w : List ℕ) (e : E) (words : List X) (i : ℕ) (x : X) → i < length words
     → Puts a b u v (ended (Unit {0}) E tt) (behind (map f (take i words))) → Puts b c v w (failed (Unit {0}) E e) (32 ∷ f (get_or words i x)) → Puts a c u w (failed (Unit {0}) E e) (behind (map f words))
 word_stops {X} {E} f a b c u v w e words i x lt h k =
     let both = puts_then a b c u v w tt (failed (Unit {0}) E e) (behind (map f (take i words))) (32 ∷ f (get_or words i x)) h k in
@@ -40,17 +41,17 @@ line_is : (word : List ℕ) (words : Line) → (word ++ behind words) ++ 10 ∷ 
 line_is word words = ap (λ (l : List ℕ). l ++ 10 ∷ []) (sym (joined_is word words))
 
 -- a line is its first word, the words behind it and a line feed
-pub line_first_stops : {E : Type 0} (a b : Option (List ℕ)) (u v : List ℕ) (e : E) (word : List ℕ) (words : Line) → Puts a b u v (failed (Unit {0}) E e) word → Puts a b u v (failed (Unit {0}) E e) (spelled (word ∷ words))
+pub line_first_stops : {E : Type 0} (a b : SinkView) (u v : List ℕ) (e : E) (word : List ℕ) (words : Line) → Puts a b u v (failed (Unit {0}) E e) word → Puts a b u v (failed (Unit {0}) E e) (spelled (word ∷ words))
 line_first_stops {E} a b u v e word words h =
     let more : Puts a b u v (failed (Unit {0}) E e) (word ++ behind words) = puts_stop a b u v v e word (behind words) h in
     subst (λ (l : List ℕ). Puts a b u v (failed (Unit {0}) E e) l) (line_is word words) (puts_stop a b u v v e (word ++ behind words) (10 ∷ []) more)
 
-pub line_words_stop : {E : Type 0} (a b c : Option (List ℕ)) (u v w : List ℕ) (e : E) (word : List ℕ) (words : Line) → Puts a b u v (ended (Unit {0}) E tt) word → Puts b c v w (failed (Unit {0}) E e) (behind words)
+pub line_words_stop : {E : Type 0} (a b c : SinkView) (u v w : List ℕ) (e : E) (word : List ℕ) (words : Line) → Puts a b u v (ended (Unit {0}) E tt) word → Puts b c v w (failed (Unit {0}) E e) (behind words)
     → Puts a c u w (failed (Unit {0}) E e) (spelled (word ∷ words))
 line_words_stop {E} a b c u v w e word words h k =
     subst (λ (l : List ℕ). Puts a c u w (failed (Unit {0}) E e) l) (line_is word words) (puts_stop a c u w w e (word ++ behind words) (10 ∷ []) (puts_then a b c u v w tt (failed (Unit {0}) E e) word (behind words) h k))
 
-pub line_put : {E : Type 0} (a b c d : Option (List ℕ)) (u v w z : List ℕ) (r : Result (Unit {0}) E) (word : List ℕ) (words : Line) → Puts a b u v (ended (Unit {0}) E tt) word → Puts b c v w (ended (Unit {0}) E tt) (behind words)
+pub line_put : {E : Type 0} (a b c d : SinkView) (u v w z : List ℕ) (r : Result (Unit {0}) E) (word : List ℕ) (words : Line) → Puts a b u v (ended (Unit {0}) E tt) word → Puts b c v w (ended (Unit {0}) E tt) (behind words)
     → Puts c d w z r (10 ∷ []) → Puts a d u z r (spelled (word ∷ words))
 line_put {E} a b c d u v w z r word words h k l =
     subst (λ (t : List ℕ). Puts a d u z r t) (line_is word words) (puts_then a c d u w z tt r (word ++ behind words) (10 ∷ []) (puts_then a b c u v w tt (ended (Unit {0}) E tt) word (behind words) h k) l)

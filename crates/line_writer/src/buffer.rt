@@ -1,7 +1,6 @@
 //! A writer with a buffer of fixed size.
 
 ghost use Rattle.std.specs.Prelude.{◌≡◌, ◌+◌, ◌≤◌, ◌++◌, ◌↔◌, [], length, IsTrue, OnOk};
-ghost use Rattle.mcf_base.specs.Faults.{HasCause};
 ghost use Rattle.line_writer.specs.Writing.{Puts};
 
 use mcf_base::{Sink, WriteFault, write_all_of};
@@ -55,9 +54,8 @@ impl Buffer {
 
     /// Writes what waits. After a fault some front of it was written.
     pub fn flush<K: Sink>(&mut self, out: &mut K) -> Result<(), WriteFault>
-        ensures puts { Puts (K.written out.old) (K.written out.new) self.old self.new result [] }
+        ensures puts { Puts (K.seen out.old) (K.seen out.new) self.old self.new result [] }
         ensures empty { OnOk result (self.new ≡ []) }
-        ensures cause { HasCause (K.faults out.old) (K.faults out.new) result }
     {
         match write_all_of(out, &self.bytes[..self.used]) {
             Ok(()) => {}
@@ -70,8 +68,7 @@ impl Buffer {
     // Puts a piece where nothing waits: one that is longer than the buffer goes by it.
     fn put_first<K: Sink>(&mut self, out: &mut K, piece: &[u8]) -> Result<(), WriteFault>
         requires { self.old ≡ [] }
-        ensures puts { Puts (K.written out.old) (K.written out.new) self.old self.new result piece.now }
-        ensures cause { HasCause (K.faults out.old) (K.faults out.new) result }
+        ensures { Puts (K.seen out.old) (K.seen out.new) self.old self.new result piece.now }
     {
         if !self.has_room(piece.len()) {
             return write_all_of(out, piece);
@@ -82,8 +79,7 @@ impl Buffer {
 
     /// Puts the piece behind what waits. After a fault some front of both was written.
     pub fn put<K: Sink>(&mut self, out: &mut K, piece: &[u8]) -> Result<(), WriteFault>
-        ensures puts { Puts (K.written out.old) (K.written out.new) self.old self.new result piece.now }
-        ensures cause { HasCause (K.faults out.old) (K.faults out.new) result }
+        ensures { Puts (K.seen out.old) (K.seen out.new) self.old self.new result piece.now }
     {
         if self.has_room(piece.len()) {
             self.append(piece);

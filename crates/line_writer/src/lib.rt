@@ -6,4 +6,5 @@ mod lines;
 mod word;
 
 pub use buffer::Buffer;
+pub use lines::write_line;
 pub use word::Word;

@@ -27,7 +27,7 @@ fn main(rt: HostRuntime) -> ExitCode {
             return ExitCode::from(NO_WORDS);
         }
     };
-    let mut shelf = FileShelf::new(&rt);
+    let mut shelf = FileShelf::new(&rt, rt.alloc());
     let mut out = OutSink::new(io::writer(&rt));
     let ended = run(&rt, rt.alloc(), &words, &mut shelf, &mut out, &OpenGate);
     ExitCode::from(ended.status)

@@ -1,11 +1,1 @@
-pub mod Judged
-pub mod Answer
-pub mod Files
-pub mod Rows
-pub mod Print
-pub mod PrintRun
-pub mod Check
-pub mod Solve
-pub mod WhatIf
-pub mod Drawn
 pub mod Run

@@ -1,19 +1,15 @@
 //! The top call.
 
-ghost use Rattle.std.specs.Prelude.{◌≡◌, ◌≤◌, length, map, string_bytes};
+ghost use Rattle.std.specs.Prelude.{◌≡◌, length, map, string_bytes};
 ghost use Rattle.mcf_words.specs.Request.{file_count, IsWithinLimits, AreDrawn};
-ghost use Rattle.mcf_cli.specs.Run.{CommandEnds, RunEnds};
+ghost use Rattle.run_base.specs.Answer.{IsTold};
+ghost use Rattle.mcf_cli.specs.Run.{OfCommand, RunEnds};
 
-use crate::check::check;
-use crate::drawn::{gen_net, trial};
-use crate::ended::Ended;
-use crate::outcome::Outcome;
-use crate::print::print;
-use crate::solve::solve_file;
-use crate::tell::tell;
-use crate::what_if::whatif_files;
 use mcf_base::{Gate, Shelf, Sink};
 use mcf_words::{Command, Request, WordsEnd, read_words};
+use run_base::{Ended, Outcome, tell};
+use run_certs::{check, whatif_files};
+use run_solves::{gen_net, print, solve_file, trial};
 use std::alloc::Global;
 use std::thread::Threads;
 
@@ -29,9 +25,7 @@ fn run_command<F: Shelf, K: Sink, G: Gate, R: Threads + Sync>(
     requires files { length request.now.names ≡ file_count request.now.command }
     requires limits { IsWithinLimits request.now }
     requires drawn { file_count request.now.command ≡ 0 → AreDrawn request.now.numbers }
-    ensures ends { CommandEnds (F.holds shelf.old) (F.faults shelf.old) (F.faults shelf.new) request.now (K.written out.old) (K.written out.new) (K.faults out.old) (K.faults out.new) result }
-    ensures holds { F.holds shelf.new ≡ F.holds shelf.old }
-    ensures faults { (F.faults shelf.old).count ≤ (F.faults shelf.new).count }
+    ensures { IsTold (OfCommand request.now.command request.now (F.seen shelf.old) (F.seen shelf.new)) (K.seen out.old) (K.seen out.new) result }
 {
     match request.command {
         Command::Solve => solve_file(rt, alloc, shelf, out, request.names.name(0), request, gate),
@@ -65,9 +59,7 @@ pub fn run<F: Shelf, K: Sink, G: Gate, R: Threads + Sync>(
     out: &mut K,
     gate: &G,
 ) -> Ended
-    ensures ends { RunEnds (F.holds shelf.old) (F.faults shelf.old) (F.faults shelf.new) (map string_bytes words.now) (K.written out.old) (K.written out.new) (K.faults out.old) (K.faults out.new) result }
-    ensures holds { F.holds shelf.new ≡ F.holds shelf.old }
-    ensures faults { (F.faults shelf.old).count ≤ (F.faults shelf.new).count }
+    ensures { RunEnds (map string_bytes words.now) (F.seen shelf.old) (F.seen shelf.new) (K.seen out.old) (K.seen out.new) result }
 {
     match read_words(alloc, words) {
         Ok(request) => run_command(rt, alloc, &request, shelf, out, gate),

@@ -5,7 +5,7 @@ use Rattle.std.specs.Char.{is_ascii_digit}
 use Rattle.std.specs.List.{cons_option, list_all, list_any}
 use Rattle.std.specs.Str.{bytes_eq}
 use Rattle.std.proofs.lemmas.Bool.{and_parts, and_right, eqb-true, false≢true, not-false, or_cases}
-use Rattle.mcf_limits.specs.declared.TheConstants.{MAX_PHASES, MAX_WORKERS, MAX_STEP}
+use Rattle.mcf_limits.specs.declared.TheConstants.{DEFAULT_GAP, DEFAULT_STEP, DEFAULT_WORKERS, MAX_PHASES, MAX_WORKERS, MAX_STEP}
 use Rattle.net_options.specs.Modes.{link_mode_of, module_mode_of}
 use Rattle.net_options.specs.declared.modes.LinkMode.{LinkMode}
 use Rattle.net_options.specs.declared.modes.LinkMode.TheVariants.{Undirected}
@@ -82,16 +82,16 @@ module _ (settings : List Setting) where
   modules = choice module_mode_of Largest (values_of (codes "--modules") settings)
 
   abbrev gap : Option ℕ
-  gap = choice gap_of 50000 (values_of (codes "--gap") settings)
+  gap = choice gap_of DEFAULT_GAP (values_of (codes "--gap") settings)
 
   abbrev phases : Option (Option ℕ)
   phases = choice (λ w. option_map Some (number_in 1 MAX_PHASES w)) None (values_of (codes "--phases") settings)
 
   abbrev workers : Option ℕ
-  workers = choice (number_in 1 MAX_WORKERS) 4 (values_of (codes "--workers") settings)
+  workers = choice (number_in 1 MAX_WORKERS) DEFAULT_WORKERS (values_of (codes "--workers") settings)
 
   abbrev step : Option ℕ
-  step = choice (number_in 1 MAX_STEP) 8192 (values_of (codes "--step") settings)
+  step = choice (number_in 1 MAX_STEP) DEFAULT_STEP (values_of (codes "--step") settings)
 
   abbrev Fails : List ℕ → Type 0
   Fails name = is_one_value (values_of name settings) ≡ false
@@ -112,13 +112,13 @@ module _ (settings : List Setting) where
 
   step_fails : (name : List ℕ) → Fails name → list_any (bytes_eq name) (codes "--step" ∷ []) ≡ true → step ≡ None
   step_fails name f e = elim (here_or name (codes "--step") [] e) [
-    | inl h ↦ no_choice (number_in 1 MAX_STEP) 8192 (values_of (codes "--step") settings) (no_number 1 MAX_STEP) (fails_at name _ h f)
+    | inl h ↦ no_choice (number_in 1 MAX_STEP) DEFAULT_STEP (values_of (codes "--step") settings) (no_number 1 MAX_STEP) (fails_at name _ h f)
     | inr h ↦ absurd (false≢true h)
   ]
 
   workers_fail : (name : List ℕ) → Fails name → list_any (bytes_eq name) (codes "--workers" ∷ codes "--step" ∷ []) ≡ true → (workers ≡ None) ⊎ (step ≡ None)
   workers_fail name f e = elim (here_or name (codes "--workers") (codes "--step" ∷ []) e) [
-    | inl h ↦ inl (no_choice (number_in 1 MAX_WORKERS) 4 (values_of (codes "--workers") settings) (no_number 1 MAX_WORKERS) (fails_at name _ h f))
+    | inl h ↦ inl (no_choice (number_in 1 MAX_WORKERS) DEFAULT_WORKERS (values_of (codes "--workers") settings) (no_number 1 MAX_WORKERS) (fails_at name _ h f))
     | inr h ↦ inr (step_fails name f h)
   ]
 
@@ -136,7 +136,7 @@ module _ (settings : List Setting) where
     | inr h ↦ inr (elim (here_or name (codes "--modules") (codes "--gap" ∷ codes "--phases" ∷ codes "--workers" ∷ codes "--step" ∷ []) h) [
       | inl k ↦ inl (no_choice module_mode_of Largest (values_of (codes "--modules") settings) no_module (fails_at name _ k f))
       | inr k ↦ inr (elim (here_or name (codes "--gap") (codes "--phases" ∷ codes "--workers" ∷ codes "--step" ∷ []) k) [
-        | inl j ↦ inl (no_choice gap_of 50000 (values_of (codes "--gap") settings) no_gap (fails_at name _ j f))
+        | inl j ↦ inl (no_choice gap_of DEFAULT_GAP (values_of (codes "--gap") settings) no_gap (fails_at name _ j f))
         | inr j ↦ inr (phases_fail name f j)
       ])
     ])

@@ -3,7 +3,7 @@ use Rattle.std.specs.Prelude.{ℕ, IfSome, ◌≤◌, ◌^◌, ◌-◌, Bool, Li
 use Rattle.std.specs.List.{list_all, list_any}
 use Rattle.std.specs.Option.{option_map}
 use Rattle.std.specs.Str.{bytes_eq}
-use Rattle.mcf_limits.specs.declared.TheConstants.{MAX_GAP, MAX_NODES, MAX_LINKS, MAX_DEMANDS, MAX_PHASES, MAX_WORKERS, MAX_STEP}
+use Rattle.mcf_limits.specs.declared.TheConstants.{DEFAULT_GAP, DEFAULT_STEP, DEFAULT_WORKERS, MAX_GAP, MAX_NODES, MAX_LINKS, MAX_DEMANDS, MAX_PHASES, MAX_WORKERS, MAX_STEP}
 use Rattle.net_options.specs.declared.modes.LinkMode.TheVariants.{Undirected}
 use Rattle.net_options.specs.declared.modes.ModuleMode.TheVariants.{Largest}
 use Rattle.net_options.specs.declared.options.NetOptions.{NetOptions}
@@ -80,10 +80,10 @@ unfoldable pub choices_of : List Setting → Option Choices
 choices_of settings = do
   links ← choice link_mode_of Undirected (values_of (codes "--links") settings)
   modules ← choice module_mode_of Largest (values_of (codes "--modules") settings)
-  gap ← choice gap_of 50000 (values_of (codes "--gap") settings)
+  gap ← choice gap_of DEFAULT_GAP (values_of (codes "--gap") settings)
   phases ← choice (λ w. option_map Some (number_in 1 MAX_PHASES w)) None (values_of (codes "--phases") settings)
-  workers ← choice (number_in 1 MAX_WORKERS) 4 (values_of (codes "--workers") settings)
-  step ← choice (number_in 1 MAX_STEP) 8192 (values_of (codes "--step") settings)
+  workers ← choice (number_in 1 MAX_WORKERS) DEFAULT_WORKERS (values_of (codes "--workers") settings)
+  step ← choice (number_in 1 MAX_STEP) DEFAULT_STEP (values_of (codes "--step") settings)
   Some (record { net = record { links = links; modules = modules }; gap = gap; phases = phases; workers = workers; step = step })
 
 -- seed, nodes, links and demands

@@ -16,7 +16,10 @@ use crate::parse::{GAP, LINKS, MODULES, PHASES, STEP, WORDS, WORKERS, parsed};
 use crate::request::{Command, Names, Request, WordsEnd};
 use crate::values::{gap_of, number_in};
 use clap::ArgMatches;
-use mcf_limits::{MAX_DEMANDS, MAX_GAP, MAX_LINKS, MAX_NODES, MAX_PHASES, MAX_STEP, MAX_WORKERS};
+use mcf_limits::{
+    DEFAULT_GAP, DEFAULT_STEP, DEFAULT_WORKERS, MAX_DEMANDS, MAX_GAP, MAX_LINKS, MAX_NODES,
+    MAX_PHASES, MAX_STEP, MAX_WORKERS,
+};
 use net_options::{LinkMode, ModuleMode, NetOptions, link_mode_of, module_mode_of};
 use std::alloc::{AllocError, Global};
 
@@ -31,13 +34,6 @@ const PRINT: &[u8] = b"print";
 const GEN: &[u8] = b"gen";
 
 const TRIAL: &[u8] = b"trial";
-
-/// The gap where none is asked: 0.05.
-const DEFAULT_GAP: u64 = 50_000;
-
-const DEFAULT_WORKERS: u16 = 4;
-
-const DEFAULT_STEP: u32 = 8192;
 
 /// What the options say, and the defaults of those that do not stand.
 #[derive(Clone, Copy, Debug)]

@@ -1,6 +1,6 @@
 -- What is asked of a solve.
 use Rattle.std.specs.Prelude.{◌≡◌, ℕ, ◌*◌, ◌/◌, ◌<◌, ◌≤◌, min, length, Option, Some, None, IfSome}
-use Rattle.mcf_limits.specs.declared.TheConstants.{MAX_GAP, MAX_PHASES, MAX_STEP, MAX_WORK, MAX_WORKERS}
+use Rattle.mcf_limits.specs.declared.TheConstants.{DEFAULT_PHASES, MAX_GAP, MAX_PHASES, MAX_STEP, MAX_WORK, MAX_WORKERS}
 use Rattle.flow_model.specs.Network.{Network}
 use Rattle.solver_run.specs.declared.options.SolveOptions.{SolveOptions}
 use Rattle.net_solve.specs.declared.asked.Asked.{Asked}
@@ -14,9 +14,9 @@ pub record IsAsked (a : Asked) : Type 0 where
   pub some_step : 1 ≤ a.step
   pub step : a.step ≤ MAX_STEP
 
--- the phase budget where none is given: 1,000, or as many phases as the most work allows
+-- the phase budget where none is given: the default, or as many phases as the most work allows
 abbrev pub default_budget : ℕ → ℕ
-default_budget commodities = min 1000 (MAX_WORK / commodities)
+default_budget commodities = min DEFAULT_PHASES (MAX_WORK / commodities)
 
 -- the phase budget
 abbrev pub budget_of : Network → Option ℕ → ℕ

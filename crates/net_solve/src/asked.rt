@@ -5,7 +5,7 @@ ghost use Rattle.solver_run.specs.Options.{AreOptions};
 ghost use Rattle.net_solve.specs.Asked.{IsAsked, default_budget, options_for, IsTooMuch};
 
 use flow_model::Net;
-use mcf_limits::MAX_WORK;
+use mcf_limits::{DEFAULT_PHASES, MAX_WORK};
 use solver_run::SolveOptions;
 
 /// The gap in millionths, the phase budget if one was given, the number of workers, and the step of the lengths.
@@ -16,9 +16,6 @@ pub struct Asked {
     pub workers: u16,
     pub step: u32,
 }
-
-/// The most phases where no budget was given: 1,000, or as many as the most work allows.
-const DEFAULT_PHASES: u64 = 1000;
 
 // The phase budget where none was given.
 fn default_phases(commodities: u64) -> u32

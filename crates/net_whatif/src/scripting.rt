@@ -1,9 +1,7 @@
 //! From a valid certificate and a script's text to what the script shows.
 
 ghost use Rattle.std.specs.Prelude.{◌≡◌, ◌≤◌, IfOk, OnOk, OnErr, length};
-ghost use Rattle.std.specs.Io.KnownBytes.{Appends};
-ghost use Rattle.mcf_base.specs.Faults.{HasCause};
-ghost use Rattle.mcf_base.specs.Sink.{AppendsFront};
+ghost use Rattle.mcf_base.specs.Sink.{Wrote};
 ghost use Rattle.mcf_limits.specs.declared.TheConstants.{MAX_SCRIPT_BYTES};
 ghost use Rattle.script.specs.Steps.{AreSteps};
 ghost use Rattle.whatif.specs.Shown.{shown_text};
@@ -54,9 +52,7 @@ pub fn read_script(
 /// Writes a line for each `show` of the steps. After a fault a front of these lines was written. It takes no memory.
 pub fn write_shown<K: Sink>(plan: Plan, script: &Script, out: &mut K) -> Result<(), WriteFault>
     requires { AreSteps (length plan.caps) script.now }
-    ensures ok { OnOk result (Appends (K.written out.old) (K.written out.new) (shown_text plan script.now)) }
-    ensures err { OnErr result (AppendsFront (K.written out.old) (K.written out.new) (shown_text plan script.now)) }
-    ensures cause { HasCause (K.faults out.old) (K.faults out.new) result }
+    ensures { Wrote (K.seen out.old) (K.seen out.new) result (shown_text plan script.now) }
 {
     let mut plan = plan;
     run_script(&mut plan, script, out)

@@ -1,16 +1,15 @@
 -- What each command answers to accepted files: an answer with status 0 or 1.
 use Rattle.std.proofs.Common.{◌≡◌, ℕ, ◌≤◌, Bool, true, false, List, Some, Result, Ok, Err, inl, inr, ap, subst, sym, ◌∙◌, arith}
-use Rattle.std.specs.Prelude.{if◌then◌else◌}
-use Rattle.mcf_limits.specs.declared.TheConstants.{MAX_NET_BYTES, MAX_CERT_BYTES, MAX_SCRIPT_BYTES}
-use Rattle.mcf_base.specs.Faults.{Rose, Faults}
-use Rattle.mcf_base.specs.Shelf.{Holding}
+use Rattle.std.specs.Prelude.{◌⊎◌, if◌then◌else◌}
+use Rattle.mcf_limits.specs.declared.TheConstants.{MAX_CERT_BYTES, MAX_SCRIPT_BYTES}
+use Rattle.mcf_base.specs.Faults.{Rose}
+use Rattle.mcf_base.specs.Shelf.{Holding, ShelfView, with_file}
 use Rattle.text_lines.specs.Lines.{lines_of}
 use Rattle.net_options.specs.declared.options.NetOptions.{NetOptions}
 use Rattle.flow_model.specs.Network.{Network}
 use Rattle.flow_paths.specs.declared.certificate.Proof.{Proof}
 use Rattle.flow_paths.specs.Certificate.{IsValid}
 use Rattle.sndlib_grammar.specs.Rows.{NetRows}
-use Rattle.sndlib_grammar.specs.Net.{rows_of}
 use Rattle.sndlib_grammar.specs.declared.refusal.NetRefusal.{NetRefusal}
 use Rattle.unit_scale.specs.Scaling.{ScaledNet, scaled_of}
 use Rattle.cert_names.specs.Sheet.{sheet_of}
@@ -37,18 +36,18 @@ use Rattle.net_whatif.specs.Scripted.{IsScriptedText}
 use Rattle.mcf_words.specs.declared.request.Request.{Request}
 use Rattle.mcf_words.specs.declared.request.Command.{Command}
 use Rattle.mcf_words.specs.declared.request.Command.TheVariants as commands
-use Rattle.mcf_cli.specs.declared.outcome.Paper.TheVariants as kinds
-use Rattle.mcf_cli.specs.declared.outcome.Outcome.TheVariants as outcomes
-use Rattle.mcf_cli.specs.Answer.{Answer, answer_of}
-use Rattle.mcf_cli.specs.Files.{OfFile}
-use Rattle.mcf_cli.specs.Print.{printed, print_answer}
-use Rattle.mcf_cli.specs.Check.{OnTexts, OnRows, OfCheck}
-use Rattle.mcf_cli.specs.Solve.{asked_of, solving_answer, SolvesRows, SolvesRead, OfSolve}
-use Rattle.mcf_cli.specs.WhatIf.{scripted_answer, OnScript, OnCertified, OnCertificate, OnNetwork, OfWhatIf}
-use Rattle.mcf_cli.specs.Drawn.{net_drawn, trial_line, OfTrial}
-use Rattle.mcf_cli.specs.Run.{file_at, OfPrint, OfCommand}
+use Rattle.run_base.specs.declared.outcome.Paper.TheVariants as kinds
+use Rattle.run_base.specs.declared.outcome.Outcome.TheVariants as outcomes
+use Rattle.run_base.specs.Answer.{Answer, answer_of}
+use Rattle.run_base.specs.Files.{Ends, OfFile, OrMemory}
+use Rattle.run_solves.specs.Print.{OfPrint, printed}
+use Rattle.run_certs.specs.Check.{OnTexts, OfCheck}
+use Rattle.run_solves.specs.Solve.{asked_of, solving_answer, SolvesRows, OfSolve}
+use Rattle.run_certs.specs.WhatIf.{scripted_answer, OnScript, OnCertified, OnCertificate, OfWhatIf}
+use Rattle.run_solves.specs.Drawn.{net_drawn, gen_answer, trial_line, OfTrial}
+use Rattle.mcf_cli.specs.Run.{file_at, OfCommand}
 use Rattle.run_laws.specs.Accepted.{IsSolvable, IsPaperFile, IsScriptFile, AcceptsPrint, AcceptsSolve, AcceptsCheck, AcceptsWhatIf, AcceptsTrial, Accepts}
-use Rattle.run_laws.proofs.Given.{of_text}
+use Rattle.run_laws.proofs.Given.{Memories, of_text, of_rows}
 use Rattle.run_laws.proofs.Forms.{no_header_of_routing}
 
 -- reading answers one thing
@@ -65,14 +64,25 @@ verdict_low : (closed : Bool) → (if closed then 0 else 1) ≤ 1
 verdict_low true = omega arith
 verdict_low false = omega arith
 
+-- want of memory, or a status of 0 or 1
+abbrev pub Low : Answer → Type 0
+Low answer = Memories answer ⊎ (answer.status ≤ 1)
+
+then_low : {X : Type 0} (answer : Answer) → Memories answer ⊎ X → (X → Low answer) → Low answer
+then_low answer (inl memory) f = inl memory
+then_low answer (inr x) f = f x
+
+ends_low : (Of : Answer → Type 0) (old new : ShelfView) (answer : Answer) → (Of answer → answer.status ≤ 1) → Ends Of old new answer → Low answer
+ends_low Of old new answer f (same, inl memory) = inl memory
+ends_low Of old new answer f (same, inr of) = inr (f of)
+
 -- ---- print
 
-printed_low : (answer : Answer) (text : List ℕ) (rows : NetRows) → rows_of text ≡ Ok rows → answer ≡ print_answer text → answer.status ≤ 1
-printed_low answer text rows read e = status_is answer (printed (Ok rows)) (e ∙ ap printed read) (omega arith)
-
-print_low : (files : Holding) (first last : Faults) (request : Request) (answer : Answer) → ¬ (Rose first.count last.count) → AcceptsPrint files request → OfPrint (Some files) first last request answer → answer.status ≤ 1
-print_low files first last request answer calm (rows, net) of =
-    printed_low answer net.text rows net.read (of_text MAX_NET_BYTES kinds.Network files first last (file_at request 0) net.text (λ text given. given ≡ print_answer text) answer calm net.given of)
+print_low : (files : Holding) (request : Request) (old new : ShelfView) (answer : Answer) → old.holds ≡ Some files → ¬ (Rose old.faults.count new.faults.count)
+    → AcceptsPrint files request → OfPrint (file_at request 0) old new answer → Low answer
+print_low files request old new answer tells calm (rows, net) of =
+    then_low answer (of_rows files (file_at request 0) rows (λ rows. Ends (λ given. given ≡ printed rows)) old new answer tells calm net of)
+    (λ on. ends_low (λ given. given ≡ printed rows) (with_file old (file_at request 0)) new answer (λ e. status_is answer (printed rows) e (omega arith)) on)
 
 -- ---- solve and trial
 
@@ -85,10 +95,11 @@ solving_low rows request (solvings.Done net s) can is = verdict_low s.proof.clos
 solves_low : (rows : NetRows) (request : Request) (answer : Answer) → IsSolvable rows request → SolvesRows request rows answer → answer.status ≤ 1
 solves_low rows request answer can (solving, is, e) = status_is answer (solving_answer rows solving) e (solving_low rows request solving can is)
 
-solve_low : (files : Holding) (first last : Faults) (request : Request) (answer : Answer) → ¬ (Rose first.count last.count) → AcceptsSolve files request → OfSolve (Some files) first last (file_at request 0) request answer → answer.status ≤ 1
-solve_low files first last request answer calm (rows, net, can) of =
-    let on = of_text MAX_NET_BYTES kinds.Network files first last (file_at request 0) net.text (λ text given. SolvesRead request (rows_of text) given) answer calm net.given of in
-    solves_low rows request answer can (subst (λ (r : Result NetRows NetRefusal). SolvesRead request r answer) net.read on)
+solve_low : (files : Holding) (request : Request) (old new : ShelfView) (answer : Answer) → old.holds ≡ Some files → ¬ (Rose old.faults.count new.faults.count)
+    → AcceptsSolve files request → OfSolve (file_at request 0) request old new answer → Low answer
+solve_low files request old new answer tells calm (rows, net, can) of =
+    then_low answer (of_rows files (file_at request 0) rows (λ rows. Ends (SolvesRows request rows)) old new answer tells calm net of)
+    (λ on. ends_low (SolvesRows request rows) (with_file old (file_at request 0)) new answer (λ e. solves_low rows request answer can e) on)
 
 trial_low : (request : Request) (answer : Answer) → AcceptsTrial request → OfTrial request answer → answer.status ≤ 1
 trial_low request answer can (rows, read, inl (n, is, same)) = absurd (can n is)
@@ -119,11 +130,14 @@ texts_low files name rows net paper answer file (judged, is, e) =
     status_is answer (answer_of (outcomes.Judged judged)) e
     (said_low (options_of file.head) net.net paper judged (said_of rows file.text file.head net paper judged file.head_read file.scaled file.rest_read is))
 
-check_low : (files : Holding) (first last : Faults) (request : Request) (answer : Answer) → ¬ (Rose first.count last.count) → AcceptsCheck files request → OfCheck (Some files) first last (file_at request 0) (file_at request 1) answer → answer.status ≤ 1
-check_low files first last request answer calm (rows, given, net, paper, file) of =
-    let read = of_text MAX_NET_BYTES kinds.Network files first last (file_at request 0) given.text (λ text a. OnRows (Some files) first last (file_at request 1) (rows_of text) a) answer calm given.given of in
-    let on_rows = subst (λ (r : Result NetRows NetRefusal). OnRows (Some files) first last (file_at request 1) r answer) given.read read in
-    texts_low files (file_at request 1) rows net paper answer file (of_text MAX_CERT_BYTES kinds.Certificate files first last (file_at request 1) file.text (OnTexts rows) answer calm file.given on_rows)
+check_low : (files : Holding) (request : Request) (old new : ShelfView) (answer : Answer) → old.holds ≡ Some files → ¬ (Rose old.faults.count new.faults.count)
+    → AcceptsCheck files request → OfCheck (file_at request 0) (file_at request 1) old new answer → Low answer
+check_low files request old new answer tells calm (rows, given, net, paper, file) of =
+    let first = file_at request 0 in
+    let cert = file_at request 1 in
+    then_low answer (of_rows files first rows (λ rows. OfFile MAX_CERT_BYTES kinds.Certificate cert (λ text. Ends (OnTexts rows text))) old new answer tells calm given of)
+    (λ on. then_low answer (of_text MAX_CERT_BYTES kinds.Certificate files cert file.text (λ text. Ends (OnTexts rows text)) (with_file old first) new answer tells calm file.given on)
+    (λ last. ends_low (OnTexts rows file.text) (with_file (with_file old first) cert) new answer (λ e. texts_low files cert rows net paper answer file e) last))
 
 -- ---- whatif
 
@@ -131,22 +145,22 @@ scripted_low : (rows : NetRows) (net : ScaledNet) (proof : Proof) (text : List �
 scripted_low rows net proof text steps (scripts.Refused r) read is = absurd (clash (script_of rows net text) steps r read is)
 scripted_low rows net proof text steps (scripts.Ready plan taken) read is = omega arith
 
-script_low : (files : Holding) (first last : Faults) (name : List ℕ) (rows : NetRows) (net : ScaledNet) (proof : Proof) (answer : Answer) → ¬ (Rose first.count last.count) → IsScriptFile files name rows net
-    → OfFile MAX_SCRIPT_BYTES kinds.Script (Some files) first last name (OnScript rows net proof) answer → answer.status ≤ 1
-script_low files first last name rows net proof answer calm file of =
-    let on = of_text MAX_SCRIPT_BYTES kinds.Script files first last name file.text (OnScript rows net proof) answer calm file.given of in
-    status_is answer (scripted_answer on.0) on.2 (scripted_low rows net proof file.text file.steps on.0 file.read on.1)
+script_low : (files : Holding) (name : List ℕ) (rows : NetRows) (net : ScaledNet) (proof : Proof) (old new : ShelfView) (answer : Answer) → old.holds ≡ Some files → ¬ (Rose old.faults.count new.faults.count)
+    → IsScriptFile files name rows net → OfFile MAX_SCRIPT_BYTES kinds.Script name (λ text. Ends (OnScript rows net proof text)) old new answer → Low answer
+script_low files name rows net proof old new answer tells calm file of =
+    then_low answer (of_text MAX_SCRIPT_BYTES kinds.Script files name file.text (λ text. Ends (OnScript rows net proof text)) old new answer tells calm file.given of)
+    (λ last. ends_low (OnScript rows net proof file.text) (with_file old name) new answer (λ on. status_is answer (scripted_answer on.0) on.2 (scripted_low rows net proof file.text file.steps on.0 file.read on.1)) last)
 
-certified_low : (files : Holding) (first last : Faults) (name : List ℕ) (rows : NetRows) (net : ScaledNet) (proof : Proof) (certified : Certified) (answer : Answer) → ¬ (Rose first.count last.count)
-    → (IsValid net.net proof → IsScriptFile files name rows net) → CertOnCertificate rows net proof certified → OnCertified (Some files) first last rows name certified answer → answer.status ≤ 1
-certified_low files first last name rows net proof (certs.Valid n p) answer calm script is on =
-    let moved = subst (λ (m : ScaledNet). OfFile MAX_SCRIPT_BYTES kinds.Script (Some files) first last name (OnScript rows m p) answer) is.0 on in
-    script_low files first last name rows net p answer calm (script is.2.valid) moved
-certified_low files first last name rows net proof (certs.Said (judges.Invalid fault)) answer calm script is on = status_is answer (answer_of (outcomes.Judged (judges.Invalid fault))) on (omega arith)
-certified_low files first last name rows net proof (certs.Said (judges.NetRefused x)) answer calm script is on = absurd is
-certified_low files first last name rows net proof (certs.Said (judges.CertRefused x)) answer calm script is on = absurd is
-certified_low files first last name rows net proof (certs.Said (judges.Feasible o v)) answer calm script is on = absurd is
-certified_low files first last name rows net proof (certs.Said (judges.Valid o c l u)) answer calm script is on = absurd is
+certified_low : (files : Holding) (name : List ℕ) (rows : NetRows) (net : ScaledNet) (proof : Proof) (certified : Certified) (old new : ShelfView) (answer : Answer) → old.holds ≡ Some files → ¬ (Rose old.faults.count new.faults.count)
+    → (IsValid net.net proof → IsScriptFile files name rows net) → CertOnCertificate rows net proof certified → OnCertified rows name certified old new answer → Low answer
+certified_low files name rows net proof (certs.Valid n p) old new answer tells calm script is on =
+    let moved = subst (λ (m : ScaledNet). OfFile MAX_SCRIPT_BYTES kinds.Script name (λ text. Ends (OnScript rows m p text)) old new answer) is.0 on in
+    script_low files name rows net p old new answer tells calm (script is.2.valid) moved
+certified_low files name rows net proof (certs.Said (judges.Invalid fault)) old new answer tells calm script is on = inr (status_is answer (answer_of (outcomes.Judged (judges.Invalid fault))) on.0 (omega arith))
+certified_low files name rows net proof (certs.Said (judges.NetRefused x)) old new answer tells calm script is on = absurd is
+certified_low files name rows net proof (certs.Said (judges.CertRefused x)) old new answer tells calm script is on = absurd is
+certified_low files name rows net proof (certs.Said (judges.Feasible o v)) old new answer tells calm script is on = absurd is
+certified_low files name rows net proof (certs.Said (judges.Valid o c l u)) old new answer tells calm script is on = absurd is
 
 -- what comes of a certificate's text that is read
 certificate_of : (rows : NetRows) (text : List ℕ) (head : CertHead) (net : ScaledNet) (proof : Proof) (certified : Certified)
@@ -158,23 +172,29 @@ certificate_of rows text head net proof certified head_read scaled rest_read is 
     let on_net = subst (λ (r : Result ScaledNet NetRefusal). OnNet rows (lines_of text) r certified) scaled on_head in
     subst (λ (r : Result Paper CertRefusal). OnPaper rows net r certified) rest_read on_net
 
-whatif_low : (files : Holding) (first last : Faults) (request : Request) (answer : Answer) → ¬ (Rose first.count last.count) → AcceptsWhatIf files request
-    → OfWhatIf (Some files) first last (file_at request 0) (file_at request 1) (file_at request 2) answer → answer.status ≤ 1
-whatif_low files first last request answer calm (rows, given, net, proof, file, script) of =
-    let cert : List ℕ = file_at request 1 in
-    let third : List ℕ = file_at request 2 in
-    let read = of_text MAX_NET_BYTES kinds.Network files first last (file_at request 0) given.text (λ text a. OnNetwork (Some files) first last cert third (rows_of text) a) answer calm given.given of in
-    let on_rows = subst (λ (r : Result NetRows NetRefusal). OnNetwork (Some files) first last cert third r answer) given.read read in
-    let on = of_text MAX_CERT_BYTES kinds.Certificate files first last cert file.text (OnCertificate (Some files) first last rows third) answer calm file.given on_rows in
-    certified_low files first last third rows net proof on.0 answer calm script (certificate_of rows file.text file.head net proof on.0 file.head_read file.scaled file.rest_read on.1) on.2
+whatif_low : (files : Holding) (request : Request) (old new : ShelfView) (answer : Answer) → old.holds ≡ Some files → ¬ (Rose old.faults.count new.faults.count)
+    → AcceptsWhatIf files request → OfWhatIf (file_at request 0) (file_at request 1) (file_at request 2) old new answer → Low answer
+whatif_low files request old new answer tells calm (rows, given, net, proof, file, script) of =
+    let first = file_at request 0 in
+    let cert = file_at request 1 in
+    let third = file_at request 2 in
+    then_low answer (of_rows files first rows (λ rows. OfFile MAX_CERT_BYTES kinds.Certificate cert (λ text. OrMemory (OnCertificate rows third text))) old new answer tells calm given of)
+    (λ on. then_low answer (of_text MAX_CERT_BYTES kinds.Certificate files cert file.text (λ text. OrMemory (OnCertificate rows third text)) (with_file old first) new answer tells calm file.given on)
+    (λ last. by first cert third last))
+  where
+    by : (first cert third : List ℕ) → OrMemory (OnCertificate rows (file_at request 2) file.text) (with_file (with_file old (file_at request 0)) (file_at request 1)) new answer → Low answer
+    by first cert third (inl (memory, same)) = inl memory
+    by first cert third (inr on) =
+        certified_low files (file_at request 2) rows net proof on.0 (with_file (with_file old (file_at request 0)) (file_at request 1)) new answer tells calm script
+        (certificate_of rows file.text file.head net proof on.0 file.head_read file.scaled file.rest_read on.1) on.2
 
 -- ---- all commands
 
-pub command_low : (command : Command) (files : Holding) (first last : Faults) (request : Request) (answer : Answer) → ¬ (Rose first.count last.count) → Accepts command files request
-    → OfCommand command (Some files) first last request answer → answer.status ≤ 1
-command_low commands.Solve files first last request answer calm accepts of = solve_low files first last request answer calm accepts of
-command_low commands.Check files first last request answer calm accepts of = check_low files first last request answer calm accepts of
-command_low commands.WhatIf files first last request answer calm accepts of = whatif_low files first last request answer calm accepts of
-command_low commands.Print files first last request answer calm accepts of = print_low files first last request answer calm accepts of
-command_low commands.Gen files first last request answer calm accepts of = status_is answer _ of (omega arith)
-command_low commands.Trial files first last request answer calm accepts of = trial_low request answer accepts of
+pub command_low : (command : Command) (files : Holding) (request : Request) (old new : ShelfView) (answer : Answer) → old.holds ≡ Some files → ¬ (Rose old.faults.count new.faults.count)
+    → Accepts command files request → OfCommand command request old new answer → Low answer
+command_low commands.Solve files request old new answer tells calm accepts of = solve_low files request old new answer tells calm accepts of
+command_low commands.Check files request old new answer tells calm accepts of = check_low files request old new answer tells calm accepts of
+command_low commands.WhatIf files request old new answer tells calm accepts of = whatif_low files request old new answer tells calm accepts of
+command_low commands.Print files request old new answer tells calm accepts of = print_low files request old new answer tells calm accepts of
+command_low commands.Gen files request old new answer tells calm accepts of = ends_low (λ given. given ≡ gen_answer request.numbers) old new answer (λ e. status_is answer (gen_answer request.numbers) e (omega arith)) of
+command_low commands.Trial files request old new answer tells calm accepts of = ends_low (OfTrial request) old new answer (λ e. trial_low request answer accepts e) of

@@ -2,3 +2,4 @@ pub mod Given
 pub mod Forms
 pub mod Answered
 pub mod Asked
+pub mod Starting

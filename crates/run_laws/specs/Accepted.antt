@@ -21,10 +21,10 @@ use Rattle.mcf_words.specs.declared.request.Command.{Command}
 use Rattle.mcf_words.specs.declared.request.Command.TheVariants.{Solve, Check, WhatIf, Print, Gen, Trial}
 use Rattle.mcf_words.specs.declared.request.Request.{Request}
 use Rattle.mcf_words.specs.Request.{request_of}
-use Rattle.mcf_cli.specs.Files.{IsText}
+use Rattle.mcf_base.specs.Reading.{IsText}
 use Rattle.mcf_cli.specs.Run.{file_at}
-use Rattle.mcf_cli.specs.Solve.{asked_of}
-use Rattle.mcf_cli.specs.Drawn.{net_drawn}
+use Rattle.run_solves.specs.Solve.{asked_of}
+use Rattle.run_solves.specs.Drawn.{net_drawn}
 
 -- the file of that name is a network text within its limit, and these are its rows
 pub record IsNetFile (files : Holding) (name : List ℕ) (rows : NetRows) : Type 0 where

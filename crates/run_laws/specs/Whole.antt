@@ -1,29 +1,24 @@
 -- A run that answers in full.
-use Rattle.std.specs.Prelude.{◌≡◌, ◌⊎◌, ℕ, ◌≤◌, List, Option, Some}
-use Rattle.std.specs.Io.KnownBytes.{Appends}
-use Rattle.mcf_base.specs.Faults.{Rose, Faults}
-use Rattle.mcf_base.specs.Shelf.{Holding}
+use Rattle.std.specs.Prelude.{◌≡◌, ◌⊎◌, ℕ, ◌≤◌, List}
+use Rattle.mcf_base.specs.Faults.{Rose}
+use Rattle.mcf_base.specs.Shelf.{ShelfView}
+use Rattle.mcf_base.specs.Sink.{SinkView}
 use Rattle.mcf_words.specs.Request.{request_of}
-use Rattle.mcf_cli.specs.declared.ended.Ended.{Ended}
-use Rattle.mcf_cli.specs.declared.outcome.Outcome.TheVariants.{Memory}
-use Rattle.mcf_cli.specs.Answer.{Answer, answer_of}
+use Rattle.run_base.specs.declared.ended.Ended.{Ended}
+use Rattle.run_base.specs.declared.outcome.Outcome.TheVariants.{Memory}
+use Rattle.run_base.specs.Answer.{Answer, IsGiven, answer_of}
 use Rattle.mcf_cli.specs.Run.{OfRequest}
 
 -- neither the shelf's nor the output's count of faults rose
-pub record HasNoFault (first last : Faults) (before after : ℕ) : Type 0 where
-  pub shelf : ¬ (Rose first.count last.count)
-  pub output : ¬ (Rose before after)
-
--- the whole text of the answer was written, and its status and what was solved given
-pub record IsWritten (old new : Option (List ℕ)) (ended : Ended) (answer : Answer) : Type 0 where
-  pub ends : ended ≡ record { status = answer.status; solved = answer.solved }
-  pub text : Appends old new answer.text
+pub record HasNoFault (old new : ShelfView) (before after : SinkView) : Type 0 where
+  pub shelf : ¬ (Rose old.faults.count new.faults.count)
+  pub output : ¬ (Rose before.faults after.faults)
 
 -- the answer is one that the command's clause gives, and its status is 0 or 1
-pub record IsResult (files : Holding) (first last : Faults) (words : List (List ℕ)) (answer : Answer) : Type 0 where
-  pub of : OfRequest (Some files) first last (request_of words) answer
+pub record IsResult (words : List (List ℕ)) (old new : ShelfView) (answer : Answer) : Type 0 where
+  pub of : OfRequest (request_of words) old new answer
   pub status : answer.status ≤ 1
 
 -- such an answer was written whole; or `memory`, with status 6
-abbrev pub EndsWhole : Holding → Faults → Faults → List (List ℕ) → Option (List ℕ) → Option (List ℕ) → Ended → Type 0
-EndsWhole files first last words old new ended = (answer : Answer) × (IsResult files first last words answer ⊎ (answer ≡ answer_of Memory)) × IsWritten old new ended answer
+abbrev pub EndsWhole : List (List ℕ) → ShelfView → ShelfView → SinkView → SinkView → Ended → Type 0
+EndsWhole words old new before after ended = (answer : Answer) × (IsResult words old new answer ⊎ (answer ≡ answer_of Memory)) × IsGiven before after ended answer

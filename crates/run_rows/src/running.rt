@@ -97,7 +97,12 @@ pub fn answer_through<G: Gate, R: Threads + Sync>(
 {
     let owned = owned_words(alloc, words)?;
     let failing = only(alloc, outside.failing_read)?;
-    let mut shelf = MemShelf::new(owned_files(alloc, files)?, outside.most_read, failing);
+    let mut shelf = MemShelf::new(
+        alloc,
+        owned_files(alloc, files)?,
+        outside.most_read,
+        failing,
+    );
     let failing = only(alloc, outside.failing_write)?;
     let mut sink = MemSink::new(alloc, outside.room, outside.most_written, failing)?;
     let ended = run(rt, alloc, &owned, &mut shelf, &mut sink, gate);

@@ -7,21 +7,18 @@ use Rattle.text_lines.specs.Lines.{Line, spelled, text_of}
 use Rattle.sndlib_grammar.specs.Rows.{NetRows, names_of_nodes}
 use Rattle.sndlib_text.specs.Canonical.{canonical_text, closing_line, first_line, opening_line, section, node_line, link_line, demand_line}
 use Rattle.line_writer.specs.Spelling.{behind}
+use Rattle.mcf_base.specs.Sink.{SinkView}
 use Rattle.line_writer.specs.Writing.{Puts, ended, failed}
 use Rattle.line_writer.proofs.Joining.{joined_is}
-use Rattle.line_writer.proofs.Putting.{puts_then, puts_stop, puts_flushed, written_whole, written_front}
-use Rattle.std.proofs.Common.{Ok, Err}
-use Rattle.std.specs.Prelude.{OnOk, OnErr}
-use Rattle.std.specs.Io.KnownBytes.{Appends}
-use Rattle.mcf_base.specs.Sink.{AppendsFront}
+use Rattle.line_writer.proofs.Putting.{puts_then, puts_stop}
 
-pub first_stops : {E : Type 0} (a b : Option (List ℕ)) (u v : List ℕ) (e : E) (p q r : List ℕ) → Puts a b u v (failed (Unit {0}) E e) p → Puts a b u v (failed (Unit {0}) E e) (p ++ (q ++ r))
+pub first_stops : {E : Type 0} (a b : SinkView) (u v : List ℕ) (e : E) (p q r : List ℕ) → Puts a b u v (failed (Unit {0}) E e) p → Puts a b u v (failed (Unit {0}) E e) (p ++ (q ++ r))
 first_stops {E} a b u v e p q r h = puts_stop a b u v v e p (q ++ r) h
 
-pub second_stops : {E : Type 0} (a b c : Option (List ℕ)) (u v w : List ℕ) (e : E) (p q r : List ℕ) → Puts a b u v (ended (Unit {0}) E tt) p → Puts b c v w (failed (Unit {0}) E e) q → Puts a c u w (failed (Unit {0}) E e) (p ++ (q ++ r))
+pub second_stops : {E : Type 0} (a b c : SinkView) (u v w : List ℕ) (e : E) (p q r : List ℕ) → Puts a b u v (ended (Unit {0}) E tt) p → Puts b c v w (failed (Unit {0}) E e) q → Puts a c u w (failed (Unit {0}) E e) (p ++ (q ++ r))
 second_stops {E} a b c u v w e p q r h k = puts_then a b c u v w tt (failed (Unit {0}) E e) p (q ++ r) h (puts_stop b c v w w e q r k)
 
-pub three_put : {E : Type 0} (a b c d : Option (List ℕ)) (u v w z : List ℕ) (result : Result (Unit {0}) E) (p q r : List ℕ) → Puts a b u v (ended (Unit {0}) E tt) p → Puts b c v w (ended (Unit {0}) E tt) q
+pub three_put : {E : Type 0} (a b c d : SinkView) (u v w z : List ℕ) (result : Result (Unit {0}) E) (p q r : List ℕ) → Puts a b u v (ended (Unit {0}) E tt) p → Puts b c v w (ended (Unit {0}) E tt) q
     → Puts c d w z result r → Puts a d u z result (p ++ (q ++ r))
 three_put {E} a b c d u v w z result p q r h k l = puts_then a b d u v z tt result p (q ++ r) h (puts_then b c d v w z tt result q r k l)
 
@@ -33,14 +30,14 @@ entry_is front middle back =
     sym (ap (λ (l : List ℕ). l ++ 10 ∷ []) (joined_is [] (front ++ (middle ++ back)) ∙ parts)
     ∙ append_assoc (behind front) (behind middle ++ behind back) (10 ∷ []) ∙ ap (λ (l : List ℕ). behind front ++ l) (append_assoc (behind middle) (behind back) (10 ∷ [])))
 
-pub entry_first_stops : {E : Type 0} (a b : Option (List ℕ)) (u v : List ℕ) (e : E) (front middle back : Line) → Puts a b u v (failed (Unit {0}) E e) (behind front) → Puts a b u v (failed (Unit {0}) E e) (spelled ([] ∷ (front ++ (middle ++ back))))
+pub entry_first_stops : {E : Type 0} (a b : SinkView) (u v : List ℕ) (e : E) (front middle back : Line) → Puts a b u v (failed (Unit {0}) E e) (behind front) → Puts a b u v (failed (Unit {0}) E e) (spelled ([] ∷ (front ++ (middle ++ back))))
 entry_first_stops {E} a b u v e front middle back h = subst (λ (l : List ℕ). Puts a b u v (failed (Unit {0}) E e) l) (entry_is front middle back) (first_stops a b u v e (behind front) (behind middle) (behind back ++ 10 ∷ []) h)
 
-pub entry_second_stops : {E : Type 0} (a b c : Option (List ℕ)) (u v w : List ℕ) (e : E) (front middle back : Line) → Puts a b u v (ended (Unit {0}) E tt) (behind front) → Puts b c v w (failed (Unit {0}) E e) (behind middle)
+pub entry_second_stops : {E : Type 0} (a b c : SinkView) (u v w : List ℕ) (e : E) (front middle back : Line) → Puts a b u v (ended (Unit {0}) E tt) (behind front) → Puts b c v w (failed (Unit {0}) E e) (behind middle)
     → Puts a c u w (failed (Unit {0}) E e) (spelled ([] ∷ (front ++ (middle ++ back))))
 entry_second_stops {E} a b c u v w e front middle back h k = subst (λ (l : List ℕ). Puts a c u w (failed (Unit {0}) E e) l) (entry_is front middle back) (second_stops a b c u v w e (behind front) (behind middle) (behind back ++ 10 ∷ []) h k)
 
-pub entry_put : {E : Type 0} (a b c d : Option (List ℕ)) (u v w z : List ℕ) (result : Result (Unit {0}) E) (front middle back : Line) → Puts a b u v (ended (Unit {0}) E tt) (behind front) → Puts b c v w (ended (Unit {0}) E tt) (behind middle)
+pub entry_put : {E : Type 0} (a b c d : SinkView) (u v w z : List ℕ) (result : Result (Unit {0}) E) (front middle back : Line) → Puts a b u v (ended (Unit {0}) E tt) (behind front) → Puts b c v w (ended (Unit {0}) E tt) (behind middle)
     → Puts c d w z result (behind back ++ 10 ∷ []) → Puts a d u z result (spelled ([] ∷ (front ++ (middle ++ back))))
 entry_put {E} a b c d u v w z result front middle back h k l = subst (λ (t : List ℕ). Puts a d u z result t) (entry_is front middle back) (three_put a b c d u v w z result (behind front) (behind middle) (behind back ++ 10 ∷ []) h k l)
 
@@ -52,12 +49,12 @@ one_longer words xs i x lt =
     ∙ sym (flat_map-append spelled (map words (take i xs)) (words (get_or xs i x) ∷ []))
     ∙ ap text_of (sym (map-append words (take i xs) (get_or xs i x ∷ []))) ∙ ap (λ ys. text_of (map words ys)) (sym (take_more xs i x lt))
 
-pub line_more_put : {X E : Type 0} (words : X → Line) (a b c : Option (List ℕ)) (u v w : List ℕ) (xs : List X) (i : ℕ) (x : X) → i < length xs
+pub line_more_put : {X E : Type 0} (words : X → Line) (a b c : SinkView) (u v w : List ℕ) (xs : List X) (i : ℕ) (x : X) → i < length xs
     → Puts a b u v (ended (Unit {0}) E tt) (text_of (map words (take i xs))) → Puts b c v w (ended (Unit {0}) E tt) (spelled (words (get_or xs i x))) → Puts a c u w (ended (Unit {0}) E tt) (text_of (map words (take (i + 1) xs)))
 line_more_put {X} {E} words a b c u v w xs i x lt h k =
     subst (λ (l : List ℕ). Puts a c u w (ended (Unit {0}) E tt) l) (one_longer words xs i x lt) (puts_then a b c u v w tt (ended (Unit {0}) E tt) (text_of (map words (take i xs))) (spelled (words (get_or xs i x))) h k)
 
-pub line_stops : {X E : Type 0} (words : X → Line) (a b c : Option (List ℕ)) (u v w : List ℕ) (e : E) (xs : List X) (i : ℕ) (x : X) → i < length xs
+pub line_stops : {X E : Type 0} (words : X → Line) (a b c : SinkView) (u v w : List ℕ) (e : E) (xs : List X) (i : ℕ) (x : X) → i < length xs
     → Puts a b u v (ended (Unit {0}) E tt) (text_of (map words (take i xs))) → Puts b c v w (failed (Unit {0}) E e) (spelled (words (get_or xs i x))) → Puts a c u w (failed (Unit {0}) E e) (text_of (map words xs))
 line_stops {X} {E} words a b c u v w e xs i x lt h k =
     let both = puts_then a b c u v w tt (failed (Unit {0}) E e) (text_of (map words (take i xs))) (spelled (words (get_or xs i x))) h k in
@@ -116,21 +113,12 @@ text_is rows =
     let filled = ap3 (λ (x y z : List ℕ). spelled first_line ++ (x ++ (y ++ z))) n_is l_is d_is in
     sym (parts ∙ filled ∙ regroup (spelled first_line) (spelled (opening_line (codes "NODES"))) (text_of (map node_line rows.nodes)) (spelled closing_line) (spelled (opening_line (codes "LINKS"))) (text_of (map (link_line (names_of_nodes rows)) rows.links)) (spelled (opening_line (codes "DEMANDS"))) (text_of (map (demand_line (names_of_nodes rows)) rows.demands)))
 
-pub text_first_stops : {E : Type 0} (rows : NetRows) (a b : Option (List ℕ)) (u v : List ℕ) (e : E) → Puts a b u v (failed (Unit {0}) E e) opens_nodes → Puts a b u v (failed (Unit {0}) E e) (canonical_text rows)
+pub text_first_stops : {E : Type 0} (rows : NetRows) (a b : SinkView) (u v : List ℕ) (e : E) → Puts a b u v (failed (Unit {0}) E e) opens_nodes → Puts a b u v (failed (Unit {0}) E e) (canonical_text rows)
 text_first_stops {E} rows a b u v e h = subst (λ (l : List ℕ). Puts a b u v (failed (Unit {0}) E e) l) (text_is rows) (first_stops a b u v e opens_nodes (node_lines rows) (from_links rows) h)
 
-pub text_second_stops : {E : Type 0} (rows : NetRows) (a b c : Option (List ℕ)) (u v w : List ℕ) (e : E) → Puts a b u v (ended (Unit {0}) E tt) opens_nodes → Puts b c v w (failed (Unit {0}) E e) (node_lines rows) → Puts a c u w (failed (Unit {0}) E e) (canonical_text rows)
+pub text_second_stops : {E : Type 0} (rows : NetRows) (a b c : SinkView) (u v w : List ℕ) (e : E) → Puts a b u v (ended (Unit {0}) E tt) opens_nodes → Puts b c v w (failed (Unit {0}) E e) (node_lines rows) → Puts a c u w (failed (Unit {0}) E e) (canonical_text rows)
 text_second_stops {E} rows a b c u v w e h k = subst (λ (l : List ℕ). Puts a c u w (failed (Unit {0}) E e) l) (text_is rows) (second_stops a b c u v w e opens_nodes (node_lines rows) (from_links rows) h k)
 
-pub text_put : {E : Type 0} (rows : NetRows) (a b c d : Option (List ℕ)) (u v w z : List ℕ) (result : Result (Unit {0}) E) → Puts a b u v (ended (Unit {0}) E tt) opens_nodes → Puts b c v w (ended (Unit {0}) E tt) (node_lines rows)
+pub text_put : {E : Type 0} (rows : NetRows) (a b c d : SinkView) (u v w z : List ℕ) (result : Result (Unit {0}) E) → Puts a b u v (ended (Unit {0}) E tt) opens_nodes → Puts b c v w (ended (Unit {0}) E tt) (node_lines rows)
     → Puts c d w z result (from_links rows) → Puts a d u z result (canonical_text rows)
 text_put {E} rows a b c d u v w z result h k l = subst (λ (t : List ℕ). Puts a d u z result t) (text_is rows) (three_put a b c d u v w z result opens_nodes (node_lines rows) (from_links rows) h k l)
-
--- the buffer was flushed behind the whole text
-pub flushed_whole : {E : Type 0} (a b c : Option (List ℕ)) (v w text : List ℕ) (r : Result (Unit {0}) E) → Puts a b [] v (ended (Unit {0}) E tt) text → Puts b c v w r [] → OnOk r (w ≡ []) → OnOk r (Appends a c text)
-flushed_whole {E} a b c v w text (Ok tt) h k empty = written_whole a c text (subst (λ (l : List ℕ). Puts a c [] l (ended (Unit {0}) E tt) text) empty (puts_flushed a b c [] v w text h k))
-flushed_whole {E} a b c v w text (Err e) h k empty = tt
-
-pub flushed_front : {E : Type 0} (a b c : Option (List ℕ)) (v w text : List ℕ) (r : Result (Unit {0}) E) → Puts a b [] v (ended (Unit {0}) E tt) text → Puts b c v w r [] → OnErr r (AppendsFront a c text)
-flushed_front {E} a b c v w text (Ok x) h k = tt
-flushed_front {E} a b c v w text (Err e) h k = written_front a c w text e (rw append-nil at (puts_then a b c [] v w tt (failed (Unit {0}) E e) text [] h k))

@@ -2,7 +2,6 @@
 
 ghost use Rattle.std.specs.Prelude.{◌≡◌, ◌<◌, ◌∷◌, ◌++◌, [], length, map};
 ghost use Rattle.text_lines.specs.Lines.{spelled};
-ghost use Rattle.mcf_base.specs.Faults.{HasCause};
 ghost use Rattle.line_writer.specs.Writing.{Puts};
 ghost use Rattle.line_writer.specs.Spelling.{behind};
 ghost use Rattle.sndlib_grammar.specs.Rows.{node_at, link_at, demand_at, names_of_nodes, AreNetRows};
@@ -18,8 +17,7 @@ fn put_last_words<K: Sink>(
     out: &mut K,
     words: &[&[u8]],
 ) -> Result<(), WriteFault>
-    ensures puts { Puts (K.written out.old) (K.written out.new) buffer.old buffer.new result (behind (map (λ w. w.now) words.now) ++ 10 ∷ []) }
-    ensures cause { HasCause (K.faults out.old) (K.faults out.new) result }
+    ensures { Puts (K.seen out.old) (K.seen out.new) buffer.old buffer.new result (behind (map (λ w. w.now) words.now) ++ 10 ∷ []) }
 {
     match buffer.put_words(out, words) {
         Ok(()) => {}
@@ -36,8 +34,7 @@ fn put_entry<K: Sink>(
     middle: &[&[u8]],
     back: &[&[u8]],
 ) -> Result<(), WriteFault>
-    ensures puts { Puts (K.written out.old) (K.written out.new) buffer.old buffer.new result (spelled ([] ∷ map (λ w. w.now) front.now ++ (map (λ w. w.now) middle.now ++ map (λ w. w.now) back.now))) }
-    ensures cause { HasCause (K.faults out.old) (K.faults out.new) result }
+    ensures { Puts (K.seen out.old) (K.seen out.new) buffer.old buffer.new result (spelled ([] ∷ map (λ w. w.now) front.now ++ (map (λ w. w.now) middle.now ++ map (λ w. w.now) back.now))) }
 {
     match buffer.put_words(out, front) {
         Ok(()) => {}
@@ -58,8 +55,7 @@ pub fn put_node<K: Sink>(
     out: &mut K,
 ) -> Result<(), WriteFault>
     requires { i < length raw.now.nodes }
-    ensures puts { Puts (K.written out.old) (K.written out.new) buffer.old buffer.new result (spelled (node_line (node_at raw.now i))) }
-    ensures cause { HasCause (K.faults out.old) (K.faults out.new) result }
+    ensures { Puts (K.seen out.old) (K.seen out.new) buffer.old buffer.new result (spelled (node_line (node_at raw.now i))) }
 {
     match raw.node_place(i) {
         None => put_entry(buffer, out, &[b"", raw.node_id(i)], &[], &[]),
@@ -76,8 +72,7 @@ pub fn put_link<K: Sink>(
 ) -> Result<(), WriteFault>
     requires link { i < length raw.now.links }
     requires rows { AreNetRows raw.now }
-    ensures puts { Puts (K.written out.old) (K.written out.new) buffer.old buffer.new result (spelled (link_line (names_of_nodes raw.now) (link_at raw.now i))) }
-    ensures cause { HasCause (K.faults out.old) (K.faults out.new) result }
+    ensures { Puts (K.seen out.old) (K.seen out.new) buffer.old buffer.new result (spelled (link_line (names_of_nodes raw.now) (link_at raw.now i))) }
 {
     let row = raw.link(i);
     let source = raw.node_id(row.source);
@@ -108,8 +103,7 @@ pub fn put_demand<K: Sink>(
 ) -> Result<(), WriteFault>
     requires demand { i < length raw.now.demands }
     requires rows { AreNetRows raw.now }
-    ensures puts { Puts (K.written out.old) (K.written out.new) buffer.old buffer.new result (spelled (demand_line (names_of_nodes raw.now) (demand_at raw.now i))) }
-    ensures cause { HasCause (K.faults out.old) (K.faults out.new) result }
+    ensures { Puts (K.seen out.old) (K.seen out.new) buffer.old buffer.new result (spelled (demand_line (names_of_nodes raw.now) (demand_at raw.now i))) }
 {
     let row = raw.demand(i);
     let source = raw.node_id(row.source);

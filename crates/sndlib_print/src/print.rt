@@ -1,10 +1,8 @@
 //! The canonical text, written.
 
 ghost use Rattle.std.specs.Prelude.{◌≡◌, ◌++◌, [], length, map, OnOk, OnErr};
-ghost use Rattle.std.specs.Io.KnownBytes.{Appends};
 ghost use Rattle.text_lines.specs.Lines.{text_of};
-ghost use Rattle.mcf_base.specs.Faults.{HasCause};
-ghost use Rattle.mcf_base.specs.Sink.{AppendsFront};
+ghost use Rattle.mcf_base.specs.Sink.{Wrote};
 ghost use Rattle.line_writer.specs.Writing.{Puts};
 ghost use Rattle.sndlib_grammar.specs.Rows.{names_of_nodes};
 ghost use Rattle.sndlib_text.specs.Canonical.{node_line, link_line, demand_line, canonical_text};
@@ -25,8 +23,7 @@ const DEMANDS: &[u8] = b")\nDEMANDS (\n";
 const END: &[u8] = b")\n";
 
 fn put_nodes<K: Sink>(raw: &RawNet<'_>, buffer: &mut Buffer, out: &mut K) -> Result<(), WriteFault>
-    ensures puts { Puts (K.written out.old) (K.written out.new) buffer.old buffer.new result (text_of (map node_line raw.now.nodes)) }
-    ensures cause { HasCause (K.faults out.old) (K.faults out.new) result }
+    ensures { Puts (K.seen out.old) (K.seen out.new) buffer.old buffer.new result (text_of (map node_line raw.now.nodes)) }
 {
     for i in 0..raw.nodes() {
         match put_node(raw, i, buffer, out) {
@@ -38,8 +35,7 @@ fn put_nodes<K: Sink>(raw: &RawNet<'_>, buffer: &mut Buffer, out: &mut K) -> Res
 }
 
 fn put_links<K: Sink>(raw: &RawNet<'_>, buffer: &mut Buffer, out: &mut K) -> Result<(), WriteFault>
-    ensures puts { Puts (K.written out.old) (K.written out.new) buffer.old buffer.new result (text_of (map (link_line (names_of_nodes raw.now)) raw.now.links)) }
-    ensures cause { HasCause (K.faults out.old) (K.faults out.new) result }
+    ensures { Puts (K.seen out.old) (K.seen out.new) buffer.old buffer.new result (text_of (map (link_line (names_of_nodes raw.now)) raw.now.links)) }
 {
     for i in 0..raw.links() {
         match put_link(raw, i, buffer, out) {
@@ -55,8 +51,7 @@ fn put_demands<K: Sink>(
     buffer: &mut Buffer,
     out: &mut K,
 ) -> Result<(), WriteFault>
-    ensures puts { Puts (K.written out.old) (K.written out.new) buffer.old buffer.new result (text_of (map (demand_line (names_of_nodes raw.now)) raw.now.demands)) }
-    ensures cause { HasCause (K.faults out.old) (K.faults out.new) result }
+    ensures { Puts (K.seen out.old) (K.seen out.new) buffer.old buffer.new result (text_of (map (demand_line (names_of_nodes raw.now)) raw.now.demands)) }
 {
     for i in 0..raw.demands() {
         match put_demand(raw, i, buffer, out) {
@@ -73,8 +68,7 @@ fn put_from_demands<K: Sink>(
     buffer: &mut Buffer,
     out: &mut K,
 ) -> Result<(), WriteFault>
-    ensures puts { Puts (K.written out.old) (K.written out.new) buffer.old buffer.new result (DEMANDS.now ++ (text_of (map (demand_line (names_of_nodes raw.now)) raw.now.demands) ++ END.now)) }
-    ensures cause { HasCause (K.faults out.old) (K.faults out.new) result }
+    ensures { Puts (K.seen out.old) (K.seen out.new) buffer.old buffer.new result (DEMANDS.now ++ (text_of (map (demand_line (names_of_nodes raw.now)) raw.now.demands) ++ END.now)) }
 {
     match buffer.put(out, DEMANDS) {
         Ok(()) => {}
@@ -93,8 +87,7 @@ fn put_from_links<K: Sink>(
     buffer: &mut Buffer,
     out: &mut K,
 ) -> Result<(), WriteFault>
-    ensures puts { Puts (K.written out.old) (K.written out.new) buffer.old buffer.new result (LINKS.now ++ (text_of (map (link_line (names_of_nodes raw.now)) raw.now.links) ++ (DEMANDS.now ++ (text_of (map (demand_line (names_of_nodes raw.now)) raw.now.demands) ++ END.now)))) }
-    ensures cause { HasCause (K.faults out.old) (K.faults out.new) result }
+    ensures { Puts (K.seen out.old) (K.seen out.new) buffer.old buffer.new result (LINKS.now ++ (text_of (map (link_line (names_of_nodes raw.now)) raw.now.links) ++ (DEMANDS.now ++ (text_of (map (demand_line (names_of_nodes raw.now)) raw.now.demands) ++ END.now)))) }
 {
     match buffer.put(out, LINKS) {
         Ok(()) => {}
@@ -109,8 +102,7 @@ fn put_from_links<K: Sink>(
 
 // The whole text.
 fn put_all<K: Sink>(raw: &RawNet<'_>, buffer: &mut Buffer, out: &mut K) -> Result<(), WriteFault>
-    ensures puts { Puts (K.written out.old) (K.written out.new) buffer.old buffer.new result (canonical_text raw.now) }
-    ensures cause { HasCause (K.faults out.old) (K.faults out.new) result }
+    ensures { Puts (K.seen out.old) (K.seen out.new) buffer.old buffer.new result (canonical_text raw.now) }
 {
     match buffer.put(out, NODES) {
         Ok(()) => {}
@@ -125,9 +117,7 @@ fn put_all<K: Sink>(raw: &RawNet<'_>, buffer: &mut Buffer, out: &mut K) -> Resul
 
 /// Writes the canonical text of the rows, and takes no memory. After a fault a prefix of it was written.
 pub fn print_net<K: Sink>(raw: &RawNet<'_>, out: &mut K) -> Result<(), WriteFault>
-    ensures ok { OnOk result (Appends (K.written out.old) (K.written out.new) (canonical_text raw.now)) }
-    ensures err { OnErr result (AppendsFront (K.written out.old) (K.written out.new) (canonical_text raw.now)) }
-    ensures cause { HasCause (K.faults out.old) (K.faults out.new) result }
+    ensures { Wrote (K.seen out.old) (K.seen out.new) result (canonical_text raw.now) }
 {
     let mut buffer = Buffer::new();
     match put_all(raw, &mut buffer, out) {

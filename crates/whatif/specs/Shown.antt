@@ -1,6 +1,8 @@
 -- The lines that a script writes.
-use Rattle.std.specs.Prelude.{◌≡◌, ℕ, ◌+◌, ◌/◌, ◌%◌, ◌≤◌, ◌⊎◌, List, [], ◌∷◌, Some, length, take, slice_get, codes}
-use Rattle.text_lines.specs.Lines.{Line, text_of}
+use Rattle.std.specs.Prelude.{◌≡◌, ℕ, ◌/◌, ◌%◌, List, [], ◌∷◌, Option, Some, take, slice_get, codes}
+use Rattle.std.specs.Io.KnownBytes.{Appends}
+use Rattle.mcf_base.specs.Sink.{AppendsFront}
+use Rattle.text_lines.specs.Lines.{Line, spelled, text_of}
 use Rattle.line_writer.specs.Spelling.{fraction_word, decimal_word}
 use Rattle.gap_fraction.specs.Decimals.{millionths_down, millionths_up}
 use Rattle.flow_paths.specs.Evaluation.{Evaluation}
@@ -27,11 +29,12 @@ shown_lines p (Edit cell cap ∷ steps) = shown_lines (after_step p (Edit cell c
 abbrev pub shown_text : Planned → List Step → List ℕ
 shown_text p steps = text_of (shown_lines p steps)
 
--- The plan where the steps stopped: after so many of them, behind which none or a `show` is next. What was written stands
--- in the relation to the text of these steps, with that `show`.
-pub record IsStopped (old : Planned) (steps : List Step) (new : Planned) (Wrote : List ℕ → Type 0) : Type 0 where
+-- The plan where the steps stopped at a `show`: after the steps before it, exactly. The lines of the earlier ones were written whole, and
+-- behind them a front of its own line.
+pub record IsStopped (old : Planned) (steps : List Step) (new : Planned) (before after : Option (List ℕ)) : Type 0 where
   pub count : ℕ
-  pub within : count ≤ length steps
-  pub next : (count ≡ length steps) ⊎ (slice_get steps count ≡ Some Show)
+  pub shows : slice_get steps count ≡ Some Show
   pub same : new ≡ after_steps old (take count steps)
-  pub wrote : Wrote (shown_text old (take (count + 1) steps))
+  pub between : Option (List ℕ)
+  pub whole : Appends before between (shown_text old (take count steps))
+  pub front : AppendsFront between after (spelled (show_line (shown_of new)))

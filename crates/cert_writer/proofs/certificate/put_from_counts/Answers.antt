@@ -4,8 +4,8 @@ use Rattle.cert_writer.specs.Text.{opening_lines, figure_lines, path_lines, leng
 use Rattle.cert_writer.proofs.TextPuts.{part_then, part_stops}
 use Rattle.cert_writer.proofs.certificate.put_from_counts.Goals as goal
 
-pub returns-in-Err-clause-puts : goal.returns-in-Err-clause-puts
-returns-in-Err-clause-puts g c = part_stops _ _ _ _ c.in-Err.fault (counts_words c.args.names.now ∷ []) (from_figures c.args.names.now c.args.proof.now) c.in-Err.ensures.puts
+pub returns-in-Err : goal.returns-in-Err
+returns-in-Err g c = part_stops _ _ _ _ c.in-Err.fault (counts_words c.args.names.now ∷ []) (from_figures c.args.names.now c.args.proof.now) c.in-Err.ensures
 
-pub returns-clause-puts : goal.returns-clause-puts
-returns-clause-puts g c = part_then _ _ _ _ _ _ c.put_from_figures.result (counts_words c.args.names.now ∷ []) (from_figures c.args.names.now c.args.proof.now) c.in-Ok.ensures.puts c.put_from_figures.ensures.puts
+pub returns : goal.returns
+returns g c = part_then _ _ _ _ _ _ c.put_from_figures.result (counts_words c.args.names.now ∷ []) (from_figures c.args.names.now c.args.proof.now) c.in-Ok.ensures c.put_from_figures.ensures

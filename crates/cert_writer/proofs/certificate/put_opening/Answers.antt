@@ -4,8 +4,8 @@ use Rattle.cert_lines.specs.Spelling.{verdict_words, links_words, modules_words}
 use Rattle.cert_writer.proofs.TextPuts.{part_then, part_stops}
 use Rattle.cert_writer.proofs.certificate.put_opening.Goals as goal
 
-pub returns-in-Err-clause-puts : goal.returns-in-Err-clause-puts
-returns-in-Err-clause-puts g c = part_stops _ _ _ _ c.in-Err.fault ((codes "mcf-certificate" ∷ codes "1" ∷ []) ∷ []) (verdict_words c.args.proof.now.closed ∷ links_words c.args.names.now ∷ modules_words c.args.names.now ∷ []) c.in-Err.ensures.puts
+pub returns-in-Err : goal.returns-in-Err
+returns-in-Err g c = part_stops _ _ _ _ c.in-Err.fault ((codes "mcf-certificate" ∷ codes "1" ∷ []) ∷ []) (verdict_words c.args.proof.now.closed ∷ links_words c.args.names.now ∷ modules_words c.args.names.now ∷ []) c.in-Err.ensures
 
-pub returns-clause-puts : goal.returns-clause-puts
-returns-clause-puts g c = part_then _ _ _ _ _ _ c.put_modes.result ((codes "mcf-certificate" ∷ codes "1" ∷ []) ∷ []) (verdict_words c.args.proof.now.closed ∷ links_words c.args.names.now ∷ modules_words c.args.names.now ∷ []) c.in-Ok.ensures.puts (rw (c.verdict_word-verdict.ensures, c.link_mode.ensures, c.module_mode.ensures) at c.put_modes.ensures.puts)
+pub returns : goal.returns
+returns g c = part_then _ _ _ _ _ _ c.put_modes.result ((codes "mcf-certificate" ∷ codes "1" ∷ []) ∷ []) (verdict_words c.args.proof.now.closed ∷ links_words c.args.names.now ∷ modules_words c.args.names.now ∷ []) c.in-Ok.ensures (rw (c.verdict_word-verdict.ensures, c.link_mode.ensures, c.module_mode.ensures) at c.put_modes.ensures)

@@ -1,12 +1,8 @@
-use Rattle.cert_writer.specs.Text.{certificate_text}
-use Rattle.cert_writer.proofs.TextPuts.{whole_flushed, whole_failed}
+use Rattle.line_writer.proofs.Putting.{written_front, written_out}
 use Rattle.cert_writer.proofs.certificate.put_whole.Goals as goal
 
-pub returns-in-Err-clause-err : goal.returns-in-Err-clause-err
-returns-in-Err-clause-err g c = whole_failed _ _ _ _ c.in-Err.fault (certificate_text c.args.names.now c.args.proof.now) c.requires.none c.in-Err.ensures.puts
+pub returns-in-Err : goal.returns-in-Err
+returns-in-Err g c = written_front _ _ _ _ c.in-Err.fault (rw c.requires.none at c.in-Err.ensures)
 
-pub returns-clause-ok : goal.returns-clause-ok
-returns-clause-ok g c = (whole_flushed _ _ _ _ _ _ c.flush.result (certificate_text c.args.names.now c.args.proof.now) c.requires.none c.in-Ok.ensures.puts c.flush.ensures.puts c.flush.ensures.empty).0
-
-pub returns-clause-err : goal.returns-clause-err
-returns-clause-err g c = (whole_flushed _ _ _ _ _ _ c.flush.result (certificate_text c.args.names.now c.args.proof.now) c.requires.none c.in-Ok.ensures.puts c.flush.ensures.puts c.flush.ensures.empty).1
+pub returns : goal.returns
+returns g c = written_out _ _ _ _ _ _ c.flush.result (rw c.requires.none at c.in-Ok.ensures) c.flush.ensures.puts c.flush.ensures.empty

@@ -11,11 +11,8 @@ use Rattle.cert_lines.specs.Spelling.{path_words, length_words, potential_words}
 use Rattle.cert_writer.proofs.LinePuts.{one_line_on, line_stops, row_front_stops, row_more_stops, row_put}
 use Rattle.cert_writer.proofs.writing.put_cells.Goals as goal
 
-pub returns-in-Err-clause-puts : goal.returns-in-Err-clause-puts
-returns-in-Err-clause-puts g c = word_stops (cell_word c.args.names.now) _ _ _ _ _ _ c.in-Err.fault c.args.cells.now c.loop-cell.cell-index 0 c.loop-cell-test.true c.loop-cell.invariant.puts (rw c.cell_word.ensures at c.in-Err.ensures.puts)
+pub returns-in-Err : goal.returns-in-Err
+returns-in-Err g c = word_stops (cell_word c.args.names.now) _ _ _ _ _ _ c.in-Err.fault c.args.cells.now c.loop-cell.cell-index 0 c.loop-cell-test.true c.loop-cell.invariant (rw c.cell_word.ensures at c.in-Err.ensures)
 
 pub loop-cell-preserved : goal.loop-cell-preserved
-loop-cell-preserved g c = record {
-  puts = one_word_on (cell_word c.args.names.now) _ _ _ _ _ _ c.args.cells.now c.loop-cell.cell-index 0 c.loop-cell-test.true c.loop-cell.invariant.puts (rw c.cell_word.ensures at c.in-Ok.ensures.puts);
-  faults = omega (arith, c.in-Ok.ensures.cause.later, c.loop-cell.invariant.faults);
-}
+loop-cell-preserved g c = one_word_on (cell_word c.args.names.now) _ _ _ _ _ _ c.args.cells.now c.loop-cell.cell-index 0 c.loop-cell-test.true c.loop-cell.invariant (rw c.cell_word.ensures at c.in-Ok.ensures)

@@ -11,8 +11,8 @@ use Rattle.cert_lines.specs.Spelling.{path_words, length_words, potential_words}
 use Rattle.cert_writer.proofs.LinePuts.{one_line_on, line_stops, row_front_stops, row_more_stops, row_put}
 use Rattle.cert_writer.proofs.writing.put_front.Goals as goal
 
-pub returns-in-Err-clause-puts : goal.returns-in-Err-clause-puts
-returns-in-Err-clause-puts g c = puts_stop _ _ _ _ _ c.in-Err.fault c.args.first.now (behind (map (λ (x : Bor (List ℕ)). x.now) c.args.words.now)) c.in-Err.ensures.puts
+pub returns-in-Err : goal.returns-in-Err
+returns-in-Err g c = puts_stop _ _ _ _ _ c.in-Err.fault c.args.first.now (behind (map (λ (x : Bor (List ℕ)). x.now) c.args.words.now)) c.in-Err.ensures
 
-pub returns-clause-puts : goal.returns-clause-puts
-returns-clause-puts g c = puts_then _ _ _ _ _ _ tt c.put_words.result c.args.first.now (behind (map (λ (x : Bor (List ℕ)). x.now) c.args.words.now)) c.in-Ok.ensures.puts c.put_words.ensures.puts
+pub returns : goal.returns
+returns g c = puts_then _ _ _ _ _ _ tt c.put_words.result c.args.first.now (behind (map (λ (x : Bor (List ℕ)). x.now) c.args.words.now)) c.in-Ok.ensures c.put_words.ensures

@@ -11,11 +11,8 @@ use Rattle.cert_lines.specs.Spelling.{path_words, length_words, potential_words}
 use Rattle.cert_writer.proofs.LinePuts.{one_line_on, line_stops, row_front_stops, row_more_stops, row_put}
 use Rattle.cert_writer.proofs.writing.put_lines.Goals as goal
 
-pub returns-in-Err-clause-puts : goal.returns-in-Err-clause-puts
-returns-in-Err-clause-puts g c = line_stops (λ (l : Bor (List (Bor (List ℕ)))). map (λ (x : Bor (List ℕ)). x.now) l.now) _ _ _ _ _ _ c.in-Err.fault c.args.lines.now c.loop-line.line-index _ c.loop-line-test.true c.loop-line.invariant.puts c.in-Err.ensures.puts
+pub returns-in-Err : goal.returns-in-Err
+returns-in-Err g c = line_stops (λ (l : Bor (List (Bor (List ℕ)))). map (λ (x : Bor (List ℕ)). x.now) l.now) _ _ _ _ _ _ c.in-Err.fault c.args.lines.now c.loop-line.line-index _ c.loop-line-test.true c.loop-line.invariant c.in-Err.ensures
 
 pub loop-line-preserved : goal.loop-line-preserved
-loop-line-preserved g c = record {
-  puts = one_line_on (λ (l : Bor (List (Bor (List ℕ)))). map (λ (x : Bor (List ℕ)). x.now) l.now) _ _ _ _ _ _ c.args.lines.now c.loop-line.line-index _ c.loop-line-test.true c.loop-line.invariant.puts c.in-Ok.ensures.puts;
-  faults = omega (arith, c.in-Ok.ensures.cause.later, c.loop-line.invariant.faults);
-}
+loop-line-preserved g c = one_line_on (λ (l : Bor (List (Bor (List ℕ)))). map (λ (x : Bor (List ℕ)). x.now) l.now) _ _ _ _ _ _ c.args.lines.now c.loop-line.line-index _ c.loop-line-test.true c.loop-line.invariant c.in-Ok.ensures

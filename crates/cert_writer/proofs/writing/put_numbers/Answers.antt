@@ -11,11 +11,8 @@ use Rattle.cert_lines.specs.Spelling.{path_words, length_words, potential_words}
 use Rattle.cert_writer.proofs.LinePuts.{one_line_on, line_stops, row_front_stops, row_more_stops, row_put}
 use Rattle.cert_writer.proofs.writing.put_numbers.Goals as goal
 
-pub returns-in-Err-clause-puts : goal.returns-in-Err-clause-puts
-returns-in-Err-clause-puts g c = word_stops decimal _ _ _ _ _ _ c.in-Err.fault c.args.numbers.now c.loop-number.number-index 0 c.loop-number-test.true c.loop-number.invariant.puts (rw (c.bytes.ensures, c.number.ensures) at c.in-Err.ensures.puts)
+pub returns-in-Err : goal.returns-in-Err
+returns-in-Err g c = word_stops decimal _ _ _ _ _ _ c.in-Err.fault c.args.numbers.now c.loop-number.number-index 0 c.loop-number-test.true c.loop-number.invariant (rw (c.bytes.ensures, c.number.ensures) at c.in-Err.ensures)
 
 pub loop-number-preserved : goal.loop-number-preserved
-loop-number-preserved g c = record {
-  puts = one_word_on decimal _ _ _ _ _ _ c.args.numbers.now c.loop-number.number-index 0 c.loop-number-test.true c.loop-number.invariant.puts (rw (c.bytes.ensures, c.number.ensures) at c.in-Ok.ensures.puts);
-  faults = omega (arith, c.in-Ok.ensures.cause.later, c.loop-number.invariant.faults);
-}
+loop-number-preserved g c = one_word_on decimal _ _ _ _ _ _ c.args.numbers.now c.loop-number.number-index 0 c.loop-number-test.true c.loop-number.invariant (rw (c.bytes.ensures, c.number.ensures) at c.in-Ok.ensures)

@@ -1,4 +1,4 @@
-use Rattle.std.proofs.Common.{◌≤◌, take}
+use Rattle.std.proofs.Common.{take}
 use Rattle.std.specs.Prelude.{map}
 use Rattle.std.specs.Fmt.{decimal}
 use Rattle.text_lines.specs.Lines.{text_of}
@@ -12,7 +12,4 @@ use Rattle.cert_writer.proofs.writing.put_numbers.Given as goal
 abbrev pub invariant-loop-number : goal.invariant-loop-number
 invariant-loop-number g l =
     let sink = g.K.Sink in
-    record {
-      puts : Puts (sink.written l.fn.out) (sink.written l.out) l.fn.buffer l.buffer (ended (Unit {0}) WriteFault tt) (behind (map decimal (take l.number-index l.numbers)));
-      faults : sink.faults l.fn.out ≤ sink.faults l.out;
-    }
+    Puts (sink.seen l.fn.out) (sink.seen l.out) l.fn.buffer l.buffer (ended (Unit {0}) WriteFault tt) (behind (map decimal (take l.number-index l.numbers)))

@@ -1,4 +1,4 @@
-use Rattle.std.proofs.Common.{◌≤◌, take}
+use Rattle.std.proofs.Common.{take}
 use Rattle.std.specs.Prelude.{map}
 use Rattle.std.specs.Fmt.{decimal}
 use Rattle.text_lines.specs.Lines.{text_of}
@@ -12,7 +12,4 @@ use Rattle.cert_writer.proofs.writing.put_potentials.Given as goal
 abbrev pub invariant-loop-row : goal.invariant-loop-row
 invariant-loop-row g l =
     let sink = g.K.Sink in
-    record {
-      puts : Puts (sink.written l.fn.out) (sink.written l.out) l.fn.buffer l.buffer (ended (Unit {0}) WriteFault tt) (text_of (map (potential_words l.names) (take l.row l.dual.potentials)));
-      faults : sink.faults l.fn.out ≤ sink.faults l.out;
-    }
+    Puts (sink.seen l.fn.out) (sink.seen l.out) l.fn.buffer l.buffer (ended (Unit {0}) WriteFault tt) (text_of (map (potential_words l.names) (take l.row l.dual.potentials)))

@@ -1,12 +1,8 @@
-use Rattle.line_writer.proofs.Putting.{written_front}
-use Rattle.sndlib_print.proofs.Steps.{flushed_whole, flushed_front}
+use Rattle.line_writer.proofs.Putting.{written_front, written_out}
 use Rattle.sndlib_print.proofs.print.print_net.Goals as goal
 
-pub returns-in-Err-clause-err : goal.returns-in-Err-clause-err
-returns-in-Err-clause-err g c = written_front _ _ _ _ c.in-Err.fault (rw c.new-buffer.ensures at c.in-Err.ensures.puts)
+pub returns-in-Err : goal.returns-in-Err
+returns-in-Err g c = written_front _ _ _ _ c.in-Err.fault (rw c.new-buffer.ensures at c.in-Err.ensures)
 
-pub returns-clause-ok : goal.returns-clause-ok
-returns-clause-ok g c = flushed_whole _ _ _ _ _ _ c.flush.result (rw c.new-buffer.ensures at c.in-Ok.ensures.puts) c.flush.ensures.puts c.flush.ensures.empty
-
-pub returns-clause-err : goal.returns-clause-err
-returns-clause-err g c = flushed_front _ _ _ _ _ _ c.flush.result (rw c.new-buffer.ensures at c.in-Ok.ensures.puts) c.flush.ensures.puts
+pub returns : goal.returns
+returns g c = written_out _ _ _ _ _ _ c.flush.result (rw c.new-buffer.ensures at c.in-Ok.ensures) c.flush.ensures.puts c.flush.ensures.empty

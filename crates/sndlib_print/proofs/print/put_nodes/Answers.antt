@@ -4,15 +4,12 @@ use Rattle.sndlib_text.specs.Canonical.{node_line}
 use Rattle.sndlib_print.proofs.Steps.{line_more_put, line_stops}
 use Rattle.sndlib_print.proofs.print.put_nodes.Goals as goal
 
-pub returns-in-Err-clause-puts : goal.returns-in-Err-clause-puts
-returns-in-Err-clause-puts g c =
+pub returns-in-Err : goal.returns-in-Err
+returns-in-Err g c =
     let inside : c.loop-i.i < length c.args.raw.now.nodes = omega arith in
-    line_stops node_line _ _ _ _ _ _ c.in-Err.fault c.args.raw.now.nodes c.loop-i.i no_node inside c.loop-i.invariant.puts c.in-Err.ensures.puts
+    line_stops node_line _ _ _ _ _ _ c.in-Err.fault c.args.raw.now.nodes c.loop-i.i no_node inside c.loop-i.invariant c.in-Err.ensures
 
 pub loop-i-preserved : goal.loop-i-preserved
 loop-i-preserved g c =
     let inside : c.loop-i.i < length c.args.raw.now.nodes = omega arith in
-    record {
-      puts = line_more_put node_line _ _ _ _ _ _ c.args.raw.now.nodes c.loop-i.i no_node inside c.loop-i.invariant.puts c.in-Ok.ensures.puts;
-      faults = omega (arith, c.in-Ok.ensures.cause.later, c.loop-i.invariant.faults);
-    }
+    line_more_put node_line _ _ _ _ _ _ c.args.raw.now.nodes c.loop-i.i no_node inside c.loop-i.invariant c.in-Ok.ensures

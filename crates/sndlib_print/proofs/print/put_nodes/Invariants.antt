@@ -1,4 +1,4 @@
-use Rattle.std.proofs.Common.{◌≤◌, take, map}
+use Rattle.std.proofs.Common.{take, map}
 use Rattle.mcf_base.specs.declared.writing.WriteFault.{WriteFault}
 use Rattle.text_lines.specs.Lines.{text_of}
 use Rattle.line_writer.specs.Writing.{Puts, ended}
@@ -8,7 +8,4 @@ use Rattle.sndlib_print.proofs.print.put_nodes.Given as goal
 abbrev pub invariant-loop-i : goal.invariant-loop-i
 invariant-loop-i g l =
     let sink = g.K.Sink in
-    record {
-      puts : Puts (sink.written l.fn.out) (sink.written l.out) l.fn.buffer l.buffer (ended (Unit {0}) WriteFault tt) (text_of (map node_line (take l.i l.raw.nodes)));
-      faults : sink.faults l.fn.out ≤ sink.faults l.out;
-    }
+    Puts (sink.seen l.fn.out) (sink.seen l.out) l.fn.buffer l.buffer (ended (Unit {0}) WriteFault tt) (text_of (map node_line (take l.i l.raw.nodes)))

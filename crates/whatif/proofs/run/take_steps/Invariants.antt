@@ -1,6 +1,7 @@
-use Rattle.std.proofs.Common.{◌≡◌, ◌≤◌, take}
+use Rattle.std.proofs.Common.{◌≡◌, take}
 use Rattle.mcf_base.specs.declared.writing.WriteFault.{WriteFault}
-use Rattle.line_writer.specs.Writing.{Puts, ended}
+use Rattle.mcf_base.specs.Sink.{Wrote}
+use Rattle.line_writer.specs.Writing.{ended}
 use Rattle.whatif.specs.Planned.{after_steps}
 use Rattle.whatif.specs.Shown.{shown_text}
 use Rattle.whatif.proofs.run.take_steps.Given as goal
@@ -9,7 +10,6 @@ abbrev pub invariant-loop-step : goal.invariant-loop-step
 invariant-loop-step g l =
     let sink = g.K.Sink in
     record {
-      puts : Puts (sink.written l.fn.out) (sink.written l.out) l.fn.buffer l.buffer (ended (Unit {0}) WriteFault tt) (shown_text l.fn.plan (take l.step-index l.steps));
+      wrote : Wrote (sink.seen l.fn.out) (sink.seen l.out) (ended (Unit {0}) WriteFault tt) (shown_text l.fn.plan (take l.step-index l.steps));
       plan_is : l.plan ≡ after_steps l.fn.plan (take l.step-index l.steps);
-      faults : sink.faults l.fn.out ≤ sink.faults l.out;
     }

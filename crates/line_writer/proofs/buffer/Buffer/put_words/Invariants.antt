@@ -1,4 +1,4 @@
-use Rattle.std.proofs.Common.{◌≤◌, take}
+use Rattle.std.proofs.Common.{take}
 use Rattle.std.specs.Prelude.{map}
 use Rattle.mcf_base.specs.declared.writing.WriteFault.{WriteFault}
 use Rattle.line_writer.specs.Writing.{Puts, ended}
@@ -6,9 +6,4 @@ use Rattle.line_writer.specs.Spelling.{behind}
 use Rattle.line_writer.proofs.buffer.Buffer.put_words.Given as goal
 
 abbrev pub invariant-loop-word : goal.invariant-loop-word
-invariant-loop-word g l =
-    let sink = g.K.Sink in
-    record {
-      puts : Puts (sink.written l.fn.out) (sink.written l.out) l.fn.self l.self (ended (Unit {0}) WriteFault tt) (behind (map (λ w. w.now) (take l.word-index l.words)));
-      faults : sink.faults l.fn.out ≤ sink.faults l.out;
-    }
+invariant-loop-word g l = Puts (g.K.Sink.seen l.fn.out) (g.K.Sink.seen l.out) l.fn.self l.self (ended (Unit {0}) WriteFault tt) (behind (map (λ w. w.now) (take l.word-index l.words)))

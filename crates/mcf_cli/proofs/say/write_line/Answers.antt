@@ -1,9 +1,0 @@
-use Rattle.line_writer.proofs.Putting.{written_front}
-use Rattle.sndlib_print.proofs.Steps.{flushed_front}
-use Rattle.mcf_cli.proofs.say.write_line.Goals as goal
-
-pub returns-in-Err-clause-err : goal.returns-in-Err-clause-err
-returns-in-Err-clause-err g c = written_front _ _ _ _ c.in-Err.fault (rw c.new-buffer.ensures at c.in-Err.ensures.puts)
-
-pub returns-clause-err : goal.returns-clause-err
-returns-clause-err g c = flushed_front _ _ _ _ _ _ c.flush.result (rw c.new-buffer.ensures at c.in-Ok.ensures.puts) c.flush.ensures.puts

@@ -1,4 +1,0 @@
-use Rattle.mcf_cli.proofs.tell.tell_work.Goals as goal
-
-pub returns : goal.returns
-returns g c = rw (c.bytes.ensures, c.number-number.ensures) at c.say.ensures

@@ -1,0 +1,87 @@
+-- What a run answers: a status, a text on standard output, and what it hands out.
+use Rattle.std.specs.Prelude.{◌≡◌, ◌⊎◌, ℕ, ◌≤◌, List, [], ◌∷◌, codes}
+use Rattle.std.specs.Io.KnownBytes.{Appends}
+use Rattle.std.specs.Fmt.{decimal}
+use Rattle.text_lines.specs.Lines.{Line, spelled}
+use Rattle.mcf_base.specs.Faults.{Rose}
+use Rattle.mcf_base.specs.Sink.{AppendsFront, SinkView}
+use Rattle.run_base.specs.declared.ended.Ended.{Ended}
+use Rattle.run_base.specs.declared.ended.Found.{Found}
+use Rattle.run_base.specs.Found.{nothing}
+use Rattle.run_base.specs.declared.outcome.Paper.{Paper}
+use Rattle.run_base.specs.declared.outcome.Paper.TheVariants as papers
+use Rattle.run_base.specs.declared.outcome.Outcome.{Outcome}
+use Rattle.run_base.specs.declared.outcome.Outcome.TheVariants as outcomes
+use Rattle.run_base.specs.Judged.{net_refused, script_refused, judged_words, judged_status}
+
+pub record Answer : Type 0 where
+  pub status : ℕ
+  pub text : List ℕ
+  pub found : Found
+
+-- how a kind of file is named in a line
+abbrev pub paper_word : Paper → List ℕ
+paper_word papers.Network = codes "net"
+paper_word papers.Certificate = codes "cert"
+paper_word papers.Script = codes "script"
+
+-- the line of work over its limit
+abbrev pub work_refused : ℕ → Line
+work_refused work = codes "refused" ∷ codes "work" ∷ decimal work ∷ []
+
+-- the words of the line that tells the outcome
+abbrev pub words_of : Outcome → Line
+words_of outcomes.Usage = codes "usage" ∷ []
+words_of outcomes.ReadFault = codes "read" ∷ codes "fault" ∷ []
+words_of outcomes.Memory = codes "memory" ∷ []
+words_of (outcomes.TooLong paper) = codes "refused" ∷ paper_word paper ∷ codes "TooLong" ∷ []
+words_of (outcomes.NetRefused r) = net_refused r
+words_of (outcomes.TooMuch work) = work_refused work
+words_of (outcomes.ScriptRefused r) = script_refused r
+words_of (outcomes.Judged judged) = judged_words judged
+
+abbrev pub status_of : Outcome → ℕ
+status_of outcomes.Usage = 2
+status_of outcomes.ReadFault = 4
+status_of outcomes.Memory = 6
+status_of (outcomes.TooLong paper) = 3
+status_of (outcomes.NetRefused r) = 3
+status_of (outcomes.TooMuch work) = 3
+status_of (outcomes.ScriptRefused r) = 3
+status_of (outcomes.Judged judged) = judged_status judged
+
+-- the outcome's line, with its status
+abbrev pub answer_of : Outcome → Answer
+answer_of outcome = record { status = status_of outcome; text = spelled (words_of outcome); found = nothing }
+
+-- want of memory, or such an answer
+abbrev pub OrWant : (Answer → Type 0) → Answer → Type 0
+OrWant Of answer = (answer ≡ answer_of outcomes.Memory) ⊎ Of answer
+
+-- the end of a run that wrote the answer
+abbrev pub ended_of : Answer → Ended
+ended_of answer = record { status = answer.status; found = answer.found }
+
+-- the end of a run whose output failed
+abbrev pub cut_off : Ended
+cut_off = record { status = 5; found = nothing }
+
+-- the answer was written whole, with its status and what it hands out, and the output counted no fault
+pub record IsGiven (old new : SinkView) (ended : Ended) (answer : Answer) : Type 0 where
+  pub ends : ended ≡ ended_of answer
+  pub text : Appends old.written new.written answer.text
+  pub faults : new.faults ≡ old.faults
+
+-- the output failed, and a front of the answer was written
+pub record IsCut (old new : SinkView) (ended : Ended) (answer : Answer) : Type 0 where
+  pub ends : ended ≡ cut_off
+  pub text : AppendsFront old.written new.written answer.text
+  pub rose : Rose old.faults new.faults
+  pub later : old.faults ≤ new.faults
+
+abbrev pub Writes : SinkView → SinkView → Ended → Answer → Type 0
+Writes old new ended answer = IsGiven old new ended answer ⊎ IsCut old new ended answer
+
+-- such an answer was written
+abbrev pub IsTold : (Answer → Type 0) → SinkView → SinkView → Ended → Type 0
+IsTold Of old new ended = (answer : Answer) × Of answer × Writes old new ended answer

@@ -1,0 +1,62 @@
+-- The files of a command, each read whole, one after the other; and what is answered of them. An answer is tied to what the shelf has seen
+-- before and behind it, so the files that were started are a part of it.
+use Rattle.std.specs.Prelude.{◌≡◌, ◌⊎◌, ℕ, List, Result, Ok, Err}
+use Rattle.std.specs.Global.{Vec}
+use Rattle.mcf_limits.specs.declared.TheConstants.{MAX_NET_BYTES}
+use Rattle.mcf_base.specs.Shelf.{ShelfView, IsLonger, FailedAt, LacksMemory, with_file}
+use Rattle.mcf_base.specs.Reading.{IsText}
+use Rattle.sndlib_grammar.specs.declared.refusal.NetRefusal.{NetRefusal}
+use Rattle.sndlib_grammar.specs.Rows.{NetRows}
+use Rattle.sndlib_grammar.specs.Net.{rows_of}
+use Rattle.run_base.specs.declared.outcome.Paper.{Paper}
+use Rattle.run_base.specs.declared.outcome.Paper.TheVariants.{Network}
+use Rattle.run_base.specs.declared.outcome.Outcome.{Outcome}
+use Rattle.run_base.specs.declared.outcome.Outcome.TheVariants.{ReadFault, TooLong, NetRefused, Memory}
+use Rattle.run_base.specs.Answer.{Answer, OrWant, answer_of}
+
+-- no file is started any more: want of memory, or such an answer
+abbrev pub Ends : (Answer → Type 0) → ShelfView → ShelfView → Answer → Type 0
+Ends Of old new answer = (new ≡ old) × OrWant Of answer
+
+-- want of memory before the next file is started, or what follows
+abbrev pub OrMemory : (ShelfView → ShelfView → Answer → Type 0) → ShelfView → ShelfView → Answer → Type 0
+OrMemory Of old new answer = ((answer ≡ answer_of Memory) × (new ≡ old)) ⊎ Of old new answer
+
+-- a file that was asked for gave no text: memory was wanting, the shelf failed at it, or it is over its limit
+abbrev pub GivesNone : ℕ → Paper → List ℕ → ShelfView → ShelfView → Answer → Type 0
+GivesNone limit paper name old new answer =
+    ((answer ≡ answer_of Memory) × LacksMemory name old new)
+    ⊎ (((answer ≡ answer_of ReadFault) × FailedAt name old new)
+    ⊎ ((answer ≡ answer_of (TooLong paper)) × IsLonger limit old.holds name × (new ≡ with_file old name)))
+
+-- the answer of a file: it gives no text, or its text answers
+abbrev pub OfFile : ℕ → Paper → List ℕ → (List ℕ → ShelfView → ShelfView → Answer → Type 0) → ShelfView → ShelfView → Answer → Type 0
+OfFile limit paper name OfText old new answer =
+    GivesNone limit paper name old new answer
+    ⊎ ((text : List ℕ) × IsText limit old.holds name text × OfText text (with_file old name) new answer)
+
+-- the network's text is refused, or its rows answer
+abbrev pub OnRows : (NetRows → ShelfView → ShelfView → Answer → Type 0) → Result NetRows NetRefusal → ShelfView → ShelfView → Answer → Type 0
+OnRows OfRows (Err r) old new answer = (answer ≡ answer_of (NetRefused r)) × (new ≡ old)
+OnRows OfRows (Ok rows) old new answer = OfRows rows old new answer
+
+-- the answer of the network in the file of that name
+abbrev pub OfNet : List ℕ → (NetRows → ShelfView → ShelfView → Answer → Type 0) → ShelfView → ShelfView → Answer → Type 0
+OfNet name OfRows old new answer = OfFile MAX_NET_BYTES Network name (λ text. OrMemory (OnRows OfRows (rows_of text))) old new answer
+
+-- ---- what the helpers of a command answer
+
+-- a file's bytes, or the outcome that ends the run
+abbrev pub GivesText : ℕ → Paper → List ℕ → ShelfView → ShelfView → Result (Vec ℕ) Outcome → Type 0
+GivesText limit paper name old new (Ok text) = IsText limit old.holds name text.items × (new ≡ with_file old name)
+GivesText limit paper name old new (Err outcome) = GivesNone limit paper name old new (answer_of outcome)
+
+-- the rows of a text, or the outcome that ends the run: want of memory, or its refusal
+abbrev pub GivesRows : List ℕ → Result NetRows Outcome → Type 0
+GivesRows text (Ok rows) = rows_of text ≡ Ok rows
+GivesRows text (Err outcome) = (outcome ≡ Memory) ⊎ ((r : NetRefusal) × (rows_of text ≡ Err r) × (outcome ≡ NetRefused r))
+
+-- a value whose answer is such a one, or an outcome that ends the run, with such an answer
+abbrev pub Finds : {T : Type 0} → (T → Answer) → (ShelfView → ShelfView → Answer → Type 0) → ShelfView → ShelfView → Result T Outcome → Type 0
+Finds to_answer Of old new (Ok x) = Of old new (to_answer x)
+Finds to_answer Of old new (Err outcome) = Of old new (answer_of outcome)

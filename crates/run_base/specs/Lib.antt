@@ -1,0 +1,4 @@
+pub mod Found
+pub mod Judged
+pub mod Answer
+pub mod Files

@@ -1,0 +1,42 @@
+//! What a run found, where one line tells it.
+
+use cert_judge::Judged;
+use script::ScriptRefusal;
+use sndlib_read::NetRefusal;
+use std::alloc::AllocError;
+
+/// A kind of file: a network, a certificate or a routing, a script.
+#[derive(Clone, Copy, Debug, PartialEq, Eq)]
+pub enum Paper {
+    Network,
+    Certificate,
+    Script,
+}
+
+/// What one line tells.
+#[derive(Clone, Copy)]
+pub enum Outcome {
+    /// The words are not in the grammar.
+    Usage,
+    ReadFault,
+    Memory,
+    /// The file is over its limit.
+    TooLong(Paper),
+    NetRefused(NetRefusal),
+    /// There would be so many commodities times phases.
+    TooMuch(u64),
+    ScriptRefused(ScriptRefusal),
+    /// What is said of a certificate.
+    Judged(Judged),
+}
+
+impl From<AllocError> for Outcome {
+    ghost use Rattle.std.specs.Prelude.{◌≡◌};
+    ghost use Rattle.run_base.specs.declared.outcome.Outcome.TheVariants.{Memory};
+
+    ghost from_gives = { λ _ e. e ≡ Memory };
+
+    fn from(_: AllocError) -> Self {
+        Outcome::Memory
+    }
+}

@@ -1,0 +1,191 @@
+//! The line of a judgement.
+
+ghost use Rattle.std.specs.Prelude.{◌≡◌, ◌<◌, ◌+◌, ◌*◌, if◌then◌else◌};
+ghost use Rattle.text_lines.specs.Lines.{spelled};
+ghost use Rattle.run_base.specs.Found.{nothing};
+ghost use Rattle.cert_judge.specs.declared.judged.Judged.TheVariants as JudgedIs;
+ghost use Rattle.run_base.specs.Answer.{Writes};
+ghost use Rattle.run_base.specs.Judged.{kind_word as kind_word_lem, cert_kind_word as cert_kind_word_lem, fault_word as fault_word_lem, verdict_word as verdict_word_lem, script_kind_word as script_kind_word_lem, net_refused, script_refused, cert_refused, judged_words, judged_status, six_digits};
+
+use crate::ended::Ended;
+use crate::saying::say;
+use cert_judge::{CertKind, CertRefusal, Fault, Judged};
+use gap_fraction::{Frac, Shown};
+use line_writer::Word;
+use mcf_base::Sink;
+use net_options::{NetOptions, link_word, module_word};
+use script::{ScriptKind, ScriptRefusal};
+use sndlib_read::{NetKind, NetRefusal};
+
+fn kind_word(kind: NetKind) -> &'static [u8]
+    ensures { result.now ≡ kind_word_lem kind }
+{
+    match kind {
+        NetKind::NoHeader => b"N1",
+        NetKind::LongWord => b"N2",
+        NetKind::Syntax => b"N3",
+        NetKind::TooMany => b"N4",
+        NetKind::Duplicate => b"N5",
+        NetKind::UnknownNode => b"N6",
+        NetKind::BadNumber => b"N7",
+        NetKind::TooFine => b"N8",
+        NetKind::TooLarge => b"N9",
+        NetKind::NoDemand => b"N10",
+    }
+}
+
+fn cert_kind_word(kind: CertKind) -> &'static [u8]
+    ensures { result.now ≡ cert_kind_word_lem kind }
+{
+    match kind {
+        CertKind::NoHeader => b"K1",
+        CertKind::Syntax => b"K2",
+        CertKind::UnknownName => b"K3",
+        CertKind::BadNumber => b"K4",
+        CertKind::TooLarge => b"K5",
+        CertKind::OtherNet => b"K6",
+    }
+}
+
+fn fault_word(fault: Fault) -> &'static [u8]
+    ensures { result.now ≡ fault_word_lem fault }
+{
+    match fault {
+        Fault::C1 => b"C1",
+        Fault::C2 => b"C2",
+        Fault::C3 => b"C3",
+        Fault::C4 => b"C4",
+        Fault::C5 => b"C5",
+        Fault::C6 => b"C6",
+        Fault::C7 => b"C7",
+        Fault::C8 => b"C8",
+        Fault::C9 => b"C9",
+        Fault::C10 => b"C10",
+    }
+}
+
+/// The word of a verdict.
+pub fn verdict_word(closed: bool) -> &'static [u8]
+    ensures { result.now ≡ verdict_word_lem closed }
+{
+    if closed { b"closed" } else { b"open" }
+}
+
+/// The status of a verdict: 0 for closed, 1 for open.
+pub fn verdict_status(closed: bool) -> u8
+    ensures { result ≡ (if closed then 0 else 1) }
+{
+    if closed { 0 } else { 1 }
+}
+
+// A number of millionths as a decimal.
+fn digits(shown: Shown) -> Word
+    requires { shown.micro < 1000000 }
+    ensures { result ≡ six_digits (shown.whole * 1000000 + shown.micro) }
+{
+    Word::decimal(shown.whole, shown.micro)
+}
+
+/// Writes the line of a network's refusal.
+pub fn tell_net_refusal<K: Sink>(out: &mut K, refusal: NetRefusal) -> Ended
+    ensures { Writes (K.seen out.old) (K.seen out.new) result (record { status = 3; text = spelled (net_refused refusal); found = nothing }) }
+{
+    let line = Word::number(refusal.line as u128);
+    let words: [&[u8]; 4] = [b"net", kind_word(refusal.kind), b"line", line.bytes()];
+    say(out, b"refused", &words, 3)
+}
+
+fn script_kind_word(kind: ScriptKind) -> &'static [u8]
+    ensures { result.now ≡ script_kind_word_lem kind }
+{
+    match kind {
+        ScriptKind::Syntax => b"S1",
+        ScriptKind::UnknownLink => b"S2",
+        ScriptKind::BadNumber => b"S3",
+        ScriptKind::TooFine => b"S4",
+        ScriptKind::TooLarge => b"S5",
+        ScriptKind::BelowZero => b"S6",
+    }
+}
+
+/// Writes the line of a script's refusal.
+pub fn tell_script_refusal<K: Sink>(out: &mut K, refusal: ScriptRefusal) -> Ended
+    ensures { Writes (K.seen out.old) (K.seen out.new) result (record { status = 3; text = spelled (script_refused refusal); found = nothing }) }
+{
+    let line = Word::number(refusal.line as u128);
+    let words: [&[u8]; 4] = [
+        b"script",
+        script_kind_word(refusal.kind),
+        b"line",
+        line.bytes(),
+    ];
+    say(out, b"refused", &words, 3)
+}
+
+fn tell_cert_refusal<K: Sink>(out: &mut K, refusal: CertRefusal) -> Ended
+    ensures { Writes (K.seen out.old) (K.seen out.new) result (record { status = 3; text = spelled (cert_refused refusal); found = nothing }) }
+{
+    let line = Word::number(refusal.line as u128);
+    let words: [&[u8]; 4] = [b"cert", cert_kind_word(refusal.kind), b"line", line.bytes()];
+    say(out, b"refused", &words, 3)
+}
+
+fn tell_feasible<K: Sink>(out: &mut K, options: NetOptions, value: Frac) -> Ended
+    ensures { Writes (K.seen out.old) (K.seen out.new) result (record { status = 0; text = spelled (judged_words (JudgedIs.Feasible options value)); found = nothing }) }
+{
+    let fraction = Word::fraction(value.num(), value.den());
+    let decimal = digits(value.digits_down());
+    let words: [&[u8]; 4] = [
+        link_word(options.links),
+        module_word(options.modules),
+        fraction.bytes(),
+        decimal.bytes(),
+    ];
+    say(out, b"feasible", &words, 0)
+}
+
+/// Writes the line of a certificate that stands.
+pub fn tell_valid<K: Sink>(
+    out: &mut K,
+    options: NetOptions,
+    closed: bool,
+    lower: Frac,
+    upper: Frac,
+) -> Ended
+    ensures { Writes (K.seen out.old) (K.seen out.new) result (record { status = 0; text = spelled (judged_words (JudgedIs.Valid options closed lower upper)); found = nothing }) }
+{
+    let lower_fraction = Word::fraction(lower.num(), lower.den());
+    let lower_decimal = digits(lower.digits_down());
+    let upper_fraction = Word::fraction(upper.num(), upper.den());
+    let upper_decimal = digits(upper.digits_up());
+    let words: [&[u8]; 9] = [
+        verdict_word(closed),
+        link_word(options.links),
+        module_word(options.modules),
+        b"lower",
+        lower_fraction.bytes(),
+        lower_decimal.bytes(),
+        b"upper",
+        upper_fraction.bytes(),
+        upper_decimal.bytes(),
+    ];
+    say(out, b"valid", &words, 0)
+}
+
+/// Writes the line of the judgement, and ends with its status.
+pub fn tell_judged<K: Sink>(out: &mut K, judged: Judged) -> Ended
+    ensures { Writes (K.seen out.old) (K.seen out.new) result (record { status = judged_status judged; text = spelled (judged_words judged); found = nothing }) }
+{
+    match judged {
+        Judged::NetRefused(refusal) => tell_net_refusal(out, refusal),
+        Judged::CertRefused(refusal) => tell_cert_refusal(out, refusal),
+        Judged::Invalid(fault) => say(out, b"invalid", &[fault_word(fault)], 1),
+        Judged::Feasible { options, value } => tell_feasible(out, options, value),
+        Judged::Valid {
+            options,
+            closed,
+            lower,
+            upper,
+        } => tell_valid(out, options, closed, lower, upper),
+    }
+}

@@ -1,0 +1,48 @@
+//! The line of an outcome.
+
+ghost use Rattle.std.specs.Prelude.{◌≡◌};
+ghost use Rattle.text_lines.specs.Lines.{spelled};
+ghost use Rattle.run_base.specs.Found.{nothing};
+ghost use Rattle.run_base.specs.Answer.{answer_of, paper_word as paper_word_lem, work_refused, Writes};
+
+use crate::ended::Ended;
+use crate::outcome::{Outcome, Paper};
+use crate::saying::say;
+use crate::tell_judged::{tell_judged, tell_net_refusal, tell_script_refusal};
+use line_writer::Word;
+use mcf_base::Sink;
+
+fn paper_word(paper: Paper) -> &'static [u8]
+    ensures { result.now ≡ paper_word_lem paper }
+{
+    match paper {
+        Paper::Network => b"net",
+        Paper::Certificate => b"cert",
+        Paper::Script => b"script",
+    }
+}
+
+// Writes the line of work over its limit.
+fn tell_work<K: Sink>(out: &mut K, work: u64) -> Ended
+    ensures { Writes (K.seen out.old) (K.seen out.new) result (record { status = 3; text = spelled (work_refused work); found = nothing }) }
+{
+    let number = Word::number(work as u128);
+    let words: [&[u8]; 2] = [b"work", number.bytes()];
+    say(out, b"refused", &words, 3)
+}
+
+/// Writes the line of the outcome, and ends with its status; where the output fails, with status 5.
+pub fn tell<K: Sink>(out: &mut K, outcome: Outcome) -> Ended
+    ensures { Writes (K.seen out.old) (K.seen out.new) result (answer_of outcome) }
+{
+    match outcome {
+        Outcome::Usage => say(out, b"usage", &[], 2),
+        Outcome::ReadFault => say(out, b"read", &[b"fault"], 4),
+        Outcome::Memory => say(out, b"memory", &[], 6),
+        Outcome::TooLong(paper) => say(out, b"refused", &[paper_word(paper), b"TooLong"], 3),
+        Outcome::NetRefused(refusal) => tell_net_refusal(out, refusal),
+        Outcome::TooMuch(work) => tell_work(out, work),
+        Outcome::ScriptRefused(refusal) => tell_script_refusal(out, refusal),
+        Outcome::Judged(judged) => tell_judged(out, judged),
+    }
+}

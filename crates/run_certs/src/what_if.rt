@@ -1,0 +1,102 @@
+//! The command `whatif`: what a valid certificate is worth under other capacities.
+
+ghost use Rattle.std.specs.Prelude.{IfOk, length};
+ghost use Rattle.mcf_limits.specs.declared.TheConstants.{MAX_SCRIPT_BYTES};
+ghost use Rattle.script.specs.Steps.{AreSteps};
+ghost use Rattle.whatif.specs.Shown.{shown_text};
+ghost use Rattle.net_whatif.specs.Certified.{IsCertificate};
+ghost use Rattle.net_whatif.specs.Scripted.{CanRun};
+ghost use Rattle.run_base.specs.declared.outcome.Paper.TheVariants as PaperIs;
+ghost use Rattle.run_base.specs.Found.{nothing};
+ghost use Rattle.run_base.specs.Answer.{IsTold, Writes};
+ghost use Rattle.run_base.specs.Files.{Ends, Finds, OfFile};
+ghost use Rattle.run_certs.specs.WhatIf.{OfWhatIf, OnScript, scripted_answer};
+
+use flow_paths::Proof;
+use mcf_base::{Shelf, Sink};
+use mcf_limits::{MAX_CERT_BYTES, MAX_NET_BYTES, MAX_SCRIPT_BYTES};
+use net_whatif::{Certified, Scripted, read_certificate, read_script, write_shown};
+use run_base::{Ended, Outcome, Paper, file_text, net_rows, tell};
+use script::Script;
+use sndlib_read::RawNet;
+use std::alloc::Global;
+use unit_scale::Scaled;
+use whatif::Plan;
+
+// The steps of the script in the file of that name, for a valid certificate.
+fn scripted_file<F: Shelf>(
+    alloc: Global,
+    rows: &RawNet<'_>,
+    net: &Scaled,
+    proof: &Proof,
+    shelf: &mut F,
+    script: &str,
+) -> Result<Scripted, Outcome>
+    requires { IsCertificate rows.now net.now proof.now }
+    ensures finds { Finds scripted_answer (OfFile MAX_SCRIPT_BYTES PaperIs.Script script.now (λ text. Ends (OnScript rows.now net.now proof.now text))) (F.seen shelf.old) (F.seen shelf.new) result }
+    ensures run { IfOk result CanRun }
+{
+    let text = file_text(alloc, shelf, script, MAX_SCRIPT_BYTES, Paper::Script)?;
+    match read_script(alloc, rows, net, proof, &text) {
+        Ok(scripted) => Ok(scripted),
+        Err(_) => Err(Outcome::Memory),
+    }
+}
+
+// The same for the certificate and the network in the files of these names.
+fn scripted_files<F: Shelf>(
+    alloc: Global,
+    shelf: &mut F,
+    net: &str,
+    cert: &str,
+    script: &str,
+) -> Result<Scripted, Outcome>
+    ensures finds { Finds scripted_answer (OfWhatIf net.now cert.now script.now) (F.seen shelf.old) (F.seen shelf.new) result }
+    ensures run { IfOk result CanRun }
+{
+    let net_text = file_text(alloc, shelf, net, MAX_NET_BYTES, Paper::Network)?;
+    let rows = match net_rows(alloc, &net_text) {
+        Ok(rows) => rows,
+        Err(outcome) => return Err(outcome),
+    };
+    let text = match file_text(alloc, shelf, cert, MAX_CERT_BYTES, Paper::Certificate) {
+        Ok(text) => text,
+        Err(outcome) => return Err(outcome),
+    };
+    match read_certificate(alloc, &rows, &text) {
+        Ok(Certified::Valid(net, proof)) => scripted_file(
+            alloc, &rows, &net, &proof, shelf, script,
+        ),
+        Ok(Certified::Said(judged)) => Err(Outcome::Judged(judged)),
+        Err(_) => Err(Outcome::Memory),
+    }
+}
+
+// Writes what the steps show.
+fn write_lines<K: Sink>(plan: Plan, script: &Script, out: &mut K) -> Ended
+    requires { AreSteps (length plan.caps) script.now }
+    ensures { Writes (K.seen out.old) (K.seen out.new) result (record { status = 0; text = shown_text plan script.now; found = nothing }) }
+{
+    match write_shown(plan, script, out) {
+        Ok(()) => Ended::told(0),
+        Err(_) => Ended::told(5),
+    }
+}
+
+/// Writes what the script in the third file shows of the certificate in the second on the network in the first.
+pub fn whatif_files<F: Shelf, K: Sink>(
+    alloc: Global,
+    shelf: &mut F,
+    out: &mut K,
+    net: &str,
+    cert: &str,
+    script: &str,
+) -> Ended
+    ensures { IsTold (OfWhatIf net.now cert.now script.now (F.seen shelf.old) (F.seen shelf.new)) (K.seen out.old) (K.seen out.new) result }
+{
+    match scripted_files(alloc, shelf, net, cert, script) {
+        Ok(Scripted::Ready(plan, script)) => write_lines(plan, &script, out),
+        Ok(Scripted::Refused(refusal)) => tell(out, Outcome::ScriptRefused(refusal)),
+        Err(outcome) => tell(out, outcome),
+    }
+}
