@@ -11,7 +11,7 @@ use Rattle.run_base.specs.declared.outcome.Paper.TheVariants.{Network}
 use Rattle.run_base.specs.declared.outcome.Outcome.{Outcome}
 use Rattle.run_base.specs.declared.outcome.Outcome.TheVariants.{NetRefused}
 use Rattle.run_base.specs.Answer.{Answer, answer_of}
-use Rattle.run_base.specs.Files.{OfFile, OfNet, OnRows, OrMemory, GivesRows}
+use Rattle.run_base.specs.Files.{Finds, OfFile, OfNet, OnRows, OrMemory, GivesRows}
 
 -- the file's text came, and what follows answers
 pub file_came : (limit : ℕ) (paper : Paper) (name : List ℕ) (OfText : List ℕ → ShelfView → ShelfView → Answer → Type 0) (old mid new : ShelfView) (text : List ℕ) (answer : Answer)
@@ -31,3 +31,9 @@ pub no_rows_came : (name : List ℕ) (OfRows : NetRows → ShelfView → ShelfVi
 no_rows_came name OfRows old mid text outcome is same (inl memory) = inr (text, is, inl (ap answer_of memory, same))
 no_rows_came name OfRows old mid text outcome is same (inr (r, read, refused)) =
     inr (text, is, inr (subst (λ (x : Result NetRows NetRefusal). OnRows OfRows x (with_file old name) mid (answer_of outcome)) (sym read) (ap answer_of refused, same)))
+
+-- what was found has another answer too
+pub found_too : {T : Type 0} (to_answer : T → Answer) (Of Other : ShelfView → ShelfView → Answer → Type 0) (old mid new : ShelfView) (r : Result T Outcome)
+    → ((answer : Answer) → Of mid new answer → Other old new answer) → Finds to_answer Of mid new r → Finds to_answer Other old new r
+found_too to_answer Of Other old mid new (Ok x) f of = f (to_answer x) of
+found_too to_answer Of Other old mid new (Err outcome) f of = f (answer_of outcome) of

@@ -1,14 +1,15 @@
-use Rattle.std.proofs.Common.{inl, inr, refl}
+use Rattle.std.proofs.Common.{◌≡◌, inl, inr, refl}
 use Rattle.run_base.specs.Answer.{answer_of}
-use Rattle.run_base.proofs.Chain.{rows_came, no_rows_came}
+use Rattle.run_base.specs.Files.{Ends}
+use Rattle.run_base.proofs.Chain.{rows_came}
 use Rattle.run_solves.specs.Print.{printed}
 use Rattle.run_solves.proofs.printing.print.Goals as goal
 
 pub returns-in-Err : goal.returns-in-Err
-returns-in-Err g c = (answer_of c.in-Err.outcome, inl c.in-Err.ensures, c.tell-in-Err.ensures)
+returns-in-Err g c = (answer_of c.in-Err.outcome, inl c.in-Err.ensures, c.tell.ensures)
 
 pub returns-in-Ok-net_rows : goal.returns-in-Ok-net_rows
-returns-in-Ok-net_rows g c = (printed c.in-Ok-net_rows.raw, rows_came _ _ _ _ _ _ _ _ c.in-Ok.ensures.0 c.in-Ok.ensures.1 c.in-Ok-net_rows.ensures.rows (refl, inr refl), c.write_rows.ensures)
-
-pub returns-in-Err-net_rows : goal.returns-in-Err-net_rows
-returns-in-Err-net_rows g c = (answer_of c.in-Err-net_rows.outcome, no_rows_came _ _ _ _ _ _ c.in-Ok.ensures.0 c.in-Ok.ensures.1 c.in-Err-net_rows.ensures.rows, c.tell-in-Err-net_rows.ensures)
+returns-in-Ok-net_rows g c =
+    let came = rows_came c.args.name.now (λ rows. Ends (λ given. given ≡ printed rows)) _ _ _ _ c.in-Ok-net_rows.raw _ c.in-Ok.ensures.0 c.in-Ok.ensures.1
+    (rw c.deref.ensures.value at c.in-Ok-net_rows.ensures.rows) (refl, inr refl) in
+    (printed c.in-Ok-net_rows.raw, came, c.write_rows.ensures)

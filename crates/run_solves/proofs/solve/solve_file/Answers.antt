@@ -1,15 +1,16 @@
 use Rattle.std.proofs.Common.{inl, refl}
 use Rattle.run_base.specs.Answer.{answer_of}
-use Rattle.run_base.proofs.Chain.{rows_came, no_rows_came}
+use Rattle.run_base.specs.Files.{Ends}
+use Rattle.run_base.proofs.Chain.{rows_came}
+use Rattle.run_solves.specs.Solve.{SolvesRows}
 use Rattle.run_solves.proofs.solve.solve_file.Goals as goal
 
 pub returns-in-Err : goal.returns-in-Err
-returns-in-Err g c = (answer_of c.in-Err.outcome, inl c.in-Err.ensures, c.tell-in-Err.ensures)
+returns-in-Err g c = (answer_of c.in-Err.outcome, inl c.in-Err.ensures, c.tell.ensures)
 
 pub returns-in-Ok-net_rows : goal.returns-in-Ok-net_rows
 returns-in-Ok-net_rows g c =
     let told = c.solve_and_tell.ensures in
-    (told.0, rows_came _ _ _ _ _ _ _ _ c.in-Ok.ensures.0 c.in-Ok.ensures.1 c.in-Ok-net_rows.ensures.rows (refl, told.1), told.2)
-
-pub returns-in-Err-net_rows : goal.returns-in-Err-net_rows
-returns-in-Err-net_rows g c = (answer_of c.in-Err-net_rows.outcome, no_rows_came _ _ _ _ _ _ c.in-Ok.ensures.0 c.in-Ok.ensures.1 c.in-Err-net_rows.ensures.rows, c.tell-in-Err-net_rows.ensures)
+    let came = rows_came c.args.name.now (λ rows. Ends (SolvesRows c.args.request.now rows)) _ _ _ _ c.in-Ok-net_rows.raw _ c.in-Ok.ensures.0 c.in-Ok.ensures.1
+    (rw c.deref.ensures.value at c.in-Ok-net_rows.ensures.rows) (refl, told.1) in
+    (told.0, came, told.2)
