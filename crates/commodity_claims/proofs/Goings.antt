@@ -74,7 +74,7 @@ stops t n count ticket routes v0 v w g is past left made = record {
   made = ap (λ (x : View). x.made) is ∙ made;
   work = worker g.work.log true;
   hands = hands_after (claimed count ticket) n v w g.work is g.hands_are ∙ ap (λ (u : Worker). hand n u ∷ []) (claims_none count ticket g.work past);
-  is_work = record { complete = g.complete; stopped = λ _. refl; routes_are = g.routes_are };
+  is_work = record { complete = g.complete; stopped = refl; routes_are = g.routes_are };
 }
 
 pub ends_early : (t : Terms) (n : ℕ) (routes : List Route) (v0 v : View) → IsGoing t n v.hands routes → v.left ≡ v0.left → v.made ≡ v0.made → HasWorked t n v0 v true routes
@@ -83,7 +83,7 @@ ends_early t n routes v0 v g left made = record {
   made = made;
   work = g.work;
   hands = g.hands_are;
-  is_work = record { complete = g.complete; stopped = λ e. absurd (let z : true ≡ false = e in cc); routes_are = g.routes_are };
+  is_work = record { complete = g.complete; stopped = g.going; routes_are = g.routes_are };
 }
 
 -- a claim's ticket is no less than the next one expected
