@@ -204,11 +204,11 @@ reads t slots id c me same may s k _ at small = reads_of t slots id c me s k at 
 
 -- the add
 
-add_moves : (t : Terms) (s : core.State) (k c : ℕ) (h : Hand) → h.number < length s.workers → worker_at s h.number ≡ h.work → (c < cell_count t) × LastMayAdd t k c h.work.log
-    → Moves t s (add h.number k c) h.number (has_added k c h.work)
-add_moves t s k c h inside is may = record {
+add_moves : (t : Terms) (s : core.State) (k c found : ℕ) (h : Hand) → found ≡ get_or s.loads c 0 → h.number < length s.workers → worker_at s h.number ≡ h.work → (c < cell_count t) × LastMayAdd t k c h.work.log
+    → Moves t s (add h.number k c) h.number (has_added k c found h.work)
+add_moves t s k c found h f inside is may = record {
   legal = (inside, may.0, subst (λ (u : Worker). LastMayAdd t k c u.log) (sym is) may.1);
-  workers = λ i. set s.workers h.number (has_added k c (is i));
+  workers = λ i. set s.workers h.number (has_added k c (sym f i) (is i));
 }
 
 adds_of : (t : Terms) (slots id n c a : ℕ) (me : M) (s : St) (k : Kept t s) → get_elem? s.views id ≡ some me.0 → me.0.terms ≡ t → (hs : List Hand) → me.0.hands ≡ hs → MayAdd t n c hs → a ≡ amount_of t n
@@ -221,8 +221,8 @@ adds_of t slots id n c a me s k at same (h ∷ []) is may amount =
     let x : ℕ = get_or s.words (c + 1) 0 in
     let found : x ≡ get_or old.loads c 0 = ap (λ (ws : List ℕ). get_or ws (c + 1) 0) k.words ∙ ap (λ (m : ℕ). get_or (old.claims ∷ old.loads) m 0) (add-one c) in
     let fit : AllFit old (h ∷ []) = subst (AllFit old) is (k.fits id v at).works in
-    let f : Worker → Worker = has_added n c in
-    let m = add_moves t old n c h fit.0.0 fit.0.1 may in
+    let f : Worker → Worker = has_added n c x in
+    let m = add_moves t old n c x h found fit.0.0 fit.0.1 may in
     let e : Event = add h.number n c in
     let last = schedule-snoc t (start t) k.events e in
     let law = loads_of t _ k.is_start (laws t (k.events ++ e ∷ []) k.is_start (AreLegal-snoc t (start t) k.events e k.legal m.legal)) in
@@ -238,7 +238,7 @@ adds_of t slots id n c a me s k at same (h ∷ []) is may amount =
       keeps,
       tt,
       moved t s k id v h f e (set s.words (c + 1) ((x + a) % 18446744073709551616)) at is same fit.0.0 m words,
-      (ap (λ (m : ℕ). (with_work (has_added n m) v, me.1)) cell, was t s k id v (c + 1) at same),
+      (ap (λ (m : ℕ). (with_work (has_added n m x) v, me.1)) cell, was t s k id v (c + 1) at same),
     )
 
 pub adds : (t : Terms) (slots id n c a : ℕ) (me : M) → me.0.terms ≡ t → MayAdd t n c me.0.hands → a ≡ amount_of t n → Allows (Kept t) slots id me (c + 1) (λ m. (m + a) % 2 ^ 64) (Added n (step slots (c + 1) a 0 none) me)

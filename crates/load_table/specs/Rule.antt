@@ -50,7 +50,7 @@ abbrev pub HasRead : Step (Unit {0}) → M → ℕ → M → Type 0
 HasRead s v found w = (w ≡ (with_work (has_read found) v.0, v.1)) × WasWord v.0.terms v.0.hands s.word found
 
 abbrev pub Added : ℕ → Step (Unit {0}) → M → ℕ → M → Type 0
-Added k s v found w = (w ≡ (with_work (has_added k (s.word - 1)) v.0, v.1)) × WasWord v.0.terms v.0.hands s.word found
+Added k s v found w = (w ≡ (with_work (has_added k (s.word - 1) found) v.0, v.1)) × WasWord v.0.terms v.0.hands s.word found
 
 -- the tickets of the hands are below this one, and ascend
 abbrev pub AllFallBelow : ℕ → List Hand → Type 0

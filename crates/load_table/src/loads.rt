@@ -157,7 +157,7 @@ impl Loads {
         requires of { IsPassOf self.now pass.old }
         requires may { MayAdd self.now.terms k cell pass.old.view.hands }
         ensures of { IsPassOf self.now pass.new }
-        ensures view { pass.new.view ≡ with_work (has_added J.commodity cell) pass.old.view }
+        ensures view { pass.new.view ≡ with_work (has_added J.commodity cell result) pass.old.view }
         ensures word { WasWord self.now.terms pass.old.view.hands (cell + 1) result }
     {
         let amount = self.amounts[k as usize];
@@ -171,7 +171,7 @@ impl Loads {
         requires of { IsPassOf self.now pass.old }
         requires may { MayAdd self.now.terms k cell pass.old.view.hands }
         ensures of { IsPassOf self.now pass.new }
-        ensures view { pass.new.view ≡ with_work (has_added k cell) pass.old.view }
+        ensures view { pass.new.view ≡ with_work (has_added k cell result) pass.old.view }
         ensures word { WasWord self.now.terms pass.old.view.hands (cell + 1) result }
     {
         self.add_for::<Brand>(pass, k, cell)
