@@ -9,6 +9,7 @@ use Rattle.flow_model.specs.Least.{IsLeastWalk, AreDifferent}
 use Rattle.mcf_limits.specs.declared.TheConstants.{MAX_LENGTH, MAX_WORKERS}
 use Rattle.flow_core.specs.declared.state.Entry.{Entry}
 use Rattle.flow_core.specs.declared.state.Worker.{Worker}
+use Rattle.flow_core.specs.declared.state.Words.{Words}
 
 -- what a phase starts from
 pub record Terms : Type 0 where
@@ -46,10 +47,8 @@ pub record IsStart (t : Terms) : Type 0 where
   pub some_worker : 0 < t.workers
   pub few_workers : t.workers ≤ MAX_WORKERS
 
-pub record State : Type 0 where
-  pub claims : ℕ
-  pub loads : List ℕ
-  pub workers : List Worker
+abbrev pub State : Type 0
+State = Words
 
 pub data Event : Type 0 where
   claim : ℕ → Event
@@ -158,3 +157,7 @@ AreLegal t s (e ∷ es) = IsLegal t s e × AreLegal t (after_event t s e) es
 abbrev pub after_schedule : Terms → State → List Event → State
 after_schedule t s [] = s
 after_schedule t s (e ∷ es) = after_schedule t (after_event t s e) es
+
+-- some schedule leads from one state to the other
+abbrev pub Leads : Terms → State → State → Type 0
+Leads t from to = (es : List Event) × AreLegal t from es × (after_schedule t from es ≡ to)

@@ -6,7 +6,7 @@ ghost use Rattle.flow_model.specs.Lengths.{IsSetting, lengths_of};
 ghost use Rattle.flow_paths.specs.Certificate.{upper_of};
 ghost use Rattle.dual_bound.specs.Bounds.{IsBoundOf, ShowsBound};
 ghost use Rattle.flow_core.specs.Core.{IsStart};
-ghost use Rattle.phase_engine.specs.Hands.{IsFresh, IsSameWorker};
+ghost use Rattle.phase_engine.specs.Hands.{IsFresh, AreSameWorkers};
 ghost use Rattle.phase_engine.specs.Routing.{IsRoutedPhase};
 ghost use Rattle.flow_solver.specs.Search.{HasRouted, IsSearch, phase_count};
 
@@ -77,7 +77,7 @@ fn phase_over<G: Gate, R: Threads + Sync>(
     requires no_cut { HasNoCut net.now }
     requires fresh { (k : ℕ) (d : _) → k < length hands.old → IsFresh net.now.nodes k (slice_index_or hands.old k d) }
     ensures ok { OnOk result (IsRoutedPhase net.now setting loads.old loads.new hands.new) }
-    ensures back { (k : ℕ) (d : _) → k < length hands.old → IsSameWorker (slice_index_or hands.old k d) (slice_index_or hands.new k d) }
+    ensures back { AreSameWorkers hands.old hands.new }
     ensures turns { (k : ℕ) (d : _) → k < length hands.old → (slice_index_or hands.new k d).turn ≡ None }
 {
     let shared = Loads::new(alloc, net, groups, setting, loads, hands.len() as u16)?;

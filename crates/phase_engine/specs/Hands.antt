@@ -39,6 +39,10 @@ IsDone l h = OfTurn h.turn (λ w. IsPassOf l w.pass × HasWorked l.terms h.worke
 abbrev pub IsSameWorker : Hand → Hand → Type 0
 IsSameWorker h g = (g.worker ≡ h.worker) × (g.scratch.nodes ≡ h.scratch.nodes) × (g.scratch.cells ≡ h.scratch.cells)
 
+-- each hand is still that of its worker
+abbrev pub AreSameWorkers : List Hand → List Hand → Type 0
+AreSameWorkers old new = (k : ℕ) (d : Hand) → k < length old → IsSameWorker (slice_index_or old k d) (slice_index_or new k d)
+
 abbrev pub Runs : LoadsView → Hand → Hand → Type 0
 Runs l h g = IsSameWorker h g × IsDone l g
 

@@ -4,6 +4,7 @@ ghost use Rattle.std.specs.Prelude.{◌≡◌, ℕ, ◌<◌, ◌≤◌, [], All,
 ghost use Rattle.flow_model.specs.Least.{HasNoCut};
 ghost use Rattle.flow_model.specs.Lengths.{IsSetting};
 ghost use Rattle.flow_core.specs.Core.{IsStart};
+ghost use Rattle.flow_core.specs.Phase.{terms_of};
 ghost use Rattle.load_table.specs.Seen.{IsPassOf};
 ghost use Rattle.load_table.specs.Views.{first_view};
 ghost use Rattle.phase_engine.specs.Hands.{IsFresh, IsSameWorker, IsUnfinished};
@@ -47,7 +48,7 @@ pub fn phase<G: Gate, R: Threads + Sync>(
     gate: &G,
 ) -> Result<(), Pass>
     requires start { IsStart record { net = net.now; setting = setting; base = loads.old; workers = length hands.old } }
-    requires terms { shared.0.terms ≡ record { net = net.now; setting = setting; base = loads.old; workers = length hands.old } }
+    requires terms { shared.0.terms ≡ terms_of net.now setting loads.old (length hands.old) }
     requires pass { IsPassOf shared.0 shared.1 × (shared.1.view ≡ first_view shared.0.terms) }
     requires groups { groups.now ≡ net.now }
     requires graph { graph.now ≡ net.now }
