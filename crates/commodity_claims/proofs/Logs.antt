@@ -17,7 +17,7 @@ use Rattle.load_table.specs.declared.view.Hand.{Hand}
 use Rattle.load_table.specs.Views.{hand, view_of, first_works, with_work}
 use Rattle.load_table.specs.Rule.{MayRead, MayAdd, LastReads}
 use Rattle.commodity_claims.specs.Routes.{Route}
-use Rattle.commodity_claims.specs.Steps.{LastWhere, OneWhere, IsFresh, IsReadyFor, IsReadyForAll, put_reads, reads_all, more_adds, adds_all, adds_along, adds_of}
+use Rattle.commodity_claims.specs.Steps.{LastWhere, OneWhere, IsFresh, IsReadyFor, IsReadyForAll, put_reads, reads_all, more_adds, adds_all, HasAddedAll, adds_along, adds_of}
 
 -- two steps of the first worker are one
 works-works : (f g h : Worker → Worker) → ((u : Worker) → f (g u) ≡ h u) → (hs : List Hand) → first_works f (first_works g hs) ≡ first_works h hs
@@ -39,7 +39,7 @@ same-work P f same v one = ap (view_of v.terms v.left v.made) (hands v.hands one
 -- reads
 
 reads-more : (x : ℕ) (rs : List ℕ) (u : Worker) → has_read x (reads_all rs u) ≡ reads_all (rs ++ x ∷ []) u
-reads-more x rs u = ap (λ (l : List Entry). worker l u.stopped) (log u.log)
+reads-more x rs u = ap (λ (l : List Entry). worker l u.stopped u.ticket u.found) (log u.log)
   where
     log : (l : List Entry) → with_read x (put_reads rs l) ≡ put_reads (rs ++ x ∷ []) l
     log [] = refl
@@ -49,7 +49,7 @@ pub reads_one : (x : ℕ) (rs : List ℕ) (v w : View) → w ≡ with_work (read
 reads_one x rs v w is = ap (with_work (has_read x)) is ∙ with-with (has_read x) (reads_all rs) (reads_all (rs ++ x ∷ [])) (reads-more x rs) v
 
 pub reads_none : (v : View) → OneWhere IsFresh v.hands → v ≡ with_work (reads_all []) v
-reads_none v one = same-work IsFresh (reads_all []) (λ u h. ap (λ (l : List Entry). worker l u.stopped) (log u.log h)) v one
+reads_none v one = same-work IsFresh (reads_all []) (λ u h. ap (λ (l : List Entry). worker l u.stopped u.ticket u.found) (log u.log h)) v one
   where
     log : (l : List Entry) → LastWhere IsFresh l → l ≡ put_reads [] l
     log [] h = absurd h
@@ -69,39 +69,44 @@ may_read t c rs v w one is here few = subst (λ (x : View). MayRead t c x.hands)
 
 -- adds
 
-adds-more : (k c : ℕ) (ps : List (ℕ × ℕ)) (u : Worker) → has_added k c (adds_all ps u) ≡ adds_all (ps ++ (k, c) ∷ []) u
-adds-more k c ps u = ap (λ (l : List Entry). worker l u.stopped) (log u.log)
+adds-more : (k c x : ℕ) (ps : List (ℕ × ℕ)) (xs : List ℕ) (u : Worker) → has_added k c x (adds_all ps xs u) ≡ adds_all (ps ++ (k, c) ∷ []) (xs ++ x ∷ []) u
+adds-more k c x ps xs u = λ i. worker (log u.log i) u.stopped u.ticket (append_assoc u.found xs (x ∷ []) i)
   where
     log : (l : List Entry) → with_add k c (more_adds ps l) ≡ more_adds (ps ++ (k, c) ∷ []) l
     log [] = refl
     log (e ∷ es) = ap (λ (qs : List (ℕ × ℕ)). entry e.ticket e.reads qs ∷ es) (append_assoc e.adds ps ((k, c) ∷ []))
 
-adds-twice : (ps qs : List (ℕ × ℕ)) (u : Worker) → adds_all qs (adds_all ps u) ≡ adds_all (ps ++ qs) u
-adds-twice ps qs u = ap (λ (l : List Entry). worker l u.stopped) (log u.log)
+adds-twice : (ps qs : List (ℕ × ℕ)) (xs ys : List ℕ) (u : Worker) → adds_all qs ys (adds_all ps xs u) ≡ adds_all (ps ++ qs) (xs ++ ys) u
+adds-twice ps qs xs ys u = λ i. worker (log u.log i) u.stopped u.ticket (append_assoc u.found xs ys i)
   where
     log : (l : List Entry) → more_adds qs (more_adds ps l) ≡ more_adds (ps ++ qs) l
     log [] = refl
     log (e ∷ es) = ap (λ (xs : List (ℕ × ℕ)). entry e.ticket e.reads xs ∷ es) (append_assoc e.adds ps qs)
 
-adds-nothing : (u : Worker) → u ≡ adds_all [] u
-adds-nothing u = ap (λ (l : List Entry). worker l u.stopped) (log u.log)
+adds-nothing : (u : Worker) → u ≡ adds_all [] [] u
+adds-nothing u = λ i. worker (log u.log i) u.stopped u.ticket (sym (append-nil u.found) i)
   where
     log : (l : List Entry) → l ≡ more_adds [] l
     log [] = refl
     log (e ∷ es) = ap (λ (xs : List (ℕ × ℕ)). entry e.ticket e.reads xs ∷ es) (sym (append-nil e.adds))
 
-pub adds_none : (v : View) → v ≡ with_work (adds_all []) v
-adds_none v = ap (view_of v.terms v.left v.made) (hands v.hands)
+pub adds_none : (v : View) → HasAddedAll [] v v
+adds_none v = ([], ap (view_of v.terms v.left v.made) (hands v.hands))
   where
-    hands : (hs : List Hand) → hs ≡ first_works (adds_all []) hs
+    hands : (hs : List Hand) → hs ≡ first_works (adds_all [] []) hs
     hands [] = refl
     hands (x ∷ xs) = ap (λ (u : Worker). hand x.number u ∷ xs) (adds-nothing x.work)
 
-pub adds_one : (k c : ℕ) (ps : List (ℕ × ℕ)) (v w : View) → w ≡ with_work (adds_all ps) v → with_work (has_added k c) w ≡ with_work (adds_all (ps ++ (k, c) ∷ [])) v
-adds_one k c ps v w is = ap (with_work (has_added k c)) is ∙ with-with (has_added k c) (adds_all ps) (adds_all (ps ++ (k, c) ∷ [])) (adds-more k c ps) v
+pub adds_one : (k c x : ℕ) (ps : List (ℕ × ℕ)) (v w y : View) → HasAddedAll ps v w → y ≡ with_work (has_added k c x) w → HasAddedAll (ps ++ (k, c) ∷ []) v y
+adds_one k c x ps v w y h now =
+    let xs = h.0 in
+    (xs ++ x ∷ [], now ∙ (ap (with_work (has_added k c x)) h.1 ∙ with-with (has_added k c x) (adds_all ps xs) (adds_all (ps ++ (k, c) ∷ []) (xs ++ x ∷ [])) (adds-more k c x ps xs) v))
 
-pub adds_two : (ps qs : List (ℕ × ℕ)) (v w : View) → w ≡ with_work (adds_all ps) v → with_work (adds_all qs) w ≡ with_work (adds_all (ps ++ qs)) v
-adds_two ps qs v w is = ap (with_work (adds_all qs)) is ∙ with-with (adds_all qs) (adds_all ps) (adds_all (ps ++ qs)) (adds-twice ps qs) v
+pub adds_two : (ps qs : List (ℕ × ℕ)) (v w x : View) → HasAddedAll ps v w → HasAddedAll qs w x → HasAddedAll (ps ++ qs) v x
+adds_two ps qs v w x h g =
+    let xs = h.0 in
+    let ys = g.0 in
+    (xs ++ ys, g.1 ∙ (ap (with_work (adds_all qs ys)) h.1 ∙ with-with (adds_all qs ys) (adds_all ps xs) (adds_all (ps ++ qs) (xs ++ ys)) (adds-twice ps qs xs ys) v))
 
 -- whether an add may come
 
@@ -162,8 +167,8 @@ all-along : (P : ℕ × ℕ → Type 0) (k : ℕ) (path : List ℕ) → ((c : �
 all-along P k [] f = all-nil P
 all-along P k (c ∷ cs) f = all-cons P (k, c) (adds_along k cs) (f c) (all-along P k cs f)
 
-pub may_add : (t : Terms) (k c : ℕ) (path : List ℕ) (v w : View) → OneWhere (IsReadyFor t k) v.hands → w ≡ with_work (adds_all (adds_along k path)) v → c < cell_count t → ((j : ℕ) → j < length path → get_or path j 0 ≢ c) → MayAdd t k c w.hands
-may_add t k c path v w one is few new = subst (λ (x : View). MayAdd t k c x.hands) (sym is) (hands v.hands one)
+pub may_add : (t : Terms) (k c : ℕ) (path : List ℕ) (v w : View) → OneWhere (IsReadyFor t k) v.hands → HasAddedAll (adds_along k path) v w → c < cell_count t → ((j : ℕ) → j < length path → get_or path j 0 ≢ c) → MayAdd t k c w.hands
+may_add t k c path v w one is few new = subst (λ (x : View). MayAdd t k c x.hands) (sym is.1) (hands v.hands one)
   where
     log : (l : List Entry) → LastWhere (IsReadyFor t k) l → LastMayAdd t k c (more_adds (adds_along k path) l)
     log [] h = absurd h
@@ -176,7 +181,7 @@ may_add t k c path v w one is few new = subst (λ (x : View). MayAdd t k c x.han
       has-append k c e.adds (adds_along k path) (has-below k c e.adds h.3) (has-along k c path new),
     )
 
-    hands : (hs : List Hand) → OneWhere (IsReadyFor t k) hs → MayAdd t k c (first_works (adds_all (adds_along k path)) hs)
+    hands : (hs : List Hand) → OneWhere (IsReadyFor t k) hs → MayAdd t k c (first_works (adds_all (adds_along k path) is.0) hs)
     hands [] h = absurd h
     hands (x ∷ []) h = (few, log x.work.log h)
     hands (x ∷ y ∷ xs) h = absurd h
@@ -200,15 +205,15 @@ adds-of-push : (rs : List Route) (r : Route) → adds_of (rs ++ r ∷ []) ≡ ad
 adds-of-push [] r = append-nil (adds_along r.commodity r.path)
 adds-of-push (x ∷ xs) r = ap (λ (ps : List (ℕ × ℕ)). adds_along x.commodity x.path ++ ps) (adds-of-push xs r) ∙ sym (append_assoc (adds_along x.commodity x.path) (adds_of xs) (adds_along r.commodity r.path))
 
-pub group-more : (net : Network) (s s' : Searched) (ms : List ℕ) (i : ℕ) (v w x : View) → i < length ms → s' ≡ s → w ≡ with_work (adds_all (adds_of (routes_to net s (take i ms)))) v
-    → x ≡ with_work (adds_all (adds_along (get_or ms i 0) (known_path s' (to_at net (get_or ms i 0))))) w → x ≡ with_work (adds_all (adds_of (routes_to net s (take (i + 1) ms)))) v
+pub group-more : (net : Network) (s s' : Searched) (ms : List ℕ) (i : ℕ) (v w x : View) → i < length ms → s' ≡ s → HasAddedAll (adds_of (routes_to net s (take i ms))) v w
+    → HasAddedAll (adds_along (get_or ms i 0) (known_path s' (to_at net (get_or ms i 0)))) w x → HasAddedAll (adds_of (routes_to net s (take (i + 1) ms))) v x
 group-more net s s' ms i v w x l same before now =
     let k = get_or ms i 0 in
     let path = known_path s (to_at net k) in
-    let now' : x ≡ with_work (adds_all (adds_along k path)) w = subst (λ (s : Searched). x ≡ with_work (adds_all (adds_along k (known_path s (to_at net k)))) w) same now in
+    let now' : HasAddedAll (adds_along k path) w x = subst (λ (s : Searched). HasAddedAll (adds_along k (known_path s (to_at net k))) w x) same now in
     let more : adds_of (routes_to net s (take (i + 1) ms)) ≡ adds_of (routes_to net s (take i ms)) ++ adds_along k path =
     ap adds_of (routes-more net s ms i l) ∙ adds-of-push (routes_to net s (take i ms)) (record { commodity = k; path = path }) in
-    now' ∙ (adds_two (adds_of (routes_to net s (take i ms))) (adds_along k path) v w before ∙ ap (λ (ps : List (ℕ × ℕ)). with_work (adds_all ps) v) (sym more))
+    subst (λ (ps : List (ℕ × ℕ)). HasAddedAll ps v x) (sym more) (adds_two (adds_of (routes_to net s (take i ms))) (adds_along k path) v w x before now')
 
 pub routes-next : (net : Network) (s s' : Searched) (ms : List ℕ) (i : ℕ) (old before now : List Route) → i < length ms → s' ≡ s → before ≡ old ++ routes_to net s (take i ms)
     → now ≡ before ++ record { commodity = get_or ms i 0; path = known_path s' (to_at net (get_or ms i 0)) } ∷ [] → now ≡ old ++ routes_to net s (take (i + 1) ms)
@@ -239,8 +244,8 @@ before-below ms i l up = λ j d inside.
     any-default (x ∷ xs) (suc j) d e l = any-default xs j d e (omega arith)
 
 pub ready_next : (t : Terms) (net : Network) (s : Searched) (ms : List ℕ) (i : ℕ) (v w : View) → i < length ms → IsStrictlyIncreasing ms → OneWhere (IsReadyForAll t ms) v.hands
-    → w ≡ with_work (adds_all (adds_of (routes_to net s (take i ms)))) v → OneWhere (IsReadyFor t (get_or ms i 0)) w.hands
-ready_next t net s ms i v w l up one is = subst (λ (x : View). OneWhere (IsReadyFor t (get_or ms i 0)) x.hands) (sym is) (hands v.hands one)
+    → HasAddedAll (adds_of (routes_to net s (take i ms))) v w → OneWhere (IsReadyFor t (get_or ms i 0)) w.hands
+ready_next t net s ms i v w l up one is = subst (λ (x : View). OneWhere (IsReadyFor t (get_or ms i 0)) x.hands) (sym is.1) (hands v.hands one)
   where
     log : (es : List Entry) → LastWhere (IsReadyForAll t ms) es → LastWhere (IsReadyFor t (get_or ms i 0)) (more_adds (adds_of (routes_to net s (take i ms))) es)
     log [] h = absurd h
@@ -249,7 +254,7 @@ ready_next t net s ms i v w l up one is = subst (λ (x : View). OneWhere (IsRead
         let ps = adds_of (routes_to net s (take i ms)) in
         (h.0, m.0, m.1, subst (λ (qs : List (ℕ × ℕ)). All (λ (x : ℕ × ℕ). x.0 < get_or ms i 0) (qs ++ ps)) (sym h.1) (below-adds net s (get_or ms i 0) (take i ms) (before-below ms i l up)))
 
-    hands : (hs : List Hand) → OneWhere (IsReadyForAll t ms) hs → OneWhere (IsReadyFor t (get_or ms i 0)) (first_works (adds_all (adds_of (routes_to net s (take i ms)))) hs)
+    hands : (hs : List Hand) → OneWhere (IsReadyForAll t ms) hs → OneWhere (IsReadyFor t (get_or ms i 0)) (first_works (adds_all (adds_of (routes_to net s (take i ms))) is.0) hs)
     hands [] h = absurd h
     hands (x ∷ []) h = log x.work.log h
     hands (x ∷ y ∷ xs) h = absurd h

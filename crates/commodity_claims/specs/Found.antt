@@ -4,6 +4,7 @@ use Rattle.std.specs.Option.{option_map_or}
 use Rattle.flow_model.specs.declared.net.Cell.{Cell}
 use Rattle.flow_model.specs.declared.net.Commodity.{Commodity}
 use Rattle.flow_model.specs.Network.{Network}
+use Rattle.flow_model.specs.Groups.{members_of}
 use Rattle.flow_model.specs.Least.{AreDifferent, IsLeast}
 use Rattle.dijkstra_paths.specs.Searched.{Searched, path_at, dist_at, IsPath}
 use Rattle.commodity_claims.specs.Routes.{Route}
@@ -26,6 +27,10 @@ to_at net k = slice_index (map (λ (c : Commodity). c.to) net.commodities) k
 -- the routes that the search found for these commodities
 abbrev pub routes_to : Network → Searched → List ℕ → List Route
 routes_to net s members = map (λ k. record { commodity = k; path = known_path s (to_at net k) }) members
+
+-- the routes that the search found for a group
+abbrev pub group_routes : Network → Searched → ℕ → List Route
+group_routes net s g = routes_to net s (members_of net g)
 
 -- the search was from this node, under these lengths
 pub record IsSearch (cells : List Cell) (lengths : List ℕ) (from : ℕ) (s : Searched) : Type 0 where

@@ -4,6 +4,8 @@ use Rattle.flow_core.specs.declared.state.Entry.{Entry}
 use Rattle.flow_core.specs.declared.state.Worker.{Worker}
 use Rattle.flow_core.specs.Core.{Terms, entry, worker, cell_count, commodity_count, group_of}
 use Rattle.load_table.specs.declared.view.Hand.{Hand}
+use Rattle.load_table.specs.declared.view.View.{View}
+use Rattle.load_table.specs.Views.{with_work}
 use Rattle.commodity_claims.specs.Routes.{Route}
 
 -- of one worker alone, the fact holds of its last entry
@@ -34,19 +36,28 @@ put_reads reads [] = []
 put_reads reads (e ∷ es) = entry e.ticket reads e.adds ∷ es
 
 abbrev pub reads_all : List ℕ → Worker → Worker
-reads_all reads u = worker (put_reads reads u.log) u.stopped
+reads_all reads u = worker (put_reads reads u.log) u.stopped u.ticket u.found
 
 -- the last entry with these adds after its own
 abbrev pub more_adds : List (ℕ × ℕ) → List Entry → List Entry
 more_adds adds [] = []
 more_adds adds (e ∷ es) = entry e.ticket e.reads (e.adds ++ adds) ∷ es
 
-abbrev pub adds_all : List (ℕ × ℕ) → Worker → Worker
-adds_all adds u = worker (more_adds adds u.log) u.stopped
+-- the worker after these adds found these words
+abbrev pub adds_all : List (ℕ × ℕ) → List ℕ → Worker → Worker
+adds_all adds found u = worker (more_adds adds u.log) u.stopped u.ticket (u.found ++ found)
 
--- the last entry with these reads, and these adds after its own
-abbrev pub finishes : List ℕ → List (ℕ × ℕ) → Worker → Worker
-finishes reads adds u = worker (more_adds adds (put_reads reads u.log)) u.stopped
+-- the view after these adds, whatever words they found
+abbrev pub HasAddedAll : List (ℕ × ℕ) → View → View → Type 0
+HasAddedAll adds old new = (found : List ℕ) × (new ≡ with_work (adds_all adds found) old)
+
+-- the worker after these reads, and after these adds found these words
+abbrev pub finishes : List ℕ → List (ℕ × ℕ) → List ℕ → Worker → Worker
+finishes reads adds found u = worker (more_adds adds (put_reads reads u.log)) u.stopped u.ticket (u.found ++ found)
+
+-- the view after these reads and adds, whatever words the adds found
+abbrev pub HasFinished : List ℕ → List (ℕ × ℕ) → View → View → Type 0
+HasFinished reads adds old new = (found : List ℕ) × (new ≡ with_work (finishes reads adds found) old)
 
 -- the adds of a path
 abbrev pub adds_along : ℕ → List ℕ → List (ℕ × ℕ)

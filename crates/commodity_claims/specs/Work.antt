@@ -1,5 +1,5 @@
 -- The work of one worker.
-use Rattle.std.specs.Prelude.{◌≡◌, ℕ, Bool, true, false, List, [], ◌∷◌, map, reverse, flat_map}
+use Rattle.std.specs.Prelude.{◌≡◌, ℕ, Bool, not, List, [], ◌∷◌, map, reverse, flat_map}
 use Rattle.flow_model.specs.Network.{Network}
 use Rattle.flow_model.specs.Groups.{members_of}
 use Rattle.flow_core.specs.declared.state.Entry.{Entry}
@@ -18,10 +18,10 @@ routes_in net e = map (λ k. record { commodity = k; path = path_of k e.adds }) 
 abbrev pub routes_of : Network → List Entry → List Route
 routes_of net log = flat_map (routes_in net) (reverse log)
 
--- what a worker did: complete entries alone, with these routes, and it has stopped unless memory ended its work
+-- what a worker did: complete entries alone, with these routes, and it has stopped exactly where memory has not ended its work
 pub record IsWork (t : Terms) (memory : Bool) (routes : List Route) (u : Worker) : Type 0 where
   pub complete : AllComplete t u.log
-  pub stopped : memory ≡ false → u.stopped ≡ true
+  pub stopped : u.stopped ≡ not memory
   pub routes_are : routes ≡ routes_of t.net u.log
 
 -- what the work of worker n made of its view: the splits are as before, and the worker is still alone in it

@@ -5,7 +5,7 @@ ghost use Rattle.std.specs.List.Sorted.{IsStrictlyIncreasing};
 ghost use Rattle.flow_model.specs.Least.{AreDifferent};
 ghost use Rattle.load_table.specs.Seen.{IsPassOf};
 ghost use Rattle.load_table.specs.Views.{with_work};
-ghost use Rattle.commodity_claims.specs.Steps.{OneWhere, IsFresh, IsReadyFor, IsReadyForAll, reads_all, adds_all, adds_along, adds_of};
+ghost use Rattle.commodity_claims.specs.Steps.{OneWhere, IsFresh, IsReadyFor, IsReadyForAll, reads_all, HasAddedAll, adds_along, adds_of};
 ghost use Rattle.commodity_claims.specs.Found.{HasPath, known_path, routes_to, to_at};
 
 use crate::route_buffer::RouteBuffer;
@@ -39,7 +39,7 @@ pub(crate) fn add_path(loads: &Loads, pass: &mut Pass, k: u32, path: &[u16])
     requires inside { All (λ c. c < length loads.now.terms.net.cells) path.now }
     requires different { AreDifferent path.now }
     ensures of { IsPassOf loads.now pass.new }
-    ensures view { pass.new.view ≡ with_work (adds_all (adds_along k path.now)) pass.old.view }
+    ensures view { HasAddedAll (adds_along k path.now) pass.old.view pass.new.view }
 {
     for cell in path {
         loads.add_cell(pass, k, *cell);
@@ -64,7 +64,7 @@ pub(crate) fn route_member(
     requires paths { 0 < buffer.old.paths }
     requires cells { net.now.nodes ≤ buffer.old.cells }
     ensures of { IsPassOf loads.now pass.new }
-    ensures view { pass.new.view ≡ with_work (adds_all (adds_along k (known_path scratch.old (to_at net.now k)))) pass.old.view }
+    ensures view { HasAddedAll (adds_along k (known_path scratch.old (to_at net.now k))) pass.old.view pass.new.view }
     ensures scratch { scratch.new ≡ scratch.old }
     ensures routes { buffer.new.routes ≡ buffer.old.routes ++ record { commodity = k; path = known_path scratch.old (to_at net.now k) } ∷ [] }
     ensures paths { buffer.new.paths ≡ buffer.old.paths - 1 }
@@ -100,7 +100,7 @@ pub(crate) fn route_group(
     requires paths { length members.now ≤ buffer.old.paths }
     requires cells { length members.now * net.now.nodes ≤ buffer.old.cells }
     ensures of { IsPassOf loads.now pass.new }
-    ensures view { pass.new.view ≡ with_work (adds_all (adds_of (routes_to net.now scratch.old members.now))) pass.old.view }
+    ensures view { HasAddedAll (adds_of (routes_to net.now scratch.old members.now)) pass.old.view pass.new.view }
     ensures scratch { scratch.new ≡ scratch.old }
     ensures routes { buffer.new.routes ≡ buffer.old.routes ++ routes_to net.now scratch.old members.now }
 {

@@ -7,9 +7,9 @@ ghost use Rattle.flow_model.specs.Least.{HasNoCut};
 ghost use Rattle.flow_model.specs.Lengths.{IsSetting};
 ghost use Rattle.flow_core.specs.Core.{IsComplete, entry, idle};
 ghost use Rattle.load_table.specs.Seen.{IsPassOf};
-ghost use Rattle.load_table.specs.Views.{hand, with_work};
-ghost use Rattle.commodity_claims.specs.Steps.{OneWhere, IsClaimed, finishes, adds_of};
-ghost use Rattle.commodity_claims.specs.Found.{routes_to};
+ghost use Rattle.load_table.specs.Views.{hand};
+ghost use Rattle.commodity_claims.specs.Steps.{OneWhere, IsClaimed, HasFinished, adds_of};
+ghost use Rattle.commodity_claims.specs.Found.{routes_to, group_routes};
 ghost use Rattle.commodity_claims.specs.Work.{HasWorked, routes_in};
 
 use crate::route_buffer::RouteBuffer;
@@ -76,7 +76,7 @@ fn route_ticket(
     requires paths { length (members_of net.now g) ≤ buffer.old.paths }
     requires cells { length (members_of net.now g) * net.now.nodes ≤ buffer.old.cells }
     ensures of { IsPassOf loads.now pass.new }
-    ensures view { let routes = routes_to net.now scratch.new (members_of net.now g) in pass.new.view ≡ with_work (finishes reads.new.items (adds_of routes)) pass.old.view }
+    ensures view { HasFinished reads.new.items (adds_of (group_routes net.now scratch.new g)) pass.old.view pass.new.view }
     ensures complete { let routes = routes_to net.now scratch.new (members_of net.now g) in IsComplete loads.now.terms (entry g reads.new.items (adds_of routes)) }
     ensures routes { let routes = routes_to net.now scratch.new (members_of net.now g) in (buffer.new.routes ≡ buffer.old.routes ++ routes) × (routes ≡ routes_in net.now (entry g reads.new.items (adds_of routes))) }
     ensures table { (table.new.net ≡ table.old.net) × (table.new.setting ≡ table.old.setting) }

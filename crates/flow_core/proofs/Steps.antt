@@ -8,7 +8,7 @@ use mathlib.Core.Option.{some-ne-none}
 use Rattle.flow_core.specs.declared.state.Entry.{Entry}
 use Rattle.flow_core.specs.declared.state.Worker.{Worker}
 use Rattle.flow_core.specs.Core.{Terms, State, Event, claim, read, add, cell_count, ticket_count, group_of, commodity_count, amounts, amount_of, total, IsStart, entry, worker, idle, start, worker_at, is_pair, has, LastIsComplete, LastIsReading, LastMayAdd, IsLegal, with_read, with_add, next_cell, has_read, has_added, after_event, AreLegal, after_schedule}
-use Rattle.flow_core.specs.Laws.{one_if, entries_of, stops_of, times, Counts, IsFalling, AllComplete, PastIsComplete, Tickets, added_in, added_by, added, pairs_in, pairs, MembersOnly, AllMembers, Loads, ReadsFit, Reads, below, weigh}
+use Rattle.flow_core.specs.Laws.{one_if, entries_of, stops_of, stops_at, times, Counts, IsFalling, AllComplete, PastIsComplete, Tickets, added_in, added_by, added, pairs_in, pairs, MembersOnly, AllMembers, Loads, ReadsFit, Reads, below, weigh}
 use Rattle.flow_core.proofs.Sums.{total-set, total-at, total-snoc, total-replicate, get_or-replicate, length-replicate, each-set, get-snoc, once-more, upto, upto-le, below-more, below-upto, lift-nil, lift-cons, below-once, point}
 
 abbrev pub added_u : Terms → ℕ → Worker → ℕ
@@ -23,6 +23,7 @@ pub record Inv (t : Terms) (s : State) : Type 0 where
   pub workers : length s.workers ≡ t.workers
   pub claims : total entries_of s.workers + total stops_of s.workers ≡ s.claims
   pub entries : total entries_of s.workers ≡ min s.claims (ticket_count t)
+  pub stop_once : (n : ℕ) → ticket_count t ≤ n → total (stops_at n) s.workers ≡ one_if (nat_lt n s.claims)
   pub once : (n : ℕ) → total (times n) s.workers ≡ one_if (nat_lt n (given t s))
   pub falling : (w : ℕ) → w < length s.workers → IsFalling (given t s) (worker_at s w).log
   pub past : (w : ℕ) → w < length s.workers → PastIsComplete t (worker_at s w).log
@@ -260,6 +261,7 @@ reads_kept t s w i legal =
       workers = length-set s.workers w _ ∙ i.workers;
       claims = (let e = total-set entries_of s.workers w u' idle inside in let e' = read-length x u.log in let f = total-set stops_of s.workers w u' idle inside in let old = i.claims in omega arith);
       entries = (let e = total-set entries_of s.workers w u' idle inside in let e' = read-length x u.log in let old = i.entries in omega arith);
+      stop_once = λ n past. (let e = total-set (stops_at n) s.workers w u' idle inside in let old = i.stop_once n past in omega arith);
       once = λ n. (let e = total-set (times n) s.workers w u' idle inside in let e' = read-times x n u.log in let old = i.once n in omega arith);
       falling = each-set (λ (v : Worker). IsFalling (given t s) v.log) s.workers w u' idle (read-falls x (given t s) u.log (i.falling w inside)) i.falling;
       past = each-set (λ (v : Worker). PastIsComplete t v.log) s.workers w u' idle (read-past t x u.log (i.past w inside)) i.past;
@@ -281,7 +283,7 @@ reads_kept t s w i legal =
 adds_kept : (t : Terms) (s : State) (w k c : ℕ) → Inv t s → IsLegal t s (add w k c) → Inv t (after_event t s (add w k c))
 adds_kept t s w k c i legal =
     let u = worker_at s w in
-    let u' : Worker = has_added k c u in
+    let u' : Worker = has_added k c (get_or s.loads c 0) u in
     let loads' : List ℕ = set s.loads c (get_or s.loads c 0 + amount_of t k) in
     let inside = legal.0 in
     let there : c < length s.loads = (let a = legal.1 in let b = i.cells in omega arith) in
@@ -290,6 +292,7 @@ adds_kept t s w k c i legal =
       workers = length-set s.workers w _ ∙ i.workers;
       claims = (let e = total-set entries_of s.workers w u' idle inside in let e' = add-length k c u.log in let f = total-set stops_of s.workers w u' idle inside in let old = i.claims in omega arith);
       entries = (let e = total-set entries_of s.workers w u' idle inside in let e' = add-length k c u.log in let old = i.entries in omega arith);
+      stop_once = λ n past. (let e = total-set (stops_at n) s.workers w u' idle inside in let old = i.stop_once n past in omega arith);
       once = λ n. (let e = total-set (times n) s.workers w u' idle inside in let e' = add-times k c n u.log in let old = i.once n in omega arith);
       falling = each-set (λ (v : Worker). IsFalling (given t s) v.log) s.workers w u' idle (add-falls k c (given t s) u.log (i.falling w inside)) i.falling;
       past = each-set (λ (v : Worker). PastIsComplete t v.log) s.workers w u' idle (add-past t k c u.log (i.past w inside)) i.past;
@@ -304,14 +307,17 @@ adds_kept t s w k c i legal =
 
 -- a claim that gives a ticket, and one past the end
 
+none-below : (n m : ℕ) → m ≤ n → one_if (nat_lt n m) ≡ 0
+none-below n m l = grind (arith, nat_tests)
+
 new_times : (n k : ℕ) (u : Worker) → total (λ (e : Entry). one_if (nat_eq n e.ticket)) (entry k [] [] ∷ u.log) ≡ one_if (nat_eq n k) + times n u
 new_times n k u = refl
 
 gives_ticket : (t : Terms) (s : State) (w : ℕ) → Inv t s → IsLegal t s (claim w) → s.claims < ticket_count t
-    → Inv t record { claims = s.claims + 1; loads = s.loads; workers = set s.workers w (worker (entry s.claims [] [] ∷ (worker_at s w).log) (worker_at s w).stopped) }
+    → Inv t record { claims = s.claims + 1; loads = s.loads; workers = set s.workers w (worker (entry s.claims [] [] ∷ (worker_at s w).log) (worker_at s w).stopped s.claims (worker_at s w).found) }
 gives_ticket t s w i legal more =
     let u = worker_at s w in
-    let u' : Worker = worker (entry s.claims [] [] ∷ u.log) u.stopped in
+    let u' : Worker = worker (entry s.claims [] [] ∷ u.log) u.stopped s.claims u.found in
     let inside = legal.0 in
     let now : min s.claims (ticket_count t) ≡ s.claims = omega arith in
     let next : min (s.claims + 1) (ticket_count t) ≡ s.claims + 1 = omega arith in
@@ -319,6 +325,12 @@ gives_ticket t s w i legal more =
       workers = length-set s.workers w _ ∙ i.workers;
       claims = (let e = total-set entries_of s.workers w u' idle inside in let f = total-set stops_of s.workers w u' idle inside in let old = i.claims in omega arith);
       entries = (let e = total-set entries_of s.workers w u' idle inside in let old = i.entries in omega arith);
+      stop_once = λ n past. (let e = total-set (stops_at n) s.workers w u' idle inside in let old = i.stop_once n past in
+          let before : stops_at n u ≡ 0 = ap (λ (b : Bool). one_if (b && nat_eq n u.ticket)) legal.1 in
+          let after : stops_at n u' ≡ 0 = ap (λ (b : Bool). one_if (b && nat_eq n s.claims)) legal.1 in
+          let none_now = none-below n s.claims (omega arith) in
+          let none_next = none-below n (s.claims + 1) (omega arith) in
+          omega arith);
       once = λ n. (let e = total-set (times n) s.workers w u' idle inside in
           let old : total (times n) s.workers ≡ one_if (nat_lt n s.claims) = i.once n ∙ ap (λ (m : ℕ). one_if (nat_lt n m)) now in
           let more_once = once-more n s.claims in
@@ -340,10 +352,10 @@ gives_ticket t s w i legal more =
     }
 
 gives_none : (t : Terms) (s : State) (w : ℕ) → Inv t s → IsLegal t s (claim w) → ticket_count t ≤ s.claims
-    → Inv t record { claims = s.claims + 1; loads = s.loads; workers = set s.workers w (worker (worker_at s w).log true) }
+    → Inv t record { claims = s.claims + 1; loads = s.loads; workers = set s.workers w (worker (worker_at s w).log true s.claims (worker_at s w).found) }
 gives_none t s w i legal past_end =
     let u = worker_at s w in
-    let u' : Worker = worker u.log true in
+    let u' : Worker = worker u.log true s.claims u.found in
     let inside = legal.0 in
     let same : min s.claims (ticket_count t) ≡ min (s.claims + 1) (ticket_count t) = omega arith in
     let went_on : stops_of u ≡ 0 = ap one_if legal.1 in
@@ -351,6 +363,10 @@ gives_none t s w i legal past_end =
       workers = length-set s.workers w _ ∙ i.workers;
       claims = (let e = total-set entries_of s.workers w u' idle inside in let f = total-set stops_of s.workers w u' idle inside in let old = i.claims in omega arith);
       entries = (let e = total-set entries_of s.workers w u' idle inside in let old = i.entries in omega arith);
+      stop_once = λ n past. (let e = total-set (stops_at n) s.workers w u' idle inside in let old = i.stop_once n past in
+          let before : stops_at n u ≡ 0 = ap (λ (b : Bool). one_if (b && nat_eq n u.ticket)) legal.1 in
+          let more_once = once-more n s.claims in
+          omega arith);
       once = λ n. (let e = total-set (times n) s.workers w u' idle inside in
           let old = i.once n in
           let goal : total (times n) (set s.workers w u') ≡ one_if (nat_lt n (given t s)) = omega arith in
@@ -373,7 +389,7 @@ claims_kept : (t : Terms) (s : State) (w : ℕ) → Inv t s → IsLegal t s (cla
 claims_kept t s w i legal = by_test (nat_lt s.claims (ticket_count t)) refl
   where
     by_test : (b : Bool) → nat_lt s.claims (ticket_count t) ≡ b
-        → Inv t record { claims = s.claims + 1; loads = s.loads; workers = set s.workers w (if b then worker (entry s.claims [] [] ∷ (worker_at s w).log) (worker_at s w).stopped else worker (worker_at s w).log true) }
+        → Inv t record { claims = s.claims + 1; loads = s.loads; workers = set s.workers w (if b then worker (entry s.claims [] [] ∷ (worker_at s w).log) (worker_at s w).stopped s.claims (worker_at s w).found else worker (worker_at s w).log true s.claims (worker_at s w).found) }
     by_test true e = gives_ticket t s w i legal (grind (arith, nat_tests))
     by_test false e = gives_none t s w i legal (grind (arith, nat_tests))
 
@@ -391,6 +407,7 @@ Inv-start t h = record {
   workers = length-replicate t.workers idle;
   claims = (let a = total-replicate entries_of t.workers idle refl in let b = total-replicate stops_of t.workers idle refl in omega arith);
   entries = (let a = total-replicate entries_of t.workers idle refl in omega arith);
+  stop_once = λ n _. (let a = total-replicate (stops_at n) t.workers idle refl in a ∙ none n 0 refl);
   once = λ n. (let a = total-replicate (times n) t.workers idle refl in a ∙ none n (min 0 (ticket_count t)) (omega arith));
   falling = λ w _. subst (λ (v : Worker). IsFalling (given t (start t)) v.log) (sym (get_or-replicate t.workers w idle)) tt;
   past = λ w _. subst (λ (v : Worker). PastIsComplete t v.log) (sym (get_or-replicate t.workers w idle)) tt;
@@ -412,7 +429,7 @@ counts_of t s i =
     let all = i.workers in
     let sum = i.claims in
     let some_of = i.entries in
-    record { workers = i.workers; claims = i.claims; entries = i.entries; few = omega arith; stop_past_end = λ stop. omega arith }
+    record { workers = i.workers; claims = i.claims; entries = i.entries; few = omega arith; stop_past_end = λ stop. omega arith; stop_once = i.stop_once }
   where
     stop-le : (u : Worker) → stops_of u ≤ 1
     stop-le u = elim u.stopped as (λ b. one_if b ≤ 1) [ true ↦ omega arith | false ↦ omega arith ]

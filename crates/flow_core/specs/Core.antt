@@ -9,6 +9,7 @@ use Rattle.flow_model.specs.Least.{IsLeastWalk, AreDifferent}
 use Rattle.mcf_limits.specs.declared.TheConstants.{MAX_LENGTH, MAX_WORKERS}
 use Rattle.flow_core.specs.declared.state.Entry.{Entry}
 use Rattle.flow_core.specs.declared.state.Worker.{Worker}
+use Rattle.flow_core.specs.declared.state.Words.{Words}
 
 -- what a phase starts from
 pub record Terms : Type 0 where
@@ -46,10 +47,8 @@ pub record IsStart (t : Terms) : Type 0 where
   pub some_worker : 0 < t.workers
   pub few_workers : t.workers ≤ MAX_WORKERS
 
-pub record State : Type 0 where
-  pub claims : ℕ
-  pub loads : List ℕ
-  pub workers : List Worker
+abbrev pub State : Type 0
+State = Words
 
 pub data Event : Type 0 where
   claim : ℕ → Event
@@ -59,11 +58,11 @@ pub data Event : Type 0 where
 abbrev pub entry : ℕ → List ℕ → List (ℕ × ℕ) → Entry
 entry k reads adds = record { ticket = k; reads = reads; adds = adds }
 
-abbrev pub worker : List Entry → Bool → Worker
-worker log stopped = record { log = log; stopped = stopped }
+abbrev pub worker : List Entry → Bool → ℕ → List ℕ → Worker
+worker log stopped ticket found = record { log = log; stopped = stopped; ticket = ticket; found = found }
 
 abbrev pub idle : Worker
-idle = worker [] false
+idle = worker [] false 0 []
 
 abbrev pub start : Terms → State
 start t = record { claims = 0; loads = t.base; workers = replicate t.workers idle }
@@ -121,7 +120,7 @@ IsLegal t s (add w k c) = (w < length s.workers) × (c < cell_count t) × LastMa
 
 -- the worker after a claim found this ticket
 abbrev pub claimed : ℕ → ℕ → Worker → Worker
-claimed count ticket u = if nat_lt ticket count then worker (entry ticket [] [] ∷ u.log) u.stopped else worker u.log true
+claimed count ticket u = if nat_lt ticket count then worker (entry ticket [] [] ∷ u.log) u.stopped ticket u.found else worker u.log true ticket u.found
 
 abbrev pub with_read : ℕ → List Entry → List Entry
 with_read x [] = []
@@ -136,16 +135,18 @@ abbrev pub next_cell : List Entry → ℕ
 next_cell [] = 0
 next_cell (e ∷ es) = length e.reads
 
+-- the worker after it read x
 abbrev pub has_read : ℕ → Worker → Worker
-has_read x u = worker (with_read x u.log) u.stopped
+has_read x u = worker (with_read x u.log) u.stopped u.ticket u.found
 
-abbrev pub has_added : ℕ → ℕ → Worker → Worker
-has_added k c u = worker (with_add k c u.log) u.stopped
+-- the worker after its add of c for k found x
+abbrev pub has_added : ℕ → ℕ → ℕ → Worker → Worker
+has_added k c x u = worker (with_add k c u.log) u.stopped u.ticket (u.found ++ x ∷ [])
 
 abbrev pub after_event : Terms → State → Event → State
 after_event t s (claim w) = record { claims = s.claims + 1; loads = s.loads; workers = slice_set s.workers w (claimed (ticket_count t) s.claims (worker_at s w)) }
 after_event t s (read w) = record { claims = s.claims; loads = s.loads; workers = slice_set s.workers w (has_read (slice_index s.loads (next_cell (worker_at s w).log)) (worker_at s w)) }
-after_event t s (add w k c) = record { claims = s.claims; loads = slice_set s.loads c (slice_index s.loads c + amount_of t k); workers = slice_set s.workers w (has_added k c (worker_at s w)) }
+after_event t s (add w k c) = record { claims = s.claims; loads = slice_set s.loads c (slice_index s.loads c + amount_of t k); workers = slice_set s.workers w (has_added k c (slice_index s.loads c) (worker_at s w)) }
 
 -- a schedule: each event is legal where it comes
 abbrev pub AreLegal : Terms → State → List Event → Type 0
@@ -156,3 +157,7 @@ AreLegal t s (e ∷ es) = IsLegal t s e × AreLegal t (after_event t s e) es
 abbrev pub after_schedule : Terms → State → List Event → State
 after_schedule t s [] = s
 after_schedule t s (e ∷ es) = after_schedule t (after_event t s e) es
+
+-- some schedule leads from one state to the other
+abbrev pub Leads : Terms → State → State → Type 0
+Leads t from to = (es : List Event) × AreLegal t from es × (after_schedule t from es ≡ to)

@@ -1,5 +1,5 @@
 -- What holds after every list of legal events.
-use Rattle.std.specs.Prelude.{◌≡◌, ℕ, zero, suc, ◌+◌, ◌<◌, ◌≤◌, ◌==◌, nat_lt, min, Bool, if◌then◌else◌, List, [], ◌∷◌, length, slice_index}
+use Rattle.std.specs.Prelude.{◌≡◌, ℕ, zero, suc, ◌+◌, ◌<◌, ◌≤◌, ◌==◌, ◌&&◌, nat_lt, min, Bool, if◌then◌else◌, List, [], ◌∷◌, length, slice_index}
 use mathlib.Core.Option.{some}
 use lib.ListN.{get_elem?}
 use Rattle.mcf_limits.specs.declared.TheConstants.{MAX_LENGTH}
@@ -16,6 +16,10 @@ entries_of u = length u.log
 abbrev pub stops_of : Worker → ℕ
 stops_of u = one_if u.stopped
 
+-- whether the worker stopped at this word
+abbrev pub stops_at : ℕ → Worker → ℕ
+stops_at n u = one_if (u.stopped && (n == u.ticket))
+
 -- how many entries have the ticket
 abbrev pub times : ℕ → Worker → ℕ
 times n u = total (λ (e : Entry). one_if (n == e.ticket)) u.log
@@ -26,6 +30,7 @@ pub record Counts (t : Terms) (s : State) : Type 0 where
   pub entries : total entries_of s.workers ≡ min s.claims (ticket_count t)
   pub few : s.claims ≤ ticket_count t + t.workers
   pub stop_past_end : 0 < total stops_of s.workers → ticket_count t < s.claims
+  pub stop_once : (n : ℕ) → ticket_count t ≤ n → total (stops_at n) s.workers ≡ one_if (nat_lt n s.claims)
 
 -- the newest first, each below the one before it and below n
 abbrev pub IsFalling : ℕ → List Entry → Type 0

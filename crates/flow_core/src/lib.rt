@@ -8,7 +8,7 @@ ghost use Rattle.flow_core.specs.Phase.{EachIsComplete, HasStopped, IsFinished};
 
 mod state;
 
-pub use state::{Entry, Worker};
+pub use state::{Entry, Words, Worker};
 
 /// The claims are the entries and the stops, and a stop comes only after all tickets.
 pub fn counts()

@@ -1,16 +1,20 @@
 //! Loads, hands and history, from phase to phase.
 
-ghost use Rattle.std.specs.Prelude.{◌≡◌, ℕ, ◌+◌, ◌*◌, ◌<◌, ◌≤◌, [], IfOk, OnOk, All, length, replicate};
+ghost use Rattle.std.specs.Prelude.{◌≡◌, ℕ, ◌+◌, ◌*◌, ◌<◌, ◌≤◌, [], IfOk, OnOk, All, None, length, replicate, slice_index_or};
 ghost use Rattle.flow_model.specs.Least.{HasNoCut};
 ghost use Rattle.flow_model.specs.Lengths.{IsSetting, lengths_of};
 ghost use Rattle.flow_paths.specs.Certificate.{upper_of};
 ghost use Rattle.dual_bound.specs.Bounds.{IsBoundOf, ShowsBound};
+ghost use Rattle.flow_core.specs.Core.{IsStart};
+ghost use Rattle.phase_engine.specs.Hands.{IsFresh, AreSameWorkers};
+ghost use Rattle.phase_engine.specs.Routing.{IsRoutedPhase};
 ghost use Rattle.flow_solver.specs.Search.{HasRouted, IsSearch, phase_count};
 
 use crate::hands::{forget_all, new_hands};
 use dual_bound::{Bounded, bound};
 use fixed_exp::Powers;
 use flow_model::{Groups, Net, Setting};
+use load_table::Loads;
 use mcf_base::Gate;
 use mcf_limits::{MAX_LENGTH, MAX_PHASES, MAX_WORK, MAX_WORKERS};
 use net_graph::Graph;
@@ -53,6 +57,38 @@ pub fn new_search(alloc: Global, net: &Net, workers: u16) -> Result<Search, Allo
     })
 }
 
+/// One phase over words of its own. `Err` is for want of memory.
+fn phase_over<G: Gate, R: Threads + Sync>(
+    rt: &R,
+    alloc: Global,
+    net: &Net,
+    groups: &Groups,
+    graph: &Graph,
+    powers: &Powers,
+    setting: Setting,
+    loads: &mut [u64],
+    hands: &mut [Hand],
+    gate: &G,
+) -> Result<(), AllocError>
+    requires start { IsStart record { net = net.now; setting = setting; base = loads.old; workers = length hands.old } }
+    requires groups { groups.now ≡ net.now }
+    requires graph { graph.now ≡ net.now }
+    requires setting { IsSetting setting }
+    requires no_cut { HasNoCut net.now }
+    requires fresh { (k : ℕ) (d : _) → k < length hands.old → IsFresh net.now.nodes k (slice_index_or hands.old k d) }
+    ensures ok { OnOk result (IsRoutedPhase net.now setting loads.old loads.new hands.new) }
+    ensures back { AreSameWorkers hands.old hands.new }
+    ensures turns { (k : ℕ) (d : _) → k < length hands.old → (slice_index_or hands.new k d).turn ≡ None }
+{
+    let shared = Loads::new(alloc, net, groups, setting, loads, hands.len() as u16)?;
+    match phase(
+        rt, alloc, net, groups, graph, powers, setting, shared, loads, hands, gate,
+    ) {
+        Ok(()) => Ok(()),
+        Err(_) => Err(AllocError),
+    }
+}
+
 /// One phase more. `Err` is for want of memory, and then the search can't go on.
 pub fn route<G: Gate, R: Threads + Sync>(
     rt: &R,
@@ -77,7 +113,7 @@ pub fn route<G: Gate, R: Threads + Sync>(
 {
     let _commodities = net.commodities();
     forget_all(&mut search.hands);
-    phase(
+    phase_over(
         rt,
         alloc,
         net,

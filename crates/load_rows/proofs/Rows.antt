@@ -21,9 +21,9 @@ complete t g reads adds all found = record {
   members = λ k commodity at same. (let l = found k (inside t.net.commodities k commodity at) same in record { least = l.least commodity at; different = l.different });
 }
 
-pub may-claim-again : (t : Terms) (n g : ℕ) (hands : List Hand) (reads : List ℕ) (adds : List (ℕ × ℕ)) → hands ≡ hand n (worker (entry g reads adds ∷ []) false) ∷ [] → length reads ≡ cell_count t
+pub may-claim-again : (t : Terms) (n g : ℕ) (hands : List Hand) (reads : List ℕ) (adds : List (ℕ × ℕ)) (ticket : ℕ) (words : List ℕ) → hands ≡ hand n (worker (entry g reads adds ∷ []) false ticket words) ∷ [] → length reads ≡ cell_count t
     → ((k : ℕ) → k < commodity_count t → group_of t k ≡ g → IsLeastPath t.net t.setting reads k (path_of k adds)) → MayClaim t hands
-may-claim-again t n g hands reads adds is all found = subst (MayClaim t) (sym is) (refl, complete t g reads adds all found)
+may-claim-again t n g hands reads adds ticket words is all found = subst (MayClaim t) (sym is) (refl, complete t g reads adds all found)
 
 -- where there is one commodity, or two
 pub one-case : (P : ℕ → Type 0) (n : ℕ) → n ≡ 1 → P 0 → (k : ℕ) → k < n → P k

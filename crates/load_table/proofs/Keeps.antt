@@ -11,21 +11,21 @@ use Rattle.atomic_table.proofs.Lists.{at_set, at_snoc}
 use Rattle.flow_core.specs.declared.state.Entry.{Entry}
 use Rattle.flow_core.specs.declared.state.Worker.{Worker}
 use Rattle.flow_core.specs.Core as core
-use Rattle.flow_core.specs.Core.{Terms, Event, claim, read, add, IsLegal, AreLegal, start, after_event, after_schedule, worker, worker_at, idle, IsStart, total, cell_count, ticket_count, commodity_count, amounts, amount_of, LastIsComplete, LastIsReading, LastMayAdd, claimed, has_read, has_added, next_cell}
+use Rattle.flow_core.specs.Core.{Terms, Event, claim, read, add, IsLegal, AreLegal, Leads, start, after_event, after_schedule, worker, worker_at, idle, IsStart, total, cell_count, ticket_count, commodity_count, amounts, amount_of, LastIsComplete, LastIsReading, LastMayAdd, claimed, has_read, has_added, next_cell}
 use Rattle.flow_core.specs.Laws.{one_if, IsFalling, added}
 use Rattle.mcf_limits.specs.declared.TheConstants.{MAX_LENGTH}
 use Rattle.flow_core.proofs.Members.{few-groups}
 use Rattle.flow_core.proofs.Sums.{total-set, once-more, get_or-replicate, length-replicate}
-use Rattle.flow_core.proofs.Steps.{laws, falls-more, counts_of, loads_of}
+use Rattle.flow_core.proofs.Steps.{Inv, laws, falls-more, counts_of, loads_of}
 use Rattle.load_table.specs.declared.view.Hand.{Hand}
-use Rattle.load_table.specs.declared.view.View.{View}
-use Rattle.load_table.specs.Views.{first_view, times_in, hands_of, made_of, splits_of, first_works, with_work, cut, cut_off, joined, spent}
+use Rattle.load_table.specs.declared.view.Known.{Known}
+use Rattle.load_table.specs.Views.{known, first_known, times_in, hands_of, made_of, splits_of, first_works, with_work, keeps_known, cuts_known, joins_known, spent_known}
 use Rattle.flow_model.specs.declared.net.Commodity.{Commodity}
-use Rattle.load_table.specs.Rule.{AllFallBelow, AllFit, FitsView, Kept, WasWord, M, Claimed, HasRead, Added, MayClaim, LastReads, MayRead, MayAdd, MayClose, Closes}
+use Rattle.load_table.specs.Rule.{AllFallBelow, AllFit, FitsView, Kept, IsStep, M, Claimed, HasRead, Added, MayClaim, LastReads, MayRead, MayAdd, MayClose, Closes}
 use Rattle.load_table.proofs.Totals.{total-put, total-snoc, total-append, total-of, total-two, total-whole, same_lists}
 
 abbrev St : Type 0
-St = State (Unit {0}) View
+St = State (Unit {0}) Known
 
 -- one more event
 
@@ -36,6 +36,16 @@ schedule-snoc t s (d ∷ es) e = schedule-snoc t (after_event t s d) es e
 AreLegal-snoc : (t : Terms) (s : core.State) (es : List Event) (e : Event) → AreLegal t s es → IsLegal t (after_schedule t s es) e → AreLegal t s (es ++ e ∷ [])
 AreLegal-snoc t s [] e legal now = (now, tt)
 AreLegal-snoc t s (d ∷ es) e legal now = (legal.0, AreLegal-snoc t (after_event t s d) es e legal.1 now)
+
+leads-more : (t : Terms) (a s : core.State) (e : Event) → Leads t a s → IsLegal t s e → Leads t a (after_event t s e)
+leads-more t a s e l now = (l.0 ++ e ∷ [], AreLegal-snoc t a l.0 e l.1 (subst (λ (x : core.State). IsLegal t x e) (sym l.2) now), schedule-snoc t a l.0 e ∙ ap (λ (x : core.State). after_event t x e) l.2)
+
+leads-on : (t : Terms) (a b c : core.State) → Leads t a b → Leads t b c → Leads t a c
+leads-on t a b c l m = go l.0 a l.1 l.2
+  where
+    go : (es : List Event) (x : core.State) → AreLegal t x es → after_schedule t x es ≡ b → Leads t x c
+    go [] x legal is = subst (λ (y : core.State). Leads t y c) (sym is) m
+    go (e ∷ es) x legal is = let r = go es (after_event t x e) legal.1 is in (e ∷ r.0, (legal.0, r.1), r.2)
 
 -- hands fit on where another worker gets on
 
@@ -69,17 +79,17 @@ record Moves (t : Terms) (s : core.State) (e : Event) (w : ℕ) (u : Worker) : T
   legal : IsLegal t s e
   workers : (after_event t s e).workers ≡ set s.workers w u
 
-moved : (t : Terms) (s : St) (k : Kept t s) (id : ℕ) (v : View) (h : Hand) (f : Worker → Worker) (e : Event) (words : List ℕ)
-    → get_elem? s.views id ≡ some v → v.hands ≡ h ∷ [] → v.terms ≡ t → h.number < length (after_schedule t (start t) k.events).workers
+moved : (t : Terms) (s : St) (k : Kept t s) (id : ℕ) (v : Known) (h : Hand) (f : Worker → Worker) (e : Event) (words : List ℕ)
+    → get_elem? s.views id ≡ some v → v.view.hands ≡ h ∷ [] → v.view.terms ≡ t → h.number < length (after_schedule t (start t) k.events).workers
     → Moves t (after_schedule t (start t) k.events) e h.number (f h.work) → words ≡ (after_event t (after_schedule t (start t) k.events) e).claims ∷ (after_event t (after_schedule t (start t) k.events) e).loads
-    → Kept t record { words = words; homes = s.homes; views = set s.views id (with_work f v) }
+    → Kept t record { words = words; homes = s.homes; views = set s.views id (known (with_work f v.view) (after_event t (after_schedule t (start t) k.events) e)) }
 moved t s k id v h f e words at alone same inside m words_are =
     let old : core.State = after_schedule t (start t) k.events in
-    let w : View = with_work f v in
+    let w : Known = known (with_work f v.view) (after_event t old e) in
     let last = schedule-snoc t (start t) k.events e in
     let made = total-put made_of s.views id v w at in
     let same_made : total made_of (set s.views id w) ≡ total made_of s.views = omega arith in
-    let own_times : (n : ℕ) → times_in n w ≡ times_in n v = λ n. times-first_works f n v.hands in
+    let own_times : (n : ℕ) → times_in n w ≡ times_in n v = λ n. times-first_works f n v.view.hands in
     let others : (j : ℕ) → j ≢ h.number → worker_at (after_event t old e) j ≡ worker_at old j =
     λ j apart. ap (λ (us : List Worker). get_or us j idle) m.workers ∙ get_or-set_other old.workers h.number j (f h.work) idle apart in
     let mine : worker_at (after_event t old e) h.number ≡ f h.work =
@@ -92,7 +102,7 @@ moved t s k id v h f e words at alone same inside m words_are =
       legal = AreLegal-snoc t (start t) k.events e k.legal m.legal;
       words = words_are ∙ ap (λ (c : core.State). c.claims ∷ c.loads) (sym last);
       splits = (let a = total-put splits_of s.views id v w at in let b = k.splits in omega arith);
-      hands = (let a = total-put hands_of s.views id v w at in let l = length-first_works f v.hands in let b = k.hands in omega arith);
+      hands = (let a = total-put hands_of s.views id v w at in let l = length-first_works f v.view.hands in let b = k.hands in omega arith);
       once = λ n. (let a = total-put (times_in n) s.views id v w at in let l = own_times n in let b = k.once n in
           let c : total (times_in n) (set s.views id w) ≡ one_if (nat_lt n (total made_of s.views + 1)) = omega arith in
           c ∙ ap (λ (m : ℕ). one_if (nat_lt n (m + 1))) (sym same_made));
@@ -101,6 +111,7 @@ moved t s k id v h f e words at alone same inside m words_are =
             terms = λ _. same;
             splits = (k.fits id v at).splits;
             works = subst (λ (hs : List Hand). AllFit (after_event t old e) (first_works f hs)) (sym alone) ((subst (λ (n : ℕ). h.number < n) (sym as_long) inside, mine), tt);
+            seen = λ _. (leads-more t (start t) old e (k.events, k.legal, refl) m.legal, ([], tt, refl));
           })
           (λ (x : (j ≢ id) × (get_elem? s.views j ≡ some u)).
           let two = total-two (times_in h.number) s.views j id u v x.1 at x.0 in
@@ -109,10 +120,11 @@ moved t s k id v h f e words at alone same inside m words_are =
           record {
             terms = (k.fits j u x.1).terms;
             splits = (k.fits j u x.1).splits;
-            works = fits-on old (after_event t old e) h.number u.hands as_long others (let z : times_in h.number u ≡ 0 = omega arith in z) (k.fits j u x.1).works;
+            works = fits-on old (after_event t old e) h.number u.view.hands as_long others (let z : times_in h.number u ≡ 0 = omega arith in z) (k.fits j u x.1).works;
+            seen = λ of. (let was_seen = (k.fits j u x.1).seen of in (was_seen.0, leads-more t u.seen old e was_seen.1 m.legal));
           })
           (at_set s.views id j w u is));
-      fresh = λ n more. ap (λ (c : core.State). worker_at c n) last ∙ (others n (apart n h.number v.hands alone one (k.once h.number) (total-of (times_in h.number) s.views id v at) (omega arith)) ∙ k.fresh n (omega arith));
+      fresh = λ n more. ap (λ (c : core.State). worker_at c n) last ∙ (others n (apart n h.number v.view.hands alone one (k.once h.number) (total-of (times_in h.number) s.views id v at) (omega arith)) ∙ k.fresh n (omega arith));
     }
   where
     one-le : (b : Bool) → one_if b ≤ 1
@@ -122,15 +134,25 @@ moved t s k id v h f e words at alone same inside m words_are =
     apart : (n w : ℕ) (hs : List Hand) → hs ≡ h ∷ [] → times_in w v ≡ 1 → total (times_in w) s.views ≡ one_if (nat_lt w (total made_of s.views + 1)) → times_in w v ≤ total (times_in w) s.views → total made_of s.views < n → n ≢ w
     apart n w hs is one all part more same = absurd (let past : nat_lt w (total made_of s.views + 1) ≡ false = grind (arith, nat_tests) in let z : one_if (nat_lt w (total made_of s.views + 1)) ≡ 0 = ap one_if past in omega arith)
 
--- what a view knows of the words
+-- what a step tells
 
-was : (t : Terms) (s : St) (k : Kept t s) (id : ℕ) (v : View) (i : ℕ) → get_elem? s.views id ≡ some v → v.terms ≡ t → WasWord v.terms v.hands i (get_or s.words i 0)
-was t s k id v i at same = subst (λ (u : Terms). WasWord u v.hands i (get_or s.words i 0)) (sym same) record {
-  events = k.events;
-  legal = k.legal;
-  found_there = ap (λ (ws : List ℕ). get_or ws i 0) (sym k.words);
-  works = (k.fits id v at).works;
-}
+stepped_so : (t : Terms) (s : St) (k : Kept t s) (id : ℕ) (v : Known) (h : Hand) (event : ℕ → Event) (i : ℕ) → get_elem? s.views id ≡ some v → v.view.hands ≡ h ∷ [] → v.view.terms ≡ t
+    → IsLegal t (after_schedule t (start t) k.events) (event h.number)
+    → IsStep v.view.terms v.view.hands v.seen (after_event t (after_schedule t (start t) k.events) (event h.number)) event i (get_or s.words i 0)
+stepped_so t s k id v h event i at alone same legal =
+    let old : core.State = after_schedule t (start t) k.events in
+    let fit = k.fits id v at in
+    let seen = fit.seen same in
+    let P : Terms × List Hand → Type 0 = λ x. IsStep x.0 x.1 v.seen (after_event t old (event h.number)) event i (get_or s.words i 0) in
+    subst P (λ j. (sym same j, sym alone j)) record {
+      from = seen.0;
+      before = old;
+      since = seen.1;
+      found_there = ap (λ (ws : List ℕ). get_or ws i 0) (sym k.words);
+      works = subst (AllFit old) alone fit.works;
+      legal = legal;
+      now_is = refl;
+    }
 
 -- the claim
 
@@ -143,9 +165,9 @@ claim_moves t s count found h c f inside is going complete = record {
 
 -- the seat can take the step in this state: what `Allows` asks there
 abbrev Can : Terms → St → ℕ → M → ℕ → ℕ → (M → Type 0) → Type 0
-Can t s id me i n then = (w : View) × (a : Act (Unit {0})) × Valid s.homes me.1 a × Kept t (stepped s i n id me.1 w a) × then (w, carried_after me.1 a)
+Can t s id me i n then = (w : Known) × (a : Act (Unit {0})) × Valid s.homes me.1 a × Kept t (stepped s i n id me.1 w a) × then (w, carried_after me.1 a)
 
-claims_of : (t : Terms) (slots id : ℕ) (me : M) (s : St) (k : Kept t s) → get_elem? s.views id ≡ some me.0 → me.0.terms ≡ t → (hs : List Hand) → me.0.hands ≡ hs → MayClaim t hs
+claims_of : (t : Terms) (slots id : ℕ) (me : M) (s : St) (k : Kept t s) → get_elem? s.views id ≡ some me.0 → me.0.view.terms ≡ t → (hs : List Hand) → me.0.view.hands ≡ hs → MayClaim t hs
     → Can t s id me 0 ((get_or s.words 0 0 + 1) % 18446744073709551616) (Claimed (step slots 0 1 0 none) me (get_or s.words 0 0))
 claims_of t slots id me s k at same [] is may = absurd may
 claims_of t slots id me s k at same (h ∷ i ∷ hs) is may = absurd may
@@ -157,14 +179,19 @@ claims_of t slots id me s k at same (h ∷ []) is may =
     let fit : AllFit old (h ∷ []) = subst (AllFit old) is (k.fits id v at).works in
     let law = counts_of t old (laws t k.events k.is_start k.legal) in
     let small : (x + 1) % 18446744073709551616 ≡ x + 1 = (let a = law.few in let b = few-groups t.net k.is_start.net in let d = k.is_start.few_workers in omega arith) in
-    let f : Worker → Worker = claimed (ticket_count v.terms) x in
-    let m = claim_moves t old (ticket_count v.terms) x h (ap ticket_count same) found fit.0.0 fit.0.1 may.0 may.1 in
+    let f : Worker → Worker = claimed (ticket_count v.view.terms) x in
+    let m = claim_moves t old (ticket_count v.view.terms) x h (ap ticket_count same) found fit.0.0 fit.0.1 may.0 may.1 in
     let words : set s.words 0 ((x + 1) % 18446744073709551616) ≡ (old.claims + 1) ∷ old.loads =
-    ap (λ (n : ℕ). set s.words 0 n) small ∙ (ap (λ (ws : List ℕ). set ws 0 (x + 1)) k.words ∙ ap (λ (n : ℕ). (n + 1) ∷ old.loads) found) in
-    (with_work f v, keeps, tt, moved t s k id v h f (claim h.number) (set s.words 0 ((x + 1) % 18446744073709551616)) at is same fit.0.0 m words, (refl, was t s k id v 0 at same))
+    ap (λ (n : ℕ). set s.words 0 n) small ∙ (ap (λ (ws : List ℕ). set ws 0 (x + 1)) k.words ∙ ap (λ (n : ℕ). (n + 1) ∷ old.loads) found) in (
+      known (with_work f v.view) (after_event t old (claim h.number)),
+      keeps,
+      tt,
+      moved t s k id v h f (claim h.number) (set s.words 0 ((x + 1) % 18446744073709551616)) at is same fit.0.0 m words,
+      record { view_is = refl; rest_is = refl; step = stepped_so t s k id v h claim 0 at is same m.legal },
+    )
 
-pub claims : (t : Terms) (slots id : ℕ) (me : M) → me.0.terms ≡ t → MayClaim t me.0.hands → Allows (Kept t) slots id me 0 (λ n. (n + 1) % 2 ^ 64) (Claimed (step slots 0 1 0 none) me)
-claims t slots id me same may s k _ at small = claims_of t slots id me s k at same me.0.hands refl may
+pub claims : (t : Terms) (slots id : ℕ) (me : M) → me.0.view.terms ≡ t → MayClaim t me.0.view.hands → Allows (Kept t) slots id me 0 (λ n. (n + 1) % 2 ^ 64) (Claimed (step slots 0 1 0 none) me)
+claims t slots id me same may s k _ at small = claims_of t slots id me s k at same me.0.view.hands refl may
 
 -- the read
 
@@ -185,7 +212,7 @@ read_moves t s c found h f inside is may =
     reading [] l = absurd l
     reading (e ∷ es) l = (let a = l.0 in let b = l.1 in omega arith, l.2)
 
-reads_of : (t : Terms) (slots id c : ℕ) (me : M) (s : St) (k : Kept t s) → get_elem? s.views id ≡ some me.0 → me.0.terms ≡ t → (hs : List Hand) → me.0.hands ≡ hs → MayRead t c hs
+reads_of : (t : Terms) (slots id c : ℕ) (me : M) (s : St) (k : Kept t s) → get_elem? s.views id ≡ some me.0 → me.0.view.terms ≡ t → (hs : List Hand) → me.0.view.hands ≡ hs → MayRead t c hs
     → Can t s id me (c + 1) (get_or s.words (c + 1) 0) (HasRead (step slots (c + 1) 0 0 none) me (get_or s.words (c + 1) 0))
 reads_of t slots id c me s k at same [] is may = absurd may
 reads_of t slots id c me s k at same (h ∷ i ∷ hs) is may = absurd may
@@ -196,22 +223,27 @@ reads_of t slots id c me s k at same (h ∷ []) is may =
     let found : x ≡ get_or old.loads c 0 = ap (λ (ws : List ℕ). get_or ws (c + 1) 0) k.words ∙ ap (λ (n : ℕ). get_or (old.claims ∷ old.loads) n 0) (add-one c) in
     let fit : AllFit old (h ∷ []) = subst (AllFit old) is (k.fits id v at).works in
     let f : Worker → Worker = has_read x in
-    let m = read_moves t old c x h found fit.0.0 fit.0.1 may in
-    (with_work f v, keeps, tt, moved t s k id v h f (read h.number) (set s.words (c + 1) x) at is same fit.0.0 m (set-get_or s.words (c + 1) 0 ∙ k.words), (refl, was t s k id v (c + 1) at same))
+    let m = read_moves t old c x h found fit.0.0 fit.0.1 may in (
+      known (with_work f v.view) (after_event t old (read h.number)),
+      keeps,
+      tt,
+      moved t s k id v h f (read h.number) (set s.words (c + 1) x) at is same fit.0.0 m (set-get_or s.words (c + 1) 0 ∙ k.words),
+      record { view_is = refl; rest_is = refl; step = stepped_so t s k id v h read (c + 1) at is same m.legal },
+    )
 
-pub reads : (t : Terms) (slots id c : ℕ) (me : M) → me.0.terms ≡ t → MayRead t c me.0.hands → Allows (Kept t) slots id me (c + 1) (λ n. n) (HasRead (step slots (c + 1) 0 0 none) me)
-reads t slots id c me same may s k _ at small = reads_of t slots id c me s k at same me.0.hands refl may
+pub reads : (t : Terms) (slots id c : ℕ) (me : M) → me.0.view.terms ≡ t → MayRead t c me.0.view.hands → Allows (Kept t) slots id me (c + 1) (λ n. n) (HasRead (step slots (c + 1) 0 0 none) me)
+reads t slots id c me same may s k _ at small = reads_of t slots id c me s k at same me.0.view.hands refl may
 
 -- the add
 
-add_moves : (t : Terms) (s : core.State) (k c : ℕ) (h : Hand) → h.number < length s.workers → worker_at s h.number ≡ h.work → (c < cell_count t) × LastMayAdd t k c h.work.log
-    → Moves t s (add h.number k c) h.number (has_added k c h.work)
-add_moves t s k c h inside is may = record {
+add_moves : (t : Terms) (s : core.State) (k c found : ℕ) (h : Hand) → found ≡ get_or s.loads c 0 → h.number < length s.workers → worker_at s h.number ≡ h.work → (c < cell_count t) × LastMayAdd t k c h.work.log
+    → Moves t s (add h.number k c) h.number (has_added k c found h.work)
+add_moves t s k c found h f inside is may = record {
   legal = (inside, may.0, subst (λ (u : Worker). LastMayAdd t k c u.log) (sym is) may.1);
-  workers = λ i. set s.workers h.number (has_added k c (is i));
+  workers = λ i. set s.workers h.number (has_added k c (sym f i) (is i));
 }
 
-adds_of : (t : Terms) (slots id n c a : ℕ) (me : M) (s : St) (k : Kept t s) → get_elem? s.views id ≡ some me.0 → me.0.terms ≡ t → (hs : List Hand) → me.0.hands ≡ hs → MayAdd t n c hs → a ≡ amount_of t n
+adds_of : (t : Terms) (slots id n c a : ℕ) (me : M) (s : St) (k : Kept t s) → get_elem? s.views id ≡ some me.0 → me.0.view.terms ≡ t → (hs : List Hand) → me.0.view.hands ≡ hs → MayAdd t n c hs → a ≡ amount_of t n
     → Can t s id me (c + 1) ((get_or s.words (c + 1) 0 + a) % 18446744073709551616) (Added n (step slots (c + 1) a 0 none) me (get_or s.words (c + 1) 0))
 adds_of t slots id n c a me s k at same [] is may amount = absurd may
 adds_of t slots id n c a me s k at same (h ∷ i ∷ hs) is may amount = absurd may
@@ -221,8 +253,8 @@ adds_of t slots id n c a me s k at same (h ∷ []) is may amount =
     let x : ℕ = get_or s.words (c + 1) 0 in
     let found : x ≡ get_or old.loads c 0 = ap (λ (ws : List ℕ). get_or ws (c + 1) 0) k.words ∙ ap (λ (m : ℕ). get_or (old.claims ∷ old.loads) m 0) (add-one c) in
     let fit : AllFit old (h ∷ []) = subst (AllFit old) is (k.fits id v at).works in
-    let f : Worker → Worker = has_added n c in
-    let m = add_moves t old n c h fit.0.0 fit.0.1 may in
+    let f : Worker → Worker = has_added n c x in
+    let m = add_moves t old n c x h found fit.0.0 fit.0.1 may in
     let e : Event = add h.number n c in
     let last = schedule-snoc t (start t) k.events e in
     let law = loads_of t _ k.is_start (laws t (k.events ++ e ∷ []) k.is_start (AreLegal-snoc t (start t) k.events e k.legal m.legal)) in
@@ -233,74 +265,78 @@ adds_of t slots id n c a me s k at same (h ∷ []) is may amount =
     let small : (x + a) % 18446744073709551616 ≡ sum = omega arith in
     let words : set s.words (c + 1) ((x + a) % 18446744073709551616) ≡ old.claims ∷ (after_event t old e).loads =
     ap (λ (m : ℕ). set s.words (c + 1) m) small ∙ (ap (λ (ws : List ℕ). set ws (c + 1) sum) k.words ∙ ap (λ (m : ℕ). set (old.claims ∷ old.loads) m sum) (add-one c)) in
-    let cell : c ≡ (c + 1) - 1 = omega arith in (
-      with_work f v,
+    let cell : c ≡ (c + 1) - 1 = omega arith in
+    let by : ℕ → ℕ → Event = λ d w. add w n d in
+    let P : ℕ → Type 0 = λ d. IsStep v.view.terms v.view.hands v.seen (after_event t old e) (by d) (c + 1) x in (
+      known (with_work f v.view) (after_event t old e),
       keeps,
       tt,
       moved t s k id v h f e (set s.words (c + 1) ((x + a) % 18446744073709551616)) at is same fit.0.0 m words,
-      (ap (λ (m : ℕ). (with_work (has_added n m) v, me.1)) cell, was t s k id v (c + 1) at same),
+      record { view_is = ap (λ (m : ℕ). with_work (has_added n m x) v.view) cell; rest_is = refl; step = subst P cell (stepped_so t s k id v h (by c) (c + 1) at is same m.legal) },
     )
 
-pub adds : (t : Terms) (slots id n c a : ℕ) (me : M) → me.0.terms ≡ t → MayAdd t n c me.0.hands → a ≡ amount_of t n → Allows (Kept t) slots id me (c + 1) (λ m. (m + a) % 2 ^ 64) (Added n (step slots (c + 1) a 0 none) me)
-adds t slots id n c a me same may amount s k _ at small = adds_of t slots id n c a me s k at same me.0.hands refl may amount
+pub adds : (t : Terms) (slots id n c a : ℕ) (me : M) → me.0.view.terms ≡ t → MayAdd t n c me.0.view.hands → a ≡ amount_of t n → Allows (Kept t) slots id me (c + 1) (λ m. (m + a) % 2 ^ 64) (Added n (step slots (c + 1) a 0 none) me)
+adds t slots id n c a me same may amount s k _ at small = adds_of t slots id n c a me s k at same me.0.view.hands refl may amount
 
 -- the split
 
-made-splits : (v : View) → made_of v ≤ splits_of v
+made-splits : (v : Known) → made_of v ≤ splits_of v
 made-splits v = omega arith
 
-pub splits : (t : Terms) (id : ℕ) (v : View) → v.terms ≡ t → 0 < v.left → Splits (Kept t) id v (cut v) (cut_off v)
+pub splits : (t : Terms) (id : ℕ) (v : Known) → v.view.terms ≡ t → 0 < v.view.left → Splits (Kept t) id v (keeps_known v) (cuts_known v)
 splits t id v same some_left s k at =
     let old : core.State = after_schedule t (start t) k.events in
-    let made = total-put made_of s.views id v (cut v) at in
-    let made' = total-snoc made_of (set s.views id (cut v)) (cut_off v) in
+    let made = total-put made_of s.views id v (keeps_known v) at in
+    let made' = total-snoc made_of (set s.views id (keeps_known v)) (cuts_known v) in
     let all = (k.fits id v at).splits in
     let sum = k.splits in
-    let mine : total made_of s.views ≡ v.made = total-whole made_of splits_of made-splits s.views id v at (let a = all (omega arith) in omega arith) in
-    let more_made : total made_of (set s.views id (cut v) ++ cut_off v ∷ []) ≡ total made_of s.views + 1 = omega arith in
+    let mine : total made_of s.views ≡ v.view.made = total-whole made_of splits_of made-splits s.views id v at (let a = all (omega arith) in omega arith) in
+    let more_made : total made_of (set s.views id (keeps_known v) ++ cuts_known v ∷ []) ≡ total made_of s.views + 1 = omega arith in
     let law = counts_of t old (laws t k.events k.is_start k.legal) in
-    let room : v.made + 1 < length old.workers = (let a = all (omega arith) in let b = law.workers in omega arith) in
+    let room : v.view.made + 1 < length old.workers = (let a = all (omega arith) in let b = law.workers in omega arith) in
     record {
       is_start = k.is_start;
       events = k.events;
       legal = k.legal;
       words = k.words;
-      splits = (let a = total-put splits_of s.views id v (cut v) at in let b = total-snoc splits_of (set s.views id (cut v)) (cut_off v) in omega arith);
-      hands = (let a = total-put hands_of s.views id v (cut v) at in let b = total-snoc hands_of (set s.views id (cut v)) (cut_off v) in let c = k.hands in omega arith);
-      once = λ n. (let a = total-put (times_in n) s.views id v (cut v) at in let b = total-snoc (times_in n) (set s.views id (cut v)) (cut_off v) in let c = k.once n in
-          let d = once-more n (v.made + 1) in
-          let c' : total (times_in n) s.views ≡ one_if (nat_lt n (v.made + 1)) = c ∙ ap (λ (m : ℕ). one_if (nat_lt n (m + 1))) mine in
-          let e : total (times_in n) (set s.views id (cut v) ++ cut_off v ∷ []) ≡ one_if (nat_lt n ((v.made + 1) + 1)) = omega arith in
-          e ∙ ap (λ (m : ℕ). one_if (nat_lt n (m + 1))) (let z : v.made + 1 ≡ total made_of (set s.views id (cut v) ++ cut_off v ∷ []) = omega arith in z));
+      splits = (let a = total-put splits_of s.views id v (keeps_known v) at in let b = total-snoc splits_of (set s.views id (keeps_known v)) (cuts_known v) in omega arith);
+      hands = (let a = total-put hands_of s.views id v (keeps_known v) at in let b = total-snoc hands_of (set s.views id (keeps_known v)) (cuts_known v) in let c = k.hands in omega arith);
+      once = λ n. (let a = total-put (times_in n) s.views id v (keeps_known v) at in let b = total-snoc (times_in n) (set s.views id (keeps_known v)) (cuts_known v) in let c = k.once n in
+          let d = once-more n (v.view.made + 1) in
+          let c' : total (times_in n) s.views ≡ one_if (nat_lt n (v.view.made + 1)) = c ∙ ap (λ (m : ℕ). one_if (nat_lt n (m + 1))) mine in
+          let e : total (times_in n) (set s.views id (keeps_known v) ++ cuts_known v ∷ []) ≡ one_if (nat_lt n ((v.view.made + 1) + 1)) = omega arith in
+          e ∙ ap (λ (m : ℕ). one_if (nat_lt n (m + 1))) (let z : v.view.made + 1 ≡ total made_of (set s.views id (keeps_known v) ++ cuts_known v ∷ []) = omega arith in z));
       fits = λ j u is. ⊎_elim
           (λ was_there. ⊎_elim
-          (λ (x : (j ≡ id) × (cut v ≡ u)). subst (FitsView t old) x.1 record {
+          (λ (x : (j ≡ id) × (keeps_known v ≡ u)). subst (FitsView t old) x.1 record {
             terms = λ _. same;
             splits = λ _. (let a = all (omega arith) in omega arith);
             works = (k.fits id v at).works;
+            seen = (k.fits id v at).seen;
           })
           (λ (x : (j ≢ id) × (get_elem? s.views j ≡ some u)). k.fits j u x.1)
-          (at_set s.views id j (cut v) u was_there))
-          (λ (new : cut_off v ≡ u). subst (FitsView t old) new record {
+          (at_set s.views id j (keeps_known v) u was_there))
+          (λ (new : cuts_known v ≡ u). subst (FitsView t old) new record {
             terms = λ _. same;
             splits = λ some_of. absurd (omega arith);
-            works = ((room, k.fresh (v.made + 1) (omega arith)), tt);
+            works = ((room, k.fresh (v.view.made + 1) (omega arith)), tt);
+            seen = λ _. (k.fits id v at).seen same;
           })
-          (at_snoc (set s.views id (cut v)) (cut_off v) u j is);
+          (at_snoc (set s.views id (keeps_known v)) (cuts_known v) u j is);
       fresh = λ n more. k.fresh n (omega arith);
     }
 
 -- the join
 
-pub joins : (t : Terms) (id other : ℕ) (v w : View) → v.terms ≡ t → Joins (Kept t) id v other w (joined v w) spent
+pub joins : (t : Terms) (id other : ℕ) (v w : Known) → v.view.terms ≡ t → Joins (Kept t) id v other w (joins_known v w) spent_known
 joins t id other v w same s k at apart there =
     let old : core.State = after_schedule t (start t) k.events in
-    let both : View = joined v w in
-    let mid : List View = set s.views id both in
+    let both : Known = joins_known v w in
+    let mid : List Known = set s.views id both in
     let theirs : get_elem? s.views other ≡ some w = ⊎_elim (λ (x : (other ≡ id) × (both ≡ w)). absurd (apart x.0)) (λ (x : (other ≢ id) × (get_elem? s.views other ≡ some w)). x.1) (at_set s.views id other both w there) in
     let made = total-put made_of s.views id v both at in
-    let made' = total-put made_of mid other w spent there in
-    let same_made : total made_of (set mid other spent) ≡ total made_of s.views = omega arith in
+    let made' = total-put made_of mid other w spent_known there in
+    let same_made : total made_of (set mid other spent_known) ≡ total made_of s.views = omega arith in
     let two = total-two splits_of s.views id other v w at theirs (λ e. apart (sym e)) in
     let sum = k.splits in
     let mine = (k.fits id v at).splits in
@@ -310,29 +346,30 @@ joins t id other v w same s k at apart there =
       events = k.events;
       legal = k.legal;
       words = k.words;
-      splits = (let a = total-put splits_of s.views id v both at in let b = total-put splits_of mid other w spent there in omega arith);
-      hands = (let a = total-put hands_of s.views id v both at in let b = total-put hands_of mid other w spent there in let c = k.hands in let l = length-append v.hands w.hands in omega arith);
-      once = λ n. (let a = total-put (times_in n) s.views id v both at in let b = total-put (times_in n) mid other w spent there in let c = k.once n in
-          let l = total-append (λ (h : Hand). one_if (nat_eq n h.number)) v.hands w.hands in
-          let e : total (times_in n) (set mid other spent) ≡ one_if (nat_lt n (total made_of s.views + 1)) = omega arith in
+      splits = (let a = total-put splits_of s.views id v both at in let b = total-put splits_of mid other w spent_known there in omega arith);
+      hands = (let a = total-put hands_of s.views id v both at in let b = total-put hands_of mid other w spent_known there in let c = k.hands in let l = length-append v.view.hands w.view.hands in omega arith);
+      once = λ n. (let a = total-put (times_in n) s.views id v both at in let b = total-put (times_in n) mid other w spent_known there in let c = k.once n in
+          let l = total-append (λ (h : Hand). one_if (nat_eq n h.number)) v.view.hands w.view.hands in
+          let e : total (times_in n) (set mid other spent_known) ≡ one_if (nat_lt n (total made_of s.views + 1)) = omega arith in
           e ∙ ap (λ (m : ℕ). one_if (nat_lt n (m + 1))) (sym same_made));
       fits = λ j u is. ⊎_elim
-          (λ (x : (j ≡ other) × (spent ≡ u)). subst (FitsView t old) x.1 record { terms = λ some_of. absurd (omega arith); splits = λ some_of. absurd (omega arith); works = tt })
+          (λ (x : (j ≡ other) × (spent_known ≡ u)). subst (FitsView t old) x.1 record { terms = λ some_of. absurd (omega arith); splits = λ some_of. absurd (omega arith); works = tt; seen = λ of. absurd (let some_of = k.is_start.some_worker in let none : 0 ≡ t.workers = ap (λ (x : Terms). x.workers) of in omega arith) })
           (λ (x : (j ≢ other) × (get_elem? mid j ≡ some u)). ⊎_elim
           (λ (y : (j ≡ id) × (both ≡ u)). subst (FitsView t old) y.1 record {
             terms = λ _. same;
             splits = λ some_of. grind arith;
-            works = fits-append old v.hands w.hands (k.fits id v at).works (k.fits other w theirs).works;
+            works = fits-append old v.view.hands w.view.hands (k.fits id v at).works (k.fits other w theirs).works;
+            seen = λ _. (k.fits id v at).seen same;
           })
           (λ (y : (j ≢ id) × (get_elem? s.views j ≡ some u)). k.fits j u y.1)
           (at_set s.views id j both u x.1))
-          (at_set mid other j spent u is);
+          (at_set mid other j spent_known u is);
       fresh = λ n more. k.fresh n (omega arith);
     }
 
 -- the start
 
-pub begins : (t : Terms) → IsStart t → Kept t (opening (0 ∷ t.base) [] (first_view t))
+pub begins : (t : Terms) → IsStart t → Kept t (opening (0 ∷ t.base) [] (first_known t))
 begins t h =
     let some_of = h.some_worker in
     record {
@@ -347,11 +384,12 @@ begins t h =
       fresh = λ n _. get_or-replicate t.workers n idle;
     }
   where
-    one : (j : ℕ) (v : View) → get_elem? (first_view t ∷ []) j ≡ some v → FitsView t (start t) v
+    one : (j : ℕ) (v : Known) → get_elem? (first_known t ∷ []) j ≡ some v → FitsView t (start t) v
     one zero v e = subst (FitsView t (start t)) (some-injective _ _ e) record {
       terms = λ _. refl;
       splits = λ _. (let a = h.some_worker in omega arith);
       works = (((let a = h.some_worker in let b = length-replicate t.workers idle in omega arith), get_or-replicate t.workers 0 idle), tt);
+      seen = λ _. (([], tt, refl), ([], tt, refl));
     }
     one (suc j) v e = absurd (some-ne-none v (sym e))
 
@@ -401,8 +439,8 @@ fit-have s (h ∷ hs) f = (f.0, fit-have s hs f.1)
 
 -- the end
 
-times-hands : (n : ℕ) (v : View) → times_in n v ≤ hands_of v
-times-hands n v = all v.hands
+times-hands : (n : ℕ) (v : Known) → times_in n v ≤ hands_of v
+times-hands n v = all v.view.hands
   where
     one : (b : Bool) → one_if b ≤ 1
     one true = omega arith
@@ -412,9 +450,9 @@ times-hands n v = all v.hands
     all [] = omega arith
     all (h ∷ hs) = let a = one (nat_eq n h.number) in let b = all hs in omega arith
 
-pub closes : (t : Terms) (id : ℕ) (v : View) (ws : List ℕ) (xs : List (Unit {0})) (loads : List ℕ) → MayClose t v → Final (Seen (Kept t) id v) ws xs
-    → length loads ≡ cell_count t → ((i : ℕ) → i < length loads → get_or loads i 0 ≡ get_or ws (i + 1) 0) → Closes t v.hands loads
-closes t id v ws xs loads may f long each =
+pub closes : (t : Terms) (id : ℕ) (v : Known) (ws : List ℕ) (xs : List (Unit {0})) (loads : List ℕ) → MayClose t v.view → v.view.terms ≡ t → Final (Seen (Kept t) id v) ws xs
+    → length loads ≡ cell_count t → ((i : ℕ) → i < length loads → get_or loads i 0 ≡ get_or ws (i + 1) 0) → Closes t v.seen v.view.hands loads
+closes t id v ws xs loads may same f long each =
     let s : St = f.0 in
     let k : Kept t s = f.1.0 in
     let at = f.1.1 in
@@ -422,7 +460,7 @@ closes t id v ws xs loads may f long each =
     let words : old.claims ∷ old.loads ≡ ws = sym k.words ∙ f.2 in
     let law = loads_of t old k.is_start (laws t k.events k.is_start k.legal) in
     let whole : total splits_of s.views ≡ splits_of v = (let a = k.splits in let b = may.splits in omega arith) in
-    let made : total made_of s.views ≡ v.made = total-whole made_of splits_of made-splits s.views id v at whole in
+    let made : total made_of s.views ≡ v.view.made = total-whole made_of splits_of made-splits s.views id v at whole in
     let hands : total hands_of s.views ≡ hands_of v = (let a = k.hands in let b = may.hands in omega arith) in
     let all : (n : ℕ) → total (times_in n) s.views ≡ times_in n v = λ n. total-whole (times_in n) hands_of (times-hands n) s.views id v at hands in
     let one_each : (n : ℕ) → times_in n v ≤ 1 = λ n. (let a = all n in let b = k.once n in let c = one-le (nat_lt n (total made_of s.views + 1)) in omega arith) in
@@ -430,6 +468,7 @@ closes t id v ws xs loads may f long each =
     record {
       events = k.events;
       legal = k.legal;
+      since = ((k.fits id v at).seen same).1;
       loads_there = same_lists old.loads loads (law.cells ∙ sym long)
           (λ i inside. sym (each i (let a = law.cells in omega arith) ∙ (ap (λ (us : List ℕ). get_or us (i + 1) 0) (sym words) ∙ ap (λ (n : ℕ). get_or (old.claims ∷ old.loads) n 0) (add-one i))));
       works = (k.fits id v at).works;
@@ -438,7 +477,7 @@ closes t id v ws xs loads may f long each =
       sums = λ c few.
           let into : get_or loads c 0 ≡ get_or old.loads c 0 = each c (omega arith) ∙ (ap (λ (us : List ℕ). get_or us (c + 1) 0) (sym words) ∙ ap (λ (n : ℕ). get_or (old.claims ∷ old.loads) n 0) (add-one c)) in
           let sum = law.sums c few in
-          let parts = total-hands (λ (u : Worker). added t c u.log) refl v.hands old.workers (fit-have old v.hands (k.fits id v at).works) one_each no_others in
+          let parts = total-hands (λ (u : Worker). added t c u.log) refl v.view.hands old.workers (fit-have old v.view.hands (k.fits id v at).works) one_each no_others in
           omega arith;
     }
   where
@@ -481,8 +520,8 @@ any_default (x ∷ xs) (suc i) d e h = any_default xs i d e (omega arith)
 pub amount_is : (t : Terms) (n a : ℕ) → n < commodity_count t → a ≡ get_or (amounts t) n a → a ≡ amount_of t n
 amount_is t n a few is = is ∙ any_default (amounts t) n a 0 (let m = length-map t.net.commodities (λ (k : Commodity). k.amount) in omega arith)
 
-pub begins_at : (t t' : Terms) (ws : List ℕ) → t' ≡ t → ws ≡ 0 ∷ t.base → IsStart t → Kept t' (opening ws [] (first_view t'))
-begins_at t t' ws same is h = let P : Terms × List ℕ → Type 0 = λ x. Kept x.0 (opening x.1 [] (first_view x.0)) in subst P (λ i. (sym same i, sym is i)) (begins t h)
+pub begins_at : (t t' : Terms) (ws : List ℕ) → t' ≡ t → ws ≡ 0 ∷ t.base → IsStart t → Kept t' (opening ws [] (first_known t'))
+begins_at t t' ws same is h = let P : Terms × List ℕ → Type 0 = λ x. Kept x.0 (opening x.1 [] (first_known x.0)) in subst P (λ i. (sym same i, sym is i)) (begins t h)
 
 read_at : (l : List ℕ) (i a : ℕ) → get_elem? l i ≡ some a → get_or l i 0 ≡ a
 read_at [] i a e = absurd (some-ne-none a (sym e))
@@ -495,23 +534,27 @@ copied into ws i x inside below here k less = dite (ℕ_discrete k i)
     (λ same. subst (λ (j : ℕ). get_or (set into i x) j 0 ≡ get_or ws (j + 1) 0) (sym same) (get_or-set_same into i x 0 inside ∙ sym (read_at ws (i + 1) x here)))
     (λ apart. get_or-set_other into i k x 0 apart ∙ below k (omega arith))
 
+-- what holds where a step came
+at_step : (t : Terms) (seen before : core.State) → IsStart t → Leads t (start t) seen → Leads t seen before → Inv t before
+at_step t seen before h from since = (let l = leads-on t (start t) seen before from since in subst (Inv t) l.2 (laws t l.0 h l.1))
+
 -- a claim's ticket is above those that the hands have
-pub order_of : (t : Terms) (hands : List Hand) (ticket : ℕ) → IsStart t → WasWord t hands 0 ticket → AllFallBelow ticket hands
-order_of t hands ticket h was_there = all hands was_there.works
+pub order_of : (t : Terms) (hands : List Hand) (seen now : core.State) (event : ℕ → Event) (ticket : ℕ) → IsStart t → IsStep t hands seen now event 0 ticket → AllFallBelow ticket hands
+order_of t hands seen now event ticket h step = all hands step.works
   where
-    all : (hs : List Hand) → AllFit (after_schedule t (start t) was_there.events) hs → AllFallBelow ticket hs
+    all : (hs : List Hand) → AllFit step.before hs → AllFallBelow ticket hs
     all [] f = tt
     all (x ∷ xs) f =
-        let s : core.State = after_schedule t (start t) was_there.events in
-        let i = laws t was_there.events h was_there.legal in
-        let is = was_there.found_there in
+        let s : core.State = step.before in
+        let i = at_step t seen s h step.from step.since in
+        let is = step.found_there in
         (falls-more (min s.claims (ticket_count t)) ticket x.work.log (omega arith) (subst (λ (u : Worker). IsFalling (min s.claims (ticket_count t)) u.log) f.0.1 (i.falling x.number f.0.0)), all xs f.1)
 
 -- a load that was read is within its limit
-pub word_within : (t : Terms) (hands : List Hand) (c x : ℕ) → IsStart t → c < cell_count t → WasWord t hands (c + 1) x → x ≤ MAX_LENGTH
-word_within t hands c x h few was_there =
-    let s : core.State = after_schedule t (start t) was_there.events in
-    let law = loads_of t s h (laws t was_there.events h was_there.legal) in
-    let is : get_or s.loads c 0 ≡ x = subst (λ (n : ℕ). get_or (s.claims ∷ s.loads) n 0 ≡ x) (add-one c) was_there.found_there in
+pub word_within : (t : Terms) (hands : List Hand) (seen now : core.State) (event : ℕ → Event) (c x : ℕ) → IsStart t → c < cell_count t → IsStep t hands seen now event (c + 1) x → x ≤ MAX_LENGTH
+word_within t hands seen now event c x h few step =
+    let s : core.State = step.before in
+    let law = loads_of t s h (at_step t seen s h step.from step.since) in
+    let is : get_or s.loads c 0 ≡ x = subst (λ (n : ℕ). get_or (s.claims ∷ s.loads) n 0 ≡ x) (add-one c) step.found_there in
     let within = law.within c few in
     omega arith

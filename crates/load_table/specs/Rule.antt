@@ -5,10 +5,11 @@ use lib.ListN.{get_elem?}
 use Rattle.atomic_table.specs.Table.{State, Me, Step}
 use Rattle.flow_core.specs.declared.state.Entry.{Entry}
 use Rattle.flow_core.specs.Core as core
-use Rattle.flow_core.specs.Core.{Terms, Event, AreLegal, start, after_schedule, worker_at, idle, IsStart, total, cell_count, ticket_count, LastIsComplete, LastMayAdd, claimed, has_read, has_added}
+use Rattle.flow_core.specs.Core.{Terms, Event, claim, read, add, IsLegal, AreLegal, Leads, start, after_event, after_schedule, worker_at, idle, IsStart, total, cell_count, ticket_count, LastIsComplete, LastMayAdd, claimed, has_read, has_added}
 use Rattle.flow_core.specs.Laws.{one_if, IsFalling, added}
 use Rattle.load_table.specs.declared.view.Hand.{Hand}
 use Rattle.load_table.specs.declared.view.View.{View}
+use Rattle.load_table.specs.declared.view.Known.{Known}
 use Rattle.load_table.specs.Views.{with_work, times_in, hands_of, made_of, splits_of}
 
 -- each hand has what the core has of its worker
@@ -16,13 +17,15 @@ abbrev pub AllFit : core.State → List Hand → Type 0
 AllFit s [] = Unit {0}
 AllFit s (h ∷ hs) = ((h.number < length s.workers) × (worker_at s h.number ≡ h.work)) × AllFit s hs
 
--- what a view may be: its terms are the table's where it has a worker, and its splits are all or none
-pub record FitsView (t : Terms) (s : core.State) (v : View) : Type 0 where
-  pub terms : 0 < length v.hands → v.terms ≡ t
-  pub splits : 0 < v.left + v.made → v.left + v.made + 1 ≡ t.workers
-  pub works : AllFit s v.hands
+-- what a pass may know: its terms are the table's where it has a worker, its splits are all or none, and some schedule
+-- leads from what it saw to the words
+pub record FitsView (t : Terms) (s : core.State) (v : Known) : Type 0 where
+  pub terms : 0 < length v.view.hands → v.view.terms ≡ t
+  pub splits : 0 < v.view.left + v.view.made → v.view.left + v.view.made + 1 ≡ t.workers
+  pub works : AllFit s v.view.hands
+  pub seen : v.view.terms ≡ t → Leads t (start t) v.seen × Leads t v.seen s
 
-pub record Kept (t : Terms) (s : State (Unit {0}) View) : Type 0 where
+pub record Kept (t : Terms) (s : State (Unit {0}) Known) : Type 0 where
   pub is_start : IsStart t
   pub events : List Event
   pub legal : AreLegal t (start t) events
@@ -30,27 +33,42 @@ pub record Kept (t : Terms) (s : State (Unit {0}) View) : Type 0 where
   pub splits : total splits_of s.views + 1 ≡ t.workers
   pub hands : total hands_of s.views ≡ total made_of s.views + 1
   pub once : (n : ℕ) → total (times_in n) s.views ≡ one_if (nat_lt n (total made_of s.views + 1))
-  pub fits : (j : ℕ) (v : View) → get_elem? s.views j ≡ some v → FitsView t (after_schedule t (start t) events) v
+  pub fits : (j : ℕ) (v : Known) → get_elem? s.views j ≡ some v → FitsView t (after_schedule t (start t) events) v
   pub fresh : (n : ℕ) → total made_of s.views < n → worker_at (after_schedule t (start t) events) n ≡ idle
 
--- some schedule leads to a state where the word was this, and the workers had what their hands say
-pub record WasWord (t : Terms) (hands : List Hand) (word found : ℕ) : Type 0 where
-  pub events : List Event
-  pub legal : AreLegal t (start t) events
-  pub found_there : slice_index ((after_schedule t (start t) events).claims ∷ (after_schedule t (start t) events).loads) word ≡ found
-  pub works : AllFit (after_schedule t (start t) events) hands
+-- the number of the first worker
+abbrev pub first_number : List Hand → ℕ
+first_number [] = 0
+first_number (h ∷ hs) = h.number
+
+-- some schedule leads from what the pass saw after its last step to a state where the word was this, and its workers
+-- had what their hands say; there this one event came, and the pass has seen what that made
+pub record IsStep (t : Terms) (hands : List Hand) (seen now : core.State) (event : ℕ → Event) (word found : ℕ) : Type 0 where
+  pub from : Leads t (start t) seen
+  pub before : core.State
+  pub since : Leads t seen before
+  pub found_there : slice_index (before.claims ∷ before.loads) word ≡ found
+  pub works : AllFit before hands
+  pub legal : IsLegal t before (event (first_number hands))
+  pub now_is : now ≡ after_event t before (event (first_number hands))
 
 abbrev pub M : Type 0
-M = Me (Unit {0}) View
+M = Me (Unit {0}) Known
+
+-- the view is this one, and the pass has taken one step
+pub record Steps (v : M) (view : View) (event : ℕ → Event) (word found : ℕ) (w : M) : Type 0 where
+  pub view_is : w.0.view ≡ view
+  pub rest_is : w.1 ≡ v.1
+  pub step : IsStep v.0.view.terms v.0.view.hands v.0.seen w.0.seen event word found
 
 abbrev pub Claimed : Step (Unit {0}) → M → ℕ → M → Type 0
-Claimed s v found w = (w ≡ (with_work (claimed (ticket_count v.0.terms) found) v.0, v.1)) × WasWord v.0.terms v.0.hands s.word found
+Claimed s v found w = Steps v (with_work (claimed (ticket_count v.0.view.terms) found) v.0.view) claim s.word found w
 
 abbrev pub HasRead : Step (Unit {0}) → M → ℕ → M → Type 0
-HasRead s v found w = (w ≡ (with_work (has_read found) v.0, v.1)) × WasWord v.0.terms v.0.hands s.word found
+HasRead s v found w = Steps v (with_work (has_read found) v.0.view) read s.word found w
 
 abbrev pub Added : ℕ → Step (Unit {0}) → M → ℕ → M → Type 0
-Added k s v found w = (w ≡ (with_work (has_added k (s.word - 1)) v.0, v.1)) × WasWord v.0.terms v.0.hands s.word found
+Added k s v found w = Steps v (with_work (has_added k (s.word - 1) found) v.0.view) (λ n. add n k (s.word - 1)) s.word found w
 
 -- the tickets of the hands are below this one, and ascend
 abbrev pub AllFallBelow : ℕ → List Hand → Type 0
@@ -82,10 +100,12 @@ pub record MayClose (t : Terms) (v : View) : Type 0 where
   pub splits : v.left + v.made + 1 ≡ t.workers
   pub hands : length v.hands ≡ v.made + 1
 
--- some schedule leads to these loads, with what these hands say and nothing else
-pub record Closes (t : Terms) (hands : List Hand) (loads : List ℕ) : Type 0 where
+-- some schedule leads to these loads, with what these hands say and nothing else, and some leads there from what the
+-- pass saw
+pub record Closes (t : Terms) (seen : core.State) (hands : List Hand) (loads : List ℕ) : Type 0 where
   pub events : List Event
   pub legal : AreLegal t (start t) events
+  pub since : Leads t seen (after_schedule t (start t) events)
   pub loads_there : (after_schedule t (start t) events).loads ≡ loads
   pub works : AllFit (after_schedule t (start t) events) hands
   pub once : (n : ℕ) → total (λ (h : Hand). one_if (n == h.number)) hands ≤ 1

@@ -2,18 +2,20 @@
 use Rattle.std.specs.Prelude.{◌≡◌, ℕ, ◌+◌, List}
 use Rattle.atomic_table.specs.Seated.{TableId}
 use Rattle.flow_model.specs.Groups.{group_count}
-use Rattle.flow_core.specs.Core.{Terms, IsStart, cell_count, amounts}
+use Rattle.flow_core.specs.Core.{Terms, State, Event, IsStart, cell_count, amounts}
 use Rattle.load_table.specs.declared.view.View.{View}
+use Rattle.load_table.specs.Rule.{IsStep}
 
 -- the table, and what the phase starts from
 pub record LoadsView : Type 0 where
   pub table : TableId
   pub terms : Terms
 
--- the table, and what the pass knows
+-- the table, what the pass knows, and the words as they were right after its last step
 pub record PassView : Type 0 where
   pub table : TableId
   pub view : View
+  pub seen : State
 
 -- how the shared words are kept: a word of claims and one a cell, with the amounts of the commodities and the number of groups beside them
 pub record IsLoads (table : TableId) (t : Terms) (sizes : List ℕ) (groups : ℕ) : Type 0 where
@@ -26,3 +28,7 @@ pub record IsLoads (table : TableId) (t : Terms) (sizes : List ℕ) (groups : �
 -- the pass is of these loads
 abbrev pub IsPassOf : LoadsView → PassView → Type 0
 IsPassOf l p = (p.table ≡ l.table) × (p.view.terms ≡ l.terms)
+
+-- the pass has taken this one step
+abbrev pub HasStepped : LoadsView → PassView → PassView → (ℕ → Event) → ℕ → ℕ → Type 0
+HasStepped l old new event word found = IsStep l.terms old.view.hands old.seen new.seen event word found

@@ -6,4 +6,4 @@ mod rule;
 mod view;
 
 pub use loads::{Loads, Pass};
-pub use view::{Hand, View};
+pub use view::{Hand, Known, View};

@@ -1,14 +1,14 @@
 //! The words that workers share, and the passes by which they step: one word of claims, and one a cell.
 
 ghost use Rattle.std.specs.Prelude.{◌≡◌, ℕ, ◌+◌, ◌-◌, ◌^◌, ◌<◌, ◌≤◌, [], ◌∷◌, map, length, IfOk};
-ghost use Rattle.flow_core.specs.Core.{Terms, IsStart, claimed, has_read, has_added, idle};
+ghost use Rattle.flow_core.specs.Core.{Terms, IsStart, start, claim, read, add, claimed, has_read, has_added, idle};
 ghost use Rattle.flow_model.specs.Groups.{group_count};
-ghost use Rattle.load_table.specs.Seen.{IsPassOf};
+ghost use Rattle.load_table.specs.Seen.{IsPassOf, HasStepped};
 ghost use Rattle.load_table.specs.Views.{hand, first_view, with_work, cut, cut_off, joined};
-ghost use Rattle.load_table.specs.Rule.{MayClaim, MayRead, MayAdd, MayClose, WasWord, AllFallBelow, Closes};
+ghost use Rattle.load_table.specs.Rule.{MayClaim, MayRead, MayAdd, MayClose, AllFallBelow, Closes};
 
 use crate::rule::{Adds, Claims, Cuts, LoadRule, Named, Reads};
-use crate::view::{Origin, View};
+use crate::view::{Known, Origin};
 use atomic_table::{Seat, Table};
 use flow_model::{Commodity, Groups, Net, Setting};
 use mcf_limits::MAX_LENGTH;
@@ -19,7 +19,7 @@ use std::snapshot::Snapshot;
 /// The shared words. Contracts see the table, and what the phase starts from: the network, whose groups these are, the setting, the base and the number of workers.
 #[derive(Drop)]
 pub struct Loads {
-    table: Table<(), View, Origin, LoadRule, Global>,
+    table: Table<(), Known, Origin, LoadRule, Global>,
     amounts: Vec<u64>,
     groups: u16,
 }
@@ -37,7 +37,7 @@ impl Model for Loads {
 /// What some workers have done. Contracts see the table, and what the pass knows: its workers with their entries and stops, and its splits left and made.
 #[derive(Drop)]
 pub struct Pass {
-    seat: Seat<(), View>,
+    seat: Seat<(), Known>,
 }
 
 impl Model for Pass {
@@ -46,7 +46,7 @@ impl Model for Pass {
 
     ghost Value = { PassView };
 
-    ghost view = { λ p. record { table = p.seat.table_id; view = p.seat.me.0 } };
+    ghost view = { λ p. record { table = p.seat.table_id; view = p.seat.me.0.view; seen = p.seat.me.0.seen } };
 
     ghost invariant = { λ p. p.seat.me.1 ≡ [] };
 }
@@ -80,6 +80,7 @@ impl Loads {
         requires start { IsStart record { net = net.now; setting = setting; base = base.now; workers = workers } }
         ensures loads { IfOk result (λ r. r.0.terms ≡ record { net = net.now; setting = setting; base = base.now; workers = workers }) }
         ensures pass { IfOk result (λ r. IsPassOf r.0 r.1 × (r.1.view ≡ first_view r.0.terms)) }
+        ensures seen { IfOk result (λ r. r.1.seen ≡ start r.0.terms) }
     {
         let amounts = amounts_of(alloc, net.commodities())?;
         let words = words_of(alloc, base)?;
@@ -121,6 +122,7 @@ impl Loads {
         requires left { 0 < pass.old.view.left }
         ensures of { IsPassOf self.now pass.new × IsPassOf self.now result }
         ensures views { (pass.new.view ≡ cut pass.old.view) × (result.view ≡ cut_off pass.old.view) }
+        ensures seen { (pass.new.seen ≡ pass.old.seen) × (result.seen ≡ pass.old.seen) }
     {
         let seat = self.table.shared.split_seat::<Cuts>(&mut pass.seat);
         Pass { seat }
@@ -132,7 +134,7 @@ impl Loads {
         requires may { MayClaim self.now.terms pass.old.view.hands }
         ensures of { IsPassOf self.now pass.new }
         ensures view { pass.new.view ≡ with_work (claimed (group_count self.now.terms.net) result) pass.old.view }
-        ensures word { WasWord self.now.terms pass.old.view.hands 0 result }
+        ensures step { HasStepped self.now pass.old pass.new claim 0 result }
         ensures order { AllFallBelow result pass.old.view.hands }
     {
         self.table.shared.fetch_add::<Claims>(&mut pass.seat, 0, 1)
@@ -144,7 +146,7 @@ impl Loads {
         requires may { MayRead self.now.terms cell pass.old.view.hands }
         ensures of { IsPassOf self.now pass.new }
         ensures view { pass.new.view ≡ with_work (has_read result) pass.old.view }
-        ensures word { WasWord self.now.terms pass.old.view.hands (cell + 1) result }
+        ensures step { HasStepped self.now pass.old pass.new read (cell + 1) result }
         ensures within { result ≤ MAX_LENGTH }
     {
         let word = cell as usize + 1;
@@ -157,8 +159,8 @@ impl Loads {
         requires of { IsPassOf self.now pass.old }
         requires may { MayAdd self.now.terms k cell pass.old.view.hands }
         ensures of { IsPassOf self.now pass.new }
-        ensures view { pass.new.view ≡ with_work (has_added J.commodity cell) pass.old.view }
-        ensures word { WasWord self.now.terms pass.old.view.hands (cell + 1) result }
+        ensures view { pass.new.view ≡ with_work (has_added J.commodity cell result) pass.old.view }
+        ensures step { HasStepped self.now pass.old pass.new (λ w. add w J.commodity cell) (cell + 1) result }
     {
         let amount = self.amounts[k as usize];
         let word = cell as usize + 1;
@@ -171,8 +173,8 @@ impl Loads {
         requires of { IsPassOf self.now pass.old }
         requires may { MayAdd self.now.terms k cell pass.old.view.hands }
         ensures of { IsPassOf self.now pass.new }
-        ensures view { pass.new.view ≡ with_work (has_added k cell) pass.old.view }
-        ensures word { WasWord self.now.terms pass.old.view.hands (cell + 1) result }
+        ensures view { pass.new.view ≡ with_work (has_added k cell result) pass.old.view }
+        ensures step { HasStepped self.now pass.old pass.new (λ w. add w k cell) (cell + 1) result }
     {
         self.add_for::<Brand>(pass, k, cell)
     }
@@ -182,6 +184,7 @@ impl Loads {
         requires of { IsPassOf self.now pass.old × IsPassOf self.now other }
         ensures of { IsPassOf self.now pass.new }
         ensures view { pass.new.view ≡ joined pass.old.view other.view }
+        ensures seen { pass.new.seen ≡ pass.old.seen }
     {
         let Pass { seat } = other;
         self.table.shared.join_seat::<Cuts>(&mut pass.seat, seat);
@@ -192,7 +195,7 @@ impl Loads {
         requires of { IsPassOf self pass }
         requires whole { MayClose self.terms pass.view }
         requires room { length into.old ≡ length self.terms.net.cells }
-        ensures { Closes self.terms pass.view.hands into.new }
+        ensures { Closes self.terms pass.seen pass.view.hands into.new }
     {
         let Loads {
             table,

@@ -1,31 +1,31 @@
 //! The rule of the shared words, and what each step tells the pass that takes it.
 
 ghost use Rattle.std.specs.Prelude.{ℕ};
-ghost use Rattle.load_table.specs.Views.{first_view, cut, cut_off, joined, spent};
+ghost use Rattle.load_table.specs.Views.{first_known, keeps_known, cuts_known, joins_known, spent_known};
 ghost use Rattle.load_table.specs.Rule.{Kept, Claimed, HasRead, Added};
 
-use crate::view::{Origin, View};
+use crate::view::{Known, Origin};
 use atomic_table::{Join, Play, Split, TableRule};
 use std::marker::{Brand, PhantomData};
 
 /// Some schedule of the core leads to the words and to what the passes know.
 pub(crate) struct LoadRule;
 
-impl TableRule<(), View, Origin> for LoadRule {
+impl TableRule<(), Known, Origin> for LoadRule {
     ghost holds = { Kept };
 
-    ghost first = { first_view };
+    ghost first = { first_known };
 }
 
 pub(crate) struct Claims;
 
-impl Play<(), View> for Claims {
+impl Play<(), Known> for Claims {
     ghost then = { Claimed };
 }
 
 pub(crate) struct Reads;
 
-impl Play<(), View> for Reads {
+impl Play<(), Known> for Reads {
     ghost then = { HasRead };
 }
 
@@ -42,20 +42,20 @@ pub(crate) struct Adds<J> {
     named: PhantomData<J>,
 }
 
-impl<J: Named> Play<(), View> for Adds<J> {
+impl<J: Named> Play<(), Known> for Adds<J> {
     ghost then = { Added J.commodity };
 }
 
 pub(crate) struct Cuts;
 
-impl Split<View> for Cuts {
-    ghost left = { cut };
+impl Split<Known> for Cuts {
+    ghost left = { keeps_known };
 
-    ghost right = { cut_off };
+    ghost right = { cuts_known };
 }
 
-impl Join<View> for Cuts {
-    ghost both = { joined };
+impl Join<Known> for Cuts {
+    ghost both = { joins_known };
 
-    ghost spent = { spent };
+    ghost spent = { spent_known };
 }

@@ -2,7 +2,7 @@
 
 ghost use Rattle.std.specs.Prelude.{drop};
 
-use flow_core::Worker;
+use flow_core::{Words, Worker};
 use flow_model::{Net, Setting};
 use std::collections::LinkedList;
 use std::marker::Model;
@@ -38,4 +38,10 @@ pub struct View {
     pub left: u16,
     pub made: u16,
     pub hands: LinkedList<Hand>,
+}
+
+/// What a pass knows, and the words as they were right after its last step. No value of it is made.
+pub struct Known {
+    pub view: View,
+    pub seen: Words,
 }

@@ -1,10 +1,9 @@
 -- Passes joined one after the other.
-use Rattle.std.proofs.Common.{◌≡◌, ℕ, zero, suc, ◌+◌, ◌<◌, Bool, true, false, nat_eq, List, [], ◌∷◌, ◌++◌, length, get_or, set, Option, Some, get_or-set_same, get_or-set_other, refl, sym, ap, ◌∙◌, subst, arith}
+use Rattle.std.proofs.Common.{◌≡◌, ℕ, zero, suc, ◌+◌, ◌<◌, true, false, nat_eq, List, [], ◌∷◌, ◌++◌, length, get_or, set, Option, Some, get_or-set_same, get_or-set_other, refl, sym, ap, ◌∙◌, subst, arith}
 use Rattle.std.specs.Prelude.{if◌then◌else◌}
 use Rattle.std.proofs.lemmas.List.{get_or_append_left, length-append}
 use Rattle.std.proofs.Math.Seq.{get_or-append_seam}
 use Rattle.std.proofs.lemmas.Bool.Decides.{nat_tests}
-use mathlib.Core.Bool.{not}
 use mathlib.Core.Logic.{dite}
 use native.Mathlib.Decide.{ℕ_discrete}
 use Rattle.flow_core.specs.declared.state.Worker.{Worker}
@@ -16,7 +15,7 @@ use Rattle.load_table.specs.Seen.{LoadsView, IsPassOf}
 use Rattle.commodity_claims.specs.declared.worker.Worked.{Worked}
 use Rattle.commodity_claims.specs.Work.{HasWorked, routes_of}
 use Rattle.phase_engine.specs.declared.hand.Hand.{Hand}
-use Rattle.phase_engine.specs.Hands.{OfTurn, IsDone, IsBack, IsSameWorker, start_view, no_hand, IsWorkOf, SomeStopped, HasRoom}
+use Rattle.phase_engine.specs.Hands.{OfTurn, IsDone, IsBack, IsSameWorker, start_view, no_hand, IsWorkOf, SomeStopped, NoneStopped}
 
 -- what a hand has after the work
 abbrev pub AfterWork : LoadsView → Hand → Worked → Type 0
@@ -63,20 +62,14 @@ next_back orig hands i g inside below here k d less = dite (ℕ_discrete k i)
     subst P (sym at) (subst (IsBack (get_or orig i d)) (sym (get_or-set_same hands i g d inside)) (here d)))
     (λ apart. subst (IsBack (get_or orig k d)) (sym (get_or-set_other hands i k g d apart)) (below k d (omega arith)))
 
--- a worker that was refused no room makes the phase whole
-pub next_went_on : (hands : List Hand) (i : ℕ) (h : Hand) (w : Worked) (old new : Bool) → ((d : Hand) → get_or hands i d ≡ h) → h.turn ≡ Some w
-    → ((k : ℕ) (d : Hand) → k < i → HasRoom (get_or hands k d) → old ≡ true) → (old ≡ true → new ≡ true) → (w.memory ≡ false → new ≡ true)
-    → (k : ℕ) (d : Hand) → k < i + 1 → HasRoom (get_or hands k d) → new ≡ true
-next_went_on hands i h w old new here is below kept mine k d less room = dite (ℕ_discrete k i)
-    (λ at.
-    let P : ℕ → Type 0 = λ n. HasRoom (get_or hands n d) in
-    let Q : Option Worked → Type 0 = λ o. OfTurn o (λ w. w.memory ≡ false) in
-    mine (subst Q is (subst HasRoom (here d) (subst P at room))))
-    (λ apart. kept (below k d (omega arith) room))
+pub none-more : (works : List table.Hand) (x : table.Hand) → NoneStopped works → x.work.stopped ≡ false → NoneStopped (works ++ x ∷ [])
+none-more [] x none e zero d l = e
+none-more [] x none e (suc k) d l = absurd (omega arith)
+none-more (w ∷ ws) x none e zero d l = none zero d (omega arith)
+none-more (w ∷ ws) x none e (suc k) d l = none-more ws x (λ j d' l'. none (suc j) d' (omega arith)) e k d (omega arith)
 
-pub memory-false : (b : Bool) → not b ≡ true → b ≡ false
-memory-false true e = absurd (let z : false ≡ true = e in cc)
-memory-false false e = refl
+pub none_first : (works : List table.Hand) (n : ℕ) (u : Worker) → works ≡ hand n u ∷ [] → u.stopped ≡ false → NoneStopped works
+none_first works n u is e = subst NoneStopped (sym is) (none-more [] (hand n u) (λ k d l. absurd (omega arith)) e)
 
 pub same-on : (h i j : Hand) → IsSameWorker h i → IsSameWorker i j → IsSameWorker h j
 same-on h i j a b = (b.0 ∙ a.0, b.1 ∙ a.1, b.2 ∙ a.2)

@@ -151,8 +151,8 @@ of-hand t hands works s w k path net each mine complete has =
 
 -- the phase
 
-pub phase_of : (t : Terms) (hands : List Hand) (works : List table.Hand) (loads : List ℕ) → IsStart t → EachWork t hands works → SomeStopped works → Closes t works loads → IsRoutedPhase t.net t.setting t.base loads hands
-phase_of t hands works loads h each some closes =
+pub phase_of : (t : Terms) (seen : core.State) (hands : List Hand) (works : List table.Hand) (loads : List ℕ) → IsStart t → EachWork t hands works → SomeStopped works → Closes t seen works loads → IsRoutedPhase t.net t.setting t.base loads hands
+phase_of t seen hands works loads h each some closes =
     let s : core.State = after_schedule t (start t) closes.events in
     let inv = laws t closes.events h closes.legal in
     let many = each.as_many in

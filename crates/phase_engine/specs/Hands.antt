@@ -1,5 +1,5 @@
 -- The hands of the workers in a phase.
-use Rattle.std.specs.Prelude.{◌≡◌, ℕ, ◌-◌, ◌<◌, ◌==◌, true, false, if◌then◌else◌, List, [], ◌∷◌, length, Option, Some, None, slice_index_or}
+use Rattle.std.specs.Prelude.{◌≡◌, ℕ, ◌-◌, ◌<◌, ◌==◌, true, false, if◌then◌else◌, List, [], ◌∷◌, All, length, Option, Some, None, slice_index_or}
 use Rattle.flow_model.specs.declared.setting.Setting.{Setting}
 use Rattle.flow_model.specs.Network.{Network}
 use Rattle.flow_model.specs.Least.{HasNoCut}
@@ -9,7 +9,8 @@ use Rattle.flow_core.specs.Laws.{AllComplete}
 use Rattle.load_table.specs.declared.view.View.{View}
 use Rattle.load_table.specs.declared.view.Hand as table
 use Rattle.load_table.specs.Views.{hand, view_of}
-use Rattle.load_table.specs.Seen.{LoadsView, IsPassOf}
+use Rattle.load_table.specs.Rule.{MayClose}
+use Rattle.load_table.specs.Seen.{LoadsView, PassView, IsPassOf}
 use Rattle.commodity_claims.specs.declared.worker.Worked.{Worked}
 use Rattle.commodity_claims.specs.Work.{HasWorked, routes_of}
 use Rattle.phase_engine.specs.declared.hand.Hand.{Hand}
@@ -38,9 +39,9 @@ IsDone l h = OfTurn h.turn (λ w. IsPassOf l w.pass × HasWorked l.terms h.worke
 abbrev pub IsSameWorker : Hand → Hand → Type 0
 IsSameWorker h g = (g.worker ≡ h.worker) × (g.scratch.nodes ≡ h.scratch.nodes) × (g.scratch.cells ≡ h.scratch.cells)
 
--- the hand's worker was refused no room
-abbrev pub HasRoom : Hand → Type 0
-HasRoom h = OfTurn h.turn (λ w. w.memory ≡ false)
+-- each hand is still that of its worker
+abbrev pub AreSameWorkers : List Hand → List Hand → Type 0
+AreSameWorkers old new = (k : ℕ) (d : Hand) → k < length old → IsSameWorker (slice_index_or old k d) (slice_index_or new k d)
 
 abbrev pub Runs : LoadsView → Hand → Hand → Type 0
 Runs l h g = IsSameWorker h g × IsDone l g
@@ -64,6 +65,16 @@ pub record EachWork (t : Terms) (hands : List Hand) (works : List table.Hand) : 
 -- some worker has stopped
 abbrev pub SomeStopped : List table.Hand → Type 0
 SomeStopped works = (k : ℕ) × (k < length works) × ((slice_index_or works k no_hand).work.stopped ≡ true)
+
+-- no worker has stopped
+abbrev pub NoneStopped : List table.Hand → Type 0
+NoneStopped works = All (λ (h : table.Hand). h.work.stopped ≡ false) works
+
+-- the pass has all workers of the loads, and none of them has stopped
+pub record IsUnfinished (l : LoadsView) (p : PassView) : Type 0 where
+  pub of : IsPassOf l p
+  pub whole : MayClose l.terms p.view
+  pub none : NoneStopped p.view.hands
 
 -- groups and graph are of the network of the loads, which has no cut, and the setting is that of the loads
 pub record AreOf (net groups graph : Network) (setting : Setting) (l : LoadsView) : Type 0 where

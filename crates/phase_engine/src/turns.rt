@@ -1,10 +1,10 @@
 //! The turns of the hands: each gets its pass, works, and hands it back.
 
-ghost use Rattle.std.specs.Prelude.{◌≡◌, ℕ, ◌<◌, IsSome, IsTrue, Some, None, length, slice_index_or};
+ghost use Rattle.std.specs.Prelude.{◌≡◌, ℕ, ◌<◌, IsSome, IsTrue, IsFalse, Some, None, length, slice_index_or};
 ghost use Rattle.load_table.specs.Seen.{IsPassOf};
 ghost use Rattle.load_table.specs.Views.{first_view};
 ghost use Rattle.load_table.specs.Rule.{MayClose};
-ghost use Rattle.phase_engine.specs.Hands.{IsFresh, IsReady, IsDone, Runs, IsBack, IsSameWorker, EachWork, SomeStopped, AreOf, HasRoom};
+ghost use Rattle.phase_engine.specs.Hands.{IsFresh, IsReady, IsDone, Runs, IsBack, IsSameWorker, EachWork, SomeStopped, NoneStopped, AreOf};
 
 use crate::hand::Hand;
 use commodity_claims::{Worked, work};
@@ -151,7 +151,7 @@ pub(crate) fn gather(loads: &Loads, hands: &mut [Hand]) -> (Pass, bool)
     ensures pass { IsPassOf loads.now result.0 × MayClose loads.now.terms result.0.view }
     ensures works { EachWork loads.now.terms hands.new result.0.view.hands }
     ensures stopped { IsTrue result.1 → SomeStopped result.0.view.hands }
-    ensures went_on { (k : ℕ) (d : _) → k < length hands.old → HasRoom (slice_index_or hands.old k d) → IsTrue result.1 }
+    ensures none { IsFalse result.1 → NoneStopped result.0.view.hands }
     ensures back { (k : ℕ) (d : _) → k < length hands.old → IsBack (slice_index_or hands.old k d) (slice_index_or hands.new k d) }
 {
     let Worked { pass, memory } = take(&mut hands[0]);

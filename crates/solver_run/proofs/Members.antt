@@ -17,7 +17,7 @@ EachOwn t s = (w : ℕ) → w < length s.workers → OwnMembers t (worker_at s w
 own-claim : (t : Terms) (count ticket : ℕ) (u : Worker) → OwnMembers t u.log → OwnMembers t (claimed count ticket u).log
 own-claim t count ticket u m = by_test (nat_lt ticket count)
   where
-    by_test : (b : Bool) → OwnMembers t (if b then worker (entry ticket [] [] ∷ u.log) u.stopped else worker u.log true).log
+    by_test : (b : Bool) → OwnMembers t (if b then worker (entry ticket [] [] ∷ u.log) u.stopped ticket u.found else worker u.log true ticket u.found).log
     by_test true = (tt, m)
     by_test false = m
 
@@ -38,7 +38,7 @@ own-step t s (claim w) i legal = each-set (λ (v : Worker). OwnMembers t v.log) 
 own-step t s (read w) i legal =
     let x : ℕ = get_or s.loads (next_cell (worker_at s w).log) 0 in
     each-set (λ (v : Worker). OwnMembers t v.log) s.workers w (has_read x (worker_at s w)) idle (own-read t x (worker_at s w).log (i w legal.0)) i
-own-step t s (add w k c) i legal = each-set (λ (v : Worker). OwnMembers t v.log) s.workers w (has_added k c (worker_at s w)) idle (own-add t k c (worker_at s w).log legal.2 (i w legal.0)) i
+own-step t s (add w k c) i legal = each-set (λ (v : Worker). OwnMembers t v.log) s.workers w (has_added k c (get_or s.loads c 0) (worker_at s w)) idle (own-add t k c (worker_at s w).log legal.2 (i w legal.0)) i
 
 own-schedule : (t : Terms) (s : State) (es : List Event) → EachOwn t s → AreLegal t s es → EachOwn t (after_schedule t s es)
 own-schedule t s [] i legal = i

@@ -73,7 +73,7 @@ abbrev whole_entry : Entry
 whole_entry = entry 0 (0 ∷ []) ((0, 0) ∷ [])
 
 abbrev end : State
-end = record { claims = 2; loads = 1 ∷ []; workers = worker (whole_entry ∷ []) true ∷ [] }
+end = record { claims = 2; loads = 1 ∷ []; workers = worker (whole_entry ∷ []) true 1 (0 ∷ []) ∷ [] }
 
 link-complete : IsComplete terms whole_entry
 link-complete = record { all_read = refl; members = members }
@@ -101,7 +101,7 @@ link-start = record { net = link-network; base = refl; room = room; some_worker 
 
 link-finished : IsFinished terms end
 link-finished =
-    let complete : EachIsComplete terms end = All-cons (λ (u : Worker). All (IsComplete terms) u.log) (worker (whole_entry ∷ []) true) [] (All-cons (IsComplete terms) whole_entry [] link-complete (All-nil (IsComplete terms))) (All-nil (λ (u : Worker). All (IsComplete terms) u.log)) in
+    let complete : EachIsComplete terms end = All-cons (λ (u : Worker). All (IsComplete terms) u.log) (worker (whole_entry ∷ []) true 1 (0 ∷ [])) [] (All-cons (IsComplete terms) whole_entry [] link-complete (All-nil (IsComplete terms))) (All-nil (λ (u : Worker). All (IsComplete terms) u.log)) in
     let stopped : HasStopped end = (0, refl) in
     subst (IsFinished terms) link-ends (whole terms events link-start link-legal (subst HasStopped (sym link-ends) stopped) (subst (EachIsComplete terms) (sym link-ends) complete))
 

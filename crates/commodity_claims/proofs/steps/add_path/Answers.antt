@@ -1,6 +1,5 @@
-use Rattle.std.proofs.Common.{arith, ℕ, List, ◌∙◌, ◌<◌, take, length, get_or, ap, sym}
-use Rattle.load_table.specs.Views.{with_work}
-use Rattle.commodity_claims.specs.Steps.{adds_all, adds_along}
+use Rattle.std.proofs.Common.{arith, ℕ, List, ◌<◌, take, length, get_or, sym, subst}
+use Rattle.commodity_claims.specs.Steps.{HasAddedAll, adds_along}
 use Rattle.commodity_claims.proofs.Logs.{may_add, adds_one, along-more, fresh-at}
 use Rattle.commodity_claims.proofs.steps.add_path.Goals as goal
 
@@ -18,6 +17,6 @@ loop-cell-preserved c =
     let l : i < length path = omega arith in
     record {
       of = c.add_cell.ensures.of;
-      view = c.add_cell.ensures.view ∙ (adds_one c.args.k (get_or path i 0) (adds_along c.args.k (take i path)) c.args.pass.now.view c.loop-cell.pass.view c.loop-cell.invariant.view
-          ∙ ap (λ (ps : List (ℕ × ℕ)). with_work (adds_all ps) c.args.pass.now.view) (sym (along-more c.args.k path i l)));
+      view = subst (λ (ps : List (ℕ × ℕ)). HasAddedAll ps c.args.pass.now.view c.add_cell.new.pass.view) (sym (along-more c.args.k path i l))
+          (adds_one c.args.k (get_or path i 0) c.add_cell.result (adds_along c.args.k (take i path)) c.args.pass.now.view c.loop-cell.pass.view c.add_cell.new.pass.view c.loop-cell.invariant.view c.add_cell.ensures.view);
     }

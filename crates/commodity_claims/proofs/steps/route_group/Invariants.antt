@@ -1,14 +1,13 @@
 use Rattle.std.proofs.Common.{◌≡◌, ◌-◌, ◌*◌, ◌≤◌, ◌++◌, take, length}
 use Rattle.load_table.specs.Seen.{IsPassOf}
-use Rattle.load_table.specs.Views.{with_work}
-use Rattle.commodity_claims.specs.Steps.{adds_all, adds_of}
+use Rattle.commodity_claims.specs.Steps.{HasAddedAll, adds_of}
 use Rattle.commodity_claims.specs.Found.{routes_to}
 use Rattle.commodity_claims.proofs.steps.route_group.Given as goal
 
 abbrev pub invariant-loop-k : goal.invariant-loop-k
 invariant-loop-k l = record {
   of : IsPassOf l.loads l.pass;
-  view : l.pass.view ≡ with_work (adds_all (adds_of (routes_to l.net l.fn.scratch (take l.k-index l.members)))) l.fn.pass.view;
+  view : HasAddedAll (adds_of (routes_to l.net l.fn.scratch (take l.k-index l.members))) l.fn.pass.view l.pass.view;
   scratch : l.scratch ≡ l.fn.scratch;
   routes : l.buffer.routes ≡ l.fn.buffer.routes ++ routes_to l.net l.fn.scratch (take l.k-index l.members);
   paths : length l.members - l.k-index ≤ l.buffer.paths;

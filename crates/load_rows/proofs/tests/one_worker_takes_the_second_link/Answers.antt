@@ -12,8 +12,8 @@ unfolding group_in group_count
 claim-ticket-requires-2-clause-may g c =
     let t = c.in_ok-loads.loads.terms in
     let adds : List (ℕ × ℕ) = (0, 1) ∷ [] in
-    let is : c.add_cell-word.new.pass.view.hands ≡ hand 0 (worker (entry 0 (0 ∷ 10 ∷ []) adds ∷ []) false) ∷ [] = search rules in
+    let is : c.add_cell-word.new.pass.view.hands ≡ hand 0 (worker (entry 0 (0 ∷ 10 ∷ []) adds ∷ []) false 0 (10 ∷ [])) ∷ [] = search rules in
     let cells : cell_count t ≡ 2 = search rules in
     let commodities : commodity_count t ≡ 1 = search rules in
     let found : IsLeastPath t.net t.setting (0 ∷ 10 ∷ []) 0 (1 ∷ []) = search rules in
-    may-claim-again t 0 0 c.add_cell-word.new.pass.view.hands (0 ∷ 10 ∷ []) adds is (sym cells) (λ k l same. one-case (λ k. IsLeastPath t.net t.setting (0 ∷ 10 ∷ []) k (path_of k adds)) (commodity_count t) commodities found k l)
+    may-claim-again t 0 0 c.add_cell-word.new.pass.view.hands (0 ∷ 10 ∷ []) adds 0 (10 ∷ []) is (sym cells) (λ k l same. one-case (λ k. IsLeastPath t.net t.setting (0 ∷ 10 ∷ []) k (path_of k adds)) (commodity_count t) commodities found k l)

@@ -11,11 +11,11 @@ pub returns-clause-ok : goal.returns-clause-ok
 returns-clause-ok g c =
     let hands = c.gather-pass.new.hands in
     let works = c.gather-pass.result.0.view.hands in
-    let terms = c.in_ok-table.ensures.loads in
+    let terms = c.requires.terms in
     let each = subst (λ (t : Terms). EachWork t hands works) terms c.gather-pass.ensures.works in
-    let closes = subst (λ (t : Terms). Closes t works c.close.new.into) terms c.close.ensures in
+    let closes = subst (λ (t : Terms). Closes t c.gather-pass.result.0.seen works c.close.new.into) terms c.close.ensures in
     let went_on : IsTrue c.gather-pass.result.1 = search rules in
-    phase_of _ hands works c.close.new.into c.requires.start each (c.gather-pass.ensures.stopped went_on) closes
+    phase_of _ c.gather-pass.result.0.seen hands works c.close.new.into c.requires.start each (c.gather-pass.ensures.stopped went_on) closes
 
 pub returns-clause-back : goal.returns-clause-back
 returns-clause-back g c = λ k d l.

@@ -1,10 +1,10 @@
-use Rattle.std.proofs.Common.{ℕ, ◌+◌, ◌-◌, ◌<◌, List, [], ◌∷◌, ◌++◌, length, ◌≡◌, true, arith, rules, ap, sym, subst, ◌∙◌, slice_index_or, slice_set, length-append, length-set, get_or-set_other}
+use Rattle.std.proofs.Common.{ℕ, ◌+◌, ◌-◌, ◌<◌, List, [], ◌∷◌, ◌++◌, length, ◌≡◌, true, false, arith, ap, sym, subst, ◌∙◌, slice_index_or, slice_set, length-append, length-set, get_or-set_other}
 use Rattle.load_table.specs.declared.view.View.{View}
 use Rattle.load_table.specs.declared.view.Hand as table
 use Rattle.load_table.specs.Views.{hand}
 use Rattle.phase_engine.specs.declared.hand.Hand.{Hand}
-use Rattle.phase_engine.specs.Hands.{IsDone, IsWorkOf, SomeStopped}
-use Rattle.phase_engine.proofs.Joining.{turn_of, next_works, next_back, next_went_on, not_first, any_hand, stopped_before, stopped_last, memory-false}
+use Rattle.phase_engine.specs.Hands.{IsDone, IsWorkOf, SomeStopped, NoneStopped}
+use Rattle.phase_engine.proofs.Joining.{turn_of, next_works, next_back, none-more, not_first, any_hand, stopped_before, stopped_last}
 use Rattle.phase_engine.proofs.turns.gather.Goals as goal
 use Rattle.phase_engine.proofs.turns.gather.Goals.{then-whole, else-whole}
 
@@ -32,7 +32,7 @@ loop-i-preserved c =
     let next = next_works l.terms c.loop-i.hands i h c.take-pass-in-loop-i.new.hand works worked.work inv.as_many inside inv.works worked.is_work.complete worked.is_work.routes_are routes in
     let stops : c.if-whole.whole ≡ true → SomeStopped (works ++ hand i worked.work ∷ []) = λ e. elim c.if-whole.branch [
       | then-whole b ↦ stopped_before works (hand i worked.work) (inv.stopped b.if-whole.true)
-      | else-whole b ↦ stopped_last works i worked.work (worked.is_work.stopped (memory-false w.memory (sym b.whole-is ∙ e)))
+      | else-whole b ↦ stopped_last works i worked.work (worked.is_work.stopped ∙ (sym b.whole-is ∙ e))
     ] in
     record {
       of = c.join.ensures.of;
@@ -41,17 +41,10 @@ loop-i-preserved c =
       as_many = (let a = ap length new_hands in let b = length-append works (hand i worked.work ∷ []) in let old = inv.as_many in omega arith);
       works = subst (λ (xs : List table.Hand). (k : ℕ) (d : Hand) → k < i + 1 → IsWorkOf l.terms xs k (slice_index_or (slice_set c.loop-i.hands i c.take-pass-in-loop-i.new.hand) k d)) (sym new_hands) next;
       stopped = λ e. subst SomeStopped (sym new_hands) (stops e);
-      went_on = next_went_on c.args.hands.now i h w c.loop-i.whole c.if-whole.whole
-          (λ d'. sym (inv.rest i d' (omega arith)) ∙ any_hand c.loop-i.hands i d' d inside)
-          c.take-pass-in-loop-i.ensures.0 inv.went_on
-          (λ e. elim c.if-whole.branch [
-            | then-whole b ↦ search rules
-            | else-whole b ↦ search rules
-          ])
-          (λ e. elim c.if-whole.branch [
-            | then-whole b ↦ search rules
-            | else-whole b ↦ search rules
-          ]);
+      none = λ e. elim c.if-whole.branch [
+        | then-whole b ↦ absurd (let z : true ≡ false = sym b.if-whole.true ∙ (sym b.whole-is ∙ e) in cc)
+        | else-whole b ↦ subst NoneStopped (sym new_hands) (none-more works (hand i worked.work) (inv.none b.if-whole.false) (worked.is_work.stopped ∙ (sym b.whole-is ∙ e)))
+      ];
       back = next_back c.args.hands.now c.loop-i.hands i c.take-pass-in-loop-i.new.hand inside inv.back
           (λ d'.
           let there : slice_index_or c.args.hands.now i d' ≡ h = sym (inv.rest i d' (omega arith)) ∙ any_hand c.loop-i.hands i d' d inside in

@@ -1,7 +1,7 @@
-use Rattle.std.proofs.Common.{◌≡◌, ℕ, ◌-◌, ◌<◌, ◌≤◌, true, length, slice_index_or}
+use Rattle.std.proofs.Common.{◌≡◌, ℕ, ◌-◌, ◌<◌, ◌≤◌, true, false, length, slice_index_or}
 use Rattle.load_table.specs.Seen.{IsPassOf}
 use Rattle.phase_engine.specs.declared.hand.Hand.{Hand}
-use Rattle.phase_engine.specs.Hands.{IsBack, IsWorkOf, SomeStopped, HasRoom}
+use Rattle.phase_engine.specs.Hands.{IsBack, IsWorkOf, SomeStopped, NoneStopped}
 use Rattle.phase_engine.proofs.turns.gather.Given as goal
 
 abbrev pub invariant-loop-i : goal.invariant-loop-i
@@ -12,7 +12,7 @@ invariant-loop-i l = record {
   as_many : length l.all.view.hands ≡ l.i;
   works : (k : ℕ) (d : Hand) → k < l.i → IsWorkOf l.loads.terms l.all.view.hands k (slice_index_or l.hands k d);
   stopped : l.whole ≡ true → SomeStopped l.all.view.hands;
-  went_on : (k : ℕ) (d : Hand) → k < l.i → HasRoom (slice_index_or l.fn.hands k d) → l.whole ≡ true;
+  none : l.whole ≡ false → NoneStopped l.all.view.hands;
   back : (k : ℕ) (d : Hand) → k < l.i → IsBack (slice_index_or l.fn.hands k d) (slice_index_or l.hands k d);
   rest : (k : ℕ) (d : Hand) → l.i ≤ k → slice_index_or l.hands k d ≡ slice_index_or l.fn.hands k d;
 }

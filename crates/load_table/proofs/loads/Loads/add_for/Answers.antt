@@ -7,7 +7,7 @@ use Rattle.load_table.proofs.loads.Loads.add_for.Goals as goal
 pub fetch_add-requires : goal.fetch_add-requires
 fetch_add-requires g c =
     let t = c.self.inside.table.shared.key in
-    let me = c.pass.inside.seat.me.0 in
+    let me = c.pass.inside.seat.me.0.view in
     let may : MayAdd t c.args.k c.args.cell me.hands = search rules in
     let may' : MayAdd t g.J.Named.commodity c.args.cell me.hands = subst (λ (n : ℕ). MayAdd t n c.args.cell me.hands) c.requires.named may in
     let same : me.terms ≡ t = search rules in

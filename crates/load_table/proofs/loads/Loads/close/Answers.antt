@@ -1,5 +1,5 @@
-use Rattle.std.proofs.Common.{◌≡◌, length, arith, ap, sym, subst}
-use Rattle.flow_core.specs.Core.{Terms, cell_count}
+use Rattle.std.proofs.Common.{◌≡◌, length, rules, arith, ap, sym, subst}
+use Rattle.flow_core.specs.Core.{Terms, State, cell_count}
 use Rattle.load_table.specs.declared.view.View.{View}
 use Rattle.load_table.specs.Rule.{MayClose, Closes}
 use Rattle.load_table.specs.Seen.{LoadsView, PassView}
@@ -16,5 +16,7 @@ returns c =
     let M : Terms × View → Type 0 = λ x. MayClose x.0 x.1 in
     let may = subst M (λ i. (sym terms i, sym view i)) c.requires.whole in
     let long : length c.loop-i.into ≡ cell_count c.self.inside.table.shared.key = (let r = c.requires.room in let a = c.loop-i.auto.into in let t = ap cell_count terms in omega arith) in
-    let P : Terms × View → Type 0 = λ x. Closes x.0 x.1.hands c.loop-i.into in
-    subst P (λ i. (terms i, view i)) (closes _ _ _ _ _ c.loop-i.into may c.close_with-closed.ensures.values.2 long (λ k inside. c.loop-i.invariant k (omega arith)))
+    let seen = ap (λ (p : PassView). p.seen) c.pass.view_is in
+    let same : c.pass.inside.seat.me.0.view.terms ≡ c.self.inside.table.shared.key = search rules in
+    let P : Terms × State × View → Type 0 = λ x. Closes x.0 x.1 x.2.hands c.loop-i.into in
+    subst P (λ i. (terms i, seen i, view i)) (closes _ _ _ _ _ c.loop-i.into may same c.close_with-closed.ensures.values.2 long (λ k inside. c.loop-i.invariant k (omega arith)))

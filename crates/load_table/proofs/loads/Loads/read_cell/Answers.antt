@@ -1,16 +1,16 @@
 use Rattle.std.proofs.Common.{rules, arith, ◌+◌, ◌<◌, ap, subst}
 use Rattle.flow_core.specs.Core.{cell_count}
 use Rattle.load_table.specs.Rule.{MayRead}
-use Rattle.load_table.specs.Rule.{WasWord}
+use Rattle.load_table.specs.Rule.{IsStep}
 use Rattle.load_table.specs.Seen.{LoadsView}
-use Rattle.flow_core.specs.Core.{IsStart}
+use Rattle.flow_core.specs.Core.{IsStart, read}
 use Rattle.load_table.proofs.Keeps.{reads, read_inside, word_within}
 use Rattle.load_table.proofs.loads.Loads.read_cell.Goals as goal
 
 pub load-requires : goal.load-requires
 load-requires c =
     let t = c.self.inside.table.shared.key in
-    let hands = c.pass.inside.seat.me.0.hands in
+    let hands = c.pass.inside.seat.me.0.view.hands in
     let may : MayRead t c.args.cell hands = search rules in
     let few : c.args.cell < cell_count t = read_inside t c.args.cell hands may in
     let wide = c.self.invariant.words in
@@ -18,5 +18,5 @@ load-requires c =
 
 pub returns-clause-within : goal.returns-clause-within
 returns-clause-within c =
-    let w : WasWord c.args.self.now.terms c.args.pass.now.view.hands (c.args.cell + 1) c.load.result = search rules in
-    word_within c.args.self.now.terms c.args.pass.now.view.hands c.args.cell c.load.result (subst IsStart (ap (λ (l : LoadsView). l.terms) c.self.view_is) c.self.invariant.is_start) (read_inside c.args.self.now.terms c.args.cell c.args.pass.now.view.hands c.requires.may) w
+    let w : IsStep c.args.self.now.terms c.args.pass.now.view.hands c.args.pass.now.seen c.load.new.seat.me.0.seen read (c.args.cell + 1) c.load.result = search rules in
+    word_within c.args.self.now.terms c.args.pass.now.view.hands c.args.pass.now.seen c.load.new.seat.me.0.seen read c.args.cell c.load.result (subst IsStart (ap (λ (l : LoadsView). l.terms) c.self.view_is) c.self.invariant.is_start) (read_inside c.args.self.now.terms c.args.cell c.args.pass.now.view.hands c.requires.may) w
