@@ -2,6 +2,7 @@
 use Rattle.std.proofs.Common.{◌≡◌, ℕ, ◌+◌, ◌≤◌, List, [], ◌∷◌, ◌++◌, take, Option, Some, None, Result, Ok, Err, inl, inr, refl, sym, ap, subst, ◌∙◌, append_assoc, arith}
 use Rattle.std.specs.Prelude.{◌⊎◌}
 use Rattle.std.proofs.lemmas.List.{append-nil}
+use Rattle.std.proofs.Math.Seq.{take-append-add}
 use Rattle.mcf_limits.specs.declared.TheConstants.{MAX_NET_BYTES, MAX_CERT_BYTES, MAX_SCRIPT_BYTES}
 use Rattle.mcf_base.specs.Shelf.{ShelfView, with_file}
 use Rattle.mcf_base.specs.Reading.{IsText}
@@ -52,14 +53,11 @@ goes_on name files old new answer went = record {
   starts = record {
     holds = went.starts.holds;
     later = went.starts.later;
-    count = went.starts.count + 1;
-    names = went.starts.names ∙ append_assoc old.names (name ∷ []) (take went.starts.count files) ∙ ap (λ (l : List (List ℕ)). old.names ++ l) (one_more name files went.starts.count);
+    count = 1 + went.starts.count;
+    names = went.starts.names ∙ append_assoc old.names (name ∷ []) (take went.starts.count files) ∙ ap (λ (l : List (List ℕ)). old.names ++ l) (sym (take-append-add (name ∷ []) files went.starts.count));
   };
   calm = went.calm;
 }
-  where
-    one_more : (name : List ℕ) (files : List (List ℕ)) (n : ℕ) → name ∷ take n files ≡ take (n + 1) (name ∷ files)
-    one_more name files n = refl
 
 status_is : (answer other : Answer) → answer ≡ other → 4 ≤ other.status → 4 ≤ answer.status
 status_is answer other e low = subst (λ (a : Answer). 4 ≤ a.status) (sym e) low

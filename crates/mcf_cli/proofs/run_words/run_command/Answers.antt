@@ -1,0 +1,18 @@
+use Rattle.run_certs.specs.Check.{OfCheck}
+use Rattle.run_certs.specs.WhatIf.{OfWhatIf}
+use Rattle.mcf_cli.specs.Run.{file_at}
+use Rattle.mcf_cli.proofs.run_words.run_command.Goals as goal
+
+pub returns-in-Check : goal.returns-in-Check
+returns-in-Check g c =
+    let told = c.check.ensures in
+    let of : OfCheck (file_at c.args.request.now 0) (file_at c.args.request.now 1) (g.F.Shelf.seen c.args.shelf.now) (g.F.Shelf.seen c.check.new.shelf) told.0 =
+    rw (c.name-in-Check.ensures, c.name-in-Check-2.ensures) at told.1 in
+    rw c.in-Check.is (told.0, of, told.2)
+
+pub returns-in-WhatIf : goal.returns-in-WhatIf
+returns-in-WhatIf g c =
+    let told = c.whatif_files.ensures in
+    let of : OfWhatIf (file_at c.args.request.now 0) (file_at c.args.request.now 1) (file_at c.args.request.now 2) (g.F.Shelf.seen c.args.shelf.now) (g.F.Shelf.seen c.whatif_files.new.shelf) told.0 =
+    rw (c.name-in-WhatIf.ensures, c.name-in-WhatIf-2.ensures, c.name-in-WhatIf-3.ensures) at told.1 in
+    rw c.in-WhatIf.is (told.0, of, told.2)
