@@ -25,7 +25,8 @@ fn run_command<F: Shelf, K: Sink, G: Gate, R: Threads + Sync>(
     requires files { length request.now.names ≡ file_count request.now.command }
     requires limits { IsWithinLimits request.now }
     requires drawn { file_count request.now.command ≡ 0 → AreDrawn request.now.numbers }
-    ensures { IsTold (OfCommand request.now.command request.now (F.seen shelf.old) (F.seen shelf.new)) (K.seen out.old) (K.seen out.new) result }
+    ensures { IsTold (OfCommand request.now.command request.now (F.seen shelf.old)
+        (F.seen shelf.new)) (K.seen out.old) (K.seen out.new) result }
 {
     match request.command {
         Command::Solve => solve_file(rt, alloc, shelf, out, request.names.name(0), request, gate),
@@ -59,7 +60,8 @@ pub fn run<F: Shelf, K: Sink, G: Gate, R: Threads + Sync>(
     out: &mut K,
     gate: &G,
 ) -> Ended
-    ensures { RunEnds (map string_bytes words.now) (F.seen shelf.old) (F.seen shelf.new) (K.seen out.old) (K.seen out.new) result }
+    ensures { RunEnds (map string_bytes words.now) (F.seen shelf.old) (F.seen shelf.new)
+        (K.seen out.old) (K.seen out.new) result }
 {
     match read_words(alloc, words) {
         Ok(request) => run_command(rt, alloc, &request, shelf, out, gate),

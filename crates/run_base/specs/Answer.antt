@@ -50,9 +50,17 @@ status_of (outcomes.TooMuch work) = 3
 status_of (outcomes.ScriptRefused r) = 3
 status_of (outcomes.Judged judged) = judged_status judged
 
+-- one line of words, with this status
+abbrev pub line_answer : ℕ → Line → Answer
+line_answer status words = record { status = status; text = spelled words; found = nothing }
+
+-- a text, with status 0
+abbrev pub text_answer : List ℕ → Answer
+text_answer text = record { status = 0; text = text; found = nothing }
+
 -- the outcome's line, with its status
 abbrev pub answer_of : Outcome → Answer
-answer_of outcome = record { status = status_of outcome; text = spelled (words_of outcome); found = nothing }
+answer_of outcome = line_answer (status_of outcome) (words_of outcome)
 
 -- want of memory, or such an answer
 abbrev pub OrWant : (Answer → Type 0) → Answer → Type 0

@@ -2,8 +2,7 @@
 
 ghost use Rattle.std.specs.Prelude.{◌∷◌, map};
 ghost use Rattle.text_lines.specs.Lines.{spelled};
-ghost use Rattle.run_base.specs.Found.{nothing};
-ghost use Rattle.run_base.specs.Answer.{Writes};
+ghost use Rattle.run_base.specs.Answer.{Writes, line_answer};
 
 use crate::ended::Ended;
 use line_writer::write_line;
@@ -11,7 +10,8 @@ use mcf_base::Sink;
 
 /// Writes a line of words, and ends with the status.
 pub fn say<K: Sink>(out: &mut K, first: &[u8], words: &[&[u8]], status: u8) -> Ended
-    ensures { Writes (K.seen out.old) (K.seen out.new) result (record { status = status; text = spelled (first.now ∷ map (λ w. w.now) words.now); found = nothing }) }
+    ensures { Writes (K.seen out.old) (K.seen out.new) result
+        (line_answer status (first.now ∷ map (λ w. w.now) words.now)) }
 {
     match write_line(out, first, words) {
         Ok(()) => Ended::told(status),

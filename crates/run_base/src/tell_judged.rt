@@ -2,9 +2,8 @@
 
 ghost use Rattle.std.specs.Prelude.{◌≡◌, ◌<◌, ◌+◌, ◌*◌, if◌then◌else◌};
 ghost use Rattle.text_lines.specs.Lines.{spelled};
-ghost use Rattle.run_base.specs.Found.{nothing};
 ghost use Rattle.cert_judge.specs.declared.judged.Judged.TheVariants as JudgedIs;
-ghost use Rattle.run_base.specs.Answer.{Writes};
+ghost use Rattle.run_base.specs.Answer.{Writes, line_answer};
 ghost use Rattle.run_base.specs.Judged.{kind_word as kind_word_lem, cert_kind_word as cert_kind_word_lem, fault_word as fault_word_lem, verdict_word as verdict_word_lem, script_kind_word as script_kind_word_lem, net_refused, script_refused, cert_refused, judged_words, judged_status, six_digits};
 
 use crate::ended::Ended;
@@ -88,7 +87,7 @@ fn digits(shown: Shown) -> Word
 
 /// Writes the line of a network's refusal.
 pub fn tell_net_refusal<K: Sink>(out: &mut K, refusal: NetRefusal) -> Ended
-    ensures { Writes (K.seen out.old) (K.seen out.new) result (record { status = 3; text = spelled (net_refused refusal); found = nothing }) }
+    ensures { Writes (K.seen out.old) (K.seen out.new) result (line_answer 3 (net_refused refusal)) }
 {
     let line = Word::number(refusal.line as u128);
     let words: [&[u8]; 4] = [b"net", kind_word(refusal.kind), b"line", line.bytes()];
@@ -110,7 +109,7 @@ fn script_kind_word(kind: ScriptKind) -> &'static [u8]
 
 /// Writes the line of a script's refusal.
 pub fn tell_script_refusal<K: Sink>(out: &mut K, refusal: ScriptRefusal) -> Ended
-    ensures { Writes (K.seen out.old) (K.seen out.new) result (record { status = 3; text = spelled (script_refused refusal); found = nothing }) }
+    ensures { Writes (K.seen out.old) (K.seen out.new) result (line_answer 3 (script_refused refusal)) }
 {
     let line = Word::number(refusal.line as u128);
     let words: [&[u8]; 4] = [
@@ -123,7 +122,7 @@ pub fn tell_script_refusal<K: Sink>(out: &mut K, refusal: ScriptRefusal) -> Ende
 }
 
 fn tell_cert_refusal<K: Sink>(out: &mut K, refusal: CertRefusal) -> Ended
-    ensures { Writes (K.seen out.old) (K.seen out.new) result (record { status = 3; text = spelled (cert_refused refusal); found = nothing }) }
+    ensures { Writes (K.seen out.old) (K.seen out.new) result (line_answer 3 (cert_refused refusal)) }
 {
     let line = Word::number(refusal.line as u128);
     let words: [&[u8]; 4] = [b"cert", cert_kind_word(refusal.kind), b"line", line.bytes()];
@@ -131,7 +130,8 @@ fn tell_cert_refusal<K: Sink>(out: &mut K, refusal: CertRefusal) -> Ended
 }
 
 fn tell_feasible<K: Sink>(out: &mut K, options: NetOptions, value: Frac) -> Ended
-    ensures { Writes (K.seen out.old) (K.seen out.new) result (record { status = 0; text = spelled (judged_words (JudgedIs.Feasible options value)); found = nothing }) }
+    ensures { Writes (K.seen out.old) (K.seen out.new) result
+        (line_answer 0 (judged_words (JudgedIs.Feasible options value))) }
 {
     let fraction = Word::fraction(value.num(), value.den());
     let decimal = digits(value.digits_down());
@@ -152,7 +152,8 @@ pub fn tell_valid<K: Sink>(
     lower: Frac,
     upper: Frac,
 ) -> Ended
-    ensures { Writes (K.seen out.old) (K.seen out.new) result (record { status = 0; text = spelled (judged_words (JudgedIs.Valid options closed lower upper)); found = nothing }) }
+    ensures { Writes (K.seen out.old) (K.seen out.new) result
+        (line_answer 0 (judged_words (JudgedIs.Valid options closed lower upper))) }
 {
     let lower_fraction = Word::fraction(lower.num(), lower.den());
     let lower_decimal = digits(lower.digits_down());
@@ -174,7 +175,8 @@ pub fn tell_valid<K: Sink>(
 
 /// Writes the line of the judgement, and ends with its status.
 pub fn tell_judged<K: Sink>(out: &mut K, judged: Judged) -> Ended
-    ensures { Writes (K.seen out.old) (K.seen out.new) result (record { status = judged_status judged; text = spelled (judged_words judged); found = nothing }) }
+    ensures { Writes (K.seen out.old) (K.seen out.new) result
+        (line_answer (judged_status judged) (judged_words judged)) }
 {
     match judged {
         Judged::NetRefused(refusal) => tell_net_refusal(out, refusal),

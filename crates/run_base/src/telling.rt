@@ -2,8 +2,7 @@
 
 ghost use Rattle.std.specs.Prelude.{◌≡◌};
 ghost use Rattle.text_lines.specs.Lines.{spelled};
-ghost use Rattle.run_base.specs.Found.{nothing};
-ghost use Rattle.run_base.specs.Answer.{answer_of, paper_word as paper_word_lem, work_refused, Writes};
+ghost use Rattle.run_base.specs.Answer.{Writes, answer_of, line_answer, paper_word as paper_word_lem, work_refused};
 
 use crate::ended::Ended;
 use crate::outcome::{Outcome, Paper};
@@ -24,7 +23,7 @@ fn paper_word(paper: Paper) -> &'static [u8]
 
 // Writes the line of work over its limit.
 fn tell_work<K: Sink>(out: &mut K, work: u64) -> Ended
-    ensures { Writes (K.seen out.old) (K.seen out.new) result (record { status = 3; text = spelled (work_refused work); found = nothing }) }
+    ensures { Writes (K.seen out.old) (K.seen out.new) result (line_answer 3 (work_refused work)) }
 {
     let number = Word::number(work as u128);
     let words: [&[u8]; 2] = [b"work", number.bytes()];

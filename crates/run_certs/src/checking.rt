@@ -42,7 +42,8 @@ pub fn check<F: Shelf, K: Sink>(
     net: &str,
     cert: &str,
 ) -> Ended
-    ensures { IsTold (OfCheck net.now cert.now (F.seen shelf.old) (F.seen shelf.new)) (K.seen out.old) (K.seen out.new) result }
+    ensures { IsTold (OfCheck net.now cert.now (F.seen shelf.old) (F.seen shelf.new))
+        (K.seen out.old) (K.seen out.new) result }
 {
     match judged_files(alloc, shelf, net, cert) {
         Ok(judged) => tell(out, Outcome::Judged(judged)),

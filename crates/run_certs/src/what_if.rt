@@ -7,8 +7,7 @@ ghost use Rattle.whatif.specs.Shown.{shown_text};
 ghost use Rattle.net_whatif.specs.Certified.{IsCertificate};
 ghost use Rattle.net_whatif.specs.Scripted.{CanRun};
 ghost use Rattle.run_base.specs.declared.outcome.Paper.TheVariants as PaperIs;
-ghost use Rattle.run_base.specs.Found.{nothing};
-ghost use Rattle.run_base.specs.Answer.{IsTold, Writes};
+ghost use Rattle.run_base.specs.Answer.{IsTold, Writes, text_answer};
 ghost use Rattle.run_base.specs.Files.{Ends, Finds, OfFile};
 ghost use Rattle.run_certs.specs.WhatIf.{OfWhatIf, OnScript, scripted_answer};
 
@@ -33,7 +32,10 @@ fn scripted_file<F: Shelf>(
     script: &str,
 ) -> Result<Scripted, Outcome>
     requires { IsCertificate rows.now net.now proof.now }
-    ensures finds { Finds scripted_answer (OfFile MAX_SCRIPT_BYTES PaperIs.Script script.now (λ text. Ends (OnScript rows.now net.now proof.now text))) (F.seen shelf.old) (F.seen shelf.new) result }
+    ensures finds { Finds scripted_answer
+        (OfFile MAX_SCRIPT_BYTES PaperIs.Script script.now
+        (λ text. Ends (OnScript rows.now net.now proof.now text))) (F.seen shelf.old)
+        (F.seen shelf.new) result }
     ensures run { IfOk result CanRun }
 {
     let text = file_text(alloc, shelf, script, MAX_SCRIPT_BYTES, Paper::Script)?;
@@ -51,7 +53,8 @@ fn scripted_files<F: Shelf>(
     cert: &str,
     script: &str,
 ) -> Result<Scripted, Outcome>
-    ensures finds { Finds scripted_answer (OfWhatIf net.now cert.now script.now) (F.seen shelf.old) (F.seen shelf.new) result }
+    ensures finds { Finds scripted_answer (OfWhatIf net.now cert.now script.now) (F.seen shelf.old)
+        (F.seen shelf.new) result }
     ensures run { IfOk result CanRun }
 {
     let net_text = file_text(alloc, shelf, net, MAX_NET_BYTES, Paper::Network)?;
@@ -75,7 +78,7 @@ fn scripted_files<F: Shelf>(
 // Writes what the steps show.
 fn write_lines<K: Sink>(plan: Plan, script: &Script, out: &mut K) -> Ended
     requires { AreSteps (length plan.caps) script.now }
-    ensures { Writes (K.seen out.old) (K.seen out.new) result (record { status = 0; text = shown_text plan script.now; found = nothing }) }
+    ensures { Writes (K.seen out.old) (K.seen out.new) result (text_answer (shown_text plan script.now)) }
 {
     match write_shown(plan, script, out) {
         Ok(()) => Ended::told(0),
@@ -92,7 +95,8 @@ pub fn whatif_files<F: Shelf, K: Sink>(
     cert: &str,
     script: &str,
 ) -> Ended
-    ensures { IsTold (OfWhatIf net.now cert.now script.now (F.seen shelf.old) (F.seen shelf.new)) (K.seen out.old) (K.seen out.new) result }
+    ensures { IsTold (OfWhatIf net.now cert.now script.now (F.seen shelf.old) (F.seen shelf.new))
+        (K.seen out.old) (K.seen out.new) result }
 {
     match scripted_files(alloc, shelf, net, cert, script) {
         Ok(Scripted::Ready(plan, script)) => write_lines(plan, &script, out),

@@ -1,3 +1,4 @@
 pub mod Accepted
 pub mod Whole
 pub mod Started
+pub mod Laws

@@ -11,7 +11,7 @@ ghost use Rattle.sndlib_grammar.specs.Rows.{AreNetRows};
 ghost use Rattle.net_solve.specs.Asked.{IsAsked};
 ghost use Rattle.mcf_words.specs.Request.{AreDrawn};
 ghost use Rattle.run_base.specs.Found.{nothing};
-ghost use Rattle.run_base.specs.Answer.{IsTold, OrWant, Writes};
+ghost use Rattle.run_base.specs.Answer.{IsTold, OrWant, Writes, text_answer};
 ghost use Rattle.run_solves.specs.Solve.{asked_of};
 ghost use Rattle.run_solves.specs.Drawn.{text_drawn, gen_answer, trial_words, trial_line, TriesRows, OfTrial};
 
@@ -46,7 +46,7 @@ fn drawn_text(alloc: Global, numbers: &[u64; 4]) -> Result<String, AllocError>
 
 // Writes the text.
 fn write_drawn<K: Sink>(text: &str, out: &mut K) -> Ended
-    ensures { Writes (K.seen out.old) (K.seen out.new) result (record { status = 0; text = text.now; found = nothing }) }
+    ensures { Writes (K.seen out.old) (K.seen out.new) result (text_answer text.now) }
 {
     match write_all_of(out, text.as_bytes()) {
         Ok(()) => Ended::told(0),
@@ -57,7 +57,8 @@ fn write_drawn<K: Sink>(text: &str, out: &mut K) -> Ended
 /// Writes the network that is drawn by the numbers of the request.
 pub fn gen_net<K: Sink>(alloc: Global, out: &mut K, request: &Request) -> Ended
     requires { AreDrawn request.now.numbers }
-    ensures { IsTold (OrWant (λ answer. answer ≡ gen_answer request.now.numbers)) (K.seen out.old) (K.seen out.new) result }
+    ensures { IsTold (OrWant (λ answer. answer ≡ gen_answer request.now.numbers)) (K.seen out.old)
+        (K.seen out.new) result }
 {
     match drawn_text(alloc, &request.numbers) {
         Ok(text) => write_drawn(text.as_str(), out),

@@ -22,7 +22,8 @@ fn write_rows<K: Sink>(raw: &RawNet<'_>, out: &mut K) -> Ended
 
 /// Writes the canonical text of the network in the file of that name.
 pub fn print<F: Shelf, K: Sink>(alloc: Global, shelf: &mut F, out: &mut K, name: &str) -> Ended
-    ensures { IsTold (OfPrint name.now (F.seen shelf.old) (F.seen shelf.new)) (K.seen out.old) (K.seen out.new) result }
+    ensures { IsTold (OfPrint name.now (F.seen shelf.old) (F.seen shelf.new)) (K.seen out.old)
+        (K.seen out.new) result }
 {
     let text = match file_text(alloc, shelf, name, MAX_NET_BYTES, Paper::Network) {
         Ok(text) => text,

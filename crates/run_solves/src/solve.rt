@@ -95,7 +95,8 @@ pub fn solve_file<F: Shelf, K: Sink, G: Gate, R: Threads + Sync>(
     gate: &G,
 ) -> Ended
     requires asked { IsAsked (asked_of request.now) }
-    ensures { IsTold (OfSolve name.now request.now (F.seen shelf.old) (F.seen shelf.new)) (K.seen out.old) (K.seen out.new) result }
+    ensures { IsTold (OfSolve name.now request.now (F.seen shelf.old) (F.seen shelf.new))
+        (K.seen out.old) (K.seen out.new) result }
 {
     let text = match file_text(alloc, shelf, name, MAX_NET_BYTES, Paper::Network) {
         Ok(text) => text,
