@@ -3,3 +3,4 @@ pub mod Forms
 pub mod Answered
 pub mod Asked
 pub mod Starting
+pub mod Checking

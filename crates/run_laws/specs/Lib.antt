@@ -1,4 +1,5 @@
 pub mod Accepted
 pub mod Whole
 pub mod Started
+pub mod Checked
 pub mod Laws

@@ -1,6 +1,9 @@
 //! Laws, each proved for all words, files, outputs and ends of a run.
 
+ghost use Rattle.run_laws.specs.Checked.{SolvedRunsCheck};
 ghost use Rattle.run_laws.specs.Laws.{AcceptedRunsAreWhole, OnlyAcceptedRunsAre, RunsStartTheirFiles};
+
+use net_solve::solves_check;
 
 /// Where the words are in the grammar, each file that the command reads is accepted, the work is within its limit, and no
 /// count of faults rose in the run, the run has written the whole text of an answer of its command, with status 0 or 1; or
@@ -19,3 +22,11 @@ pub fn only_accepted_runs_are()
 pub fn runs_start_their_files()
     ensures { RunsStartTheirFiles }
 {}
+
+/// What a run of `solve` wrote is called `valid` by a run of `check` on the same network, with the same verdict and fractions
+/// and status 0, unless something fails, memory is wanting, or the text is over the limit of certificate texts.
+pub fn solved_runs_check()
+    ensures { SolvedRunsCheck }
+{
+    solves_check();
+}

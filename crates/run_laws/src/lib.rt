@@ -3,4 +3,6 @@
 
 mod laws;
 
-pub use laws::{accepted_runs_are_whole, only_accepted_runs_are, runs_start_their_files};
+pub use laws::{
+    accepted_runs_are_whole, only_accepted_runs_are, runs_start_their_files, solved_runs_check,
+};
