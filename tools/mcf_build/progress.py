@@ -31,6 +31,9 @@ class Progress:
         if begins and begins[1] in names:
             if self.current is not None:
                 self._end(self.current)
+            elif not self.done:
+                # (looking over the sources is no proof)
+                self.start = now
             # those before it are proved, in this run or an earlier one
             self.done |= set(names[:names.index(begins[1])])
             self.current, self.since = begins[1], now
