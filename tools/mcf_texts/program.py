@@ -39,7 +39,9 @@ class Program:
     def run(self, *words: str, seconds: float | None = None) -> Answer:
         """Runs a command; TextError where the program cannot be started or takes longer than so many seconds."""
         try:
-            done = subprocess.run([self.path, *words], stdout=subprocess.PIPE, stdin=subprocess.DEVNULL, timeout=seconds, check=False)
+            # (the starter's hints are for a person who called it)
+            done = subprocess.run([self.path, *words], stdout=subprocess.PIPE, stdin=subprocess.DEVNULL, timeout=seconds, check=False,
+                                  env={**os.environ, "MCF_HINTS": "0"})
         except OSError as error:
             raise TextError(f"{self.path}: {error.strerror}") from error
         except subprocess.TimeoutExpired as error:

@@ -279,6 +279,14 @@ def test_a_file_that_cannot_be_read_is_named(tmp_path: Path, monkeypatch: pytest
     assert hint(4, "/nothing", words, 99) == f"hint: read fault: {said} (docs/guide.md, part 8)"
 
 
+def test_tools_that_call_the_starter_get_no_hints(tmp_path: Path, monkeypatch: pytest.MonkeyPatch) -> None:
+    monkeypatch.setenv("MCF_HINTS", "1")
+    program = tmp_path / "program"
+    program.write_text("#!/bin/sh\necho $MCF_HINTS\n")
+    program.chmod(0o755)
+    assert Program(str(program)).ask("solve") == "0\n"
+
+
 # -- the fullest link
 
 ROUTINGS = [
