@@ -202,7 +202,7 @@ def test_crates_below_stand_behind_what_they_use(root: Path) -> None:
     uses = {line.split(":")[0].split()[0]: line.split(":")[1].split() for line in (root / "crates.txt").read_text().splitlines() if ":" in line}
     for place, name in enumerate(names):
         assert set(uses[name]) & set(uses) <= set(names[:place])
-    assert all(crate.lines > 20 for crate in crates)
+    assert all(crate.lines > 10 for crate in crates)
 
 
 def test_lines_of_a_build_one_after_another() -> None:
