@@ -9,60 +9,67 @@ from .crates import Crate
 
 # what all proofs take on four quiet processors, in seconds; taken until there is something to go by
 USUAL = 25 * 60.0
-_BEGINS = re.compile(r"rt: chose --jobs [0-9]+ for (\S+)$")
-_ENDS = re.compile(r"rt: (\S+) (?:proved$|is kept\b)|== (\S+)$")
+_PROVES = re.compile(r"rt: chose --jobs [0-9]+ for (\S+)$")
+_LOOKS = re.compile(r"rt: (\S+): (?:begins with|another copy)")
+_ENDS = re.compile(r"rt: (\S+) (?:proved$|is kept\b)")
 
 
 @dataclass
 class Progress:
-    """The crates in the order in which they are built, and what was seen of them so far; times in seconds from one start."""
+    """The crates in the order in which they are built, and what was seen of them so far; times in seconds."""
 
     crates: list[Crate]
-    start: float
+    since: float
     done: set[str] = field(default_factory=set)
     current: str | None = None
-    since: float = 0.0
+    is_proving: bool = False
     proved_lines: int = 0
+    proved_seconds: float = 0.0
 
     def see(self, line: str, now: float) -> bool:
-        """Takes a line of rt into account, and returns whether it told something."""
-        begins, ends = _BEGINS.match(line), _ENDS.match(line)
+        """Takes a line of rt into account, and returns whether it told something new."""
+        proves, looks, ends = _PROVES.match(line), _LOOKS.match(line), _ENDS.match(line)
+        if found := proves or looks:
+            return self._begin(found[1], now, proves is not None)
+        return ends is not None and self._end(ends[1], now)
+
+    def _begin(self, name: str, now: float, is_proving: bool) -> bool:
+        """A crate's turn has come, to be proved here or to be looked for elsewhere; the ones before it are done."""
         names = [crate.name for crate in self.crates]
-        if begins and begins[1] in names:
-            if self.current is not None:
-                self._end(self.current)
-            elif not self.done:
-                # (looking over the sources is no proof)
-                self.start = now
-            # those before it are proved, in this run or an earlier one
-            self.done |= set(names[:names.index(begins[1])])
-            self.current, self.since = begins[1], now
-            return True
-        name = ends and (ends[1] or ends[2])
-        if name and name in names and name not in self.done:
-            self._end(name)
-            self.current = None if self.current == name else self.current
-            return True
-        return False
+        if name not in names or (self.current == name and self.is_proving):
+            return False
+        if self.is_proving and self.current is not None:
+            self._count(self.current, now)
+        self.done |= set(names[:names.index(name)])
+        self.current, self.is_proving, self.since = name, is_proving, now
+        return True
 
-    def _end(self, name: str) -> None:
-        """Counts a crate as proved in this run."""
-        if name not in self.done:
-            self.done.add(name)
-            self.proved_lines += self._lines([name])
+    def _end(self, name: str, now: float) -> bool:
+        """A crate is proved, maybe beside others."""
+        if name in self.done or name not in [crate.name for crate in self.crates]:
+            return False
+        self._count(name, now)
+        self.done.add(name)
+        if self.current == name:
+            self.current, self.is_proving = None, False
+        return True
 
-    def _lines(self, names: list[str]) -> int:
+    def _count(self, name: str, now: float) -> None:
+        """Takes a crate's lines, and the time since the last one, as what proofs take here."""
+        self.proved_lines += self._lines({name})
+        self.proved_seconds += now - self.since
+        self.since = now
+
+    def _lines(self, names: set[str]) -> int:
         """The lines of crates."""
         return sum(crate.lines for crate in self.crates if crate.name in names)
 
     def left(self, now: float) -> float:
-        """About how many seconds are left: as many a line as so far, where the usual time counts as a tenth of all lines seen before."""
+        """About how many seconds are left: as many a line as so far, beside the usual time for a tenth of all lines."""
         every = max(1, sum(crate.lines for crate in self.crates))
-        before = every / 10
-        begun = self.since if self.current is not None else now
-        a_line = (USUAL / 10 + begun - self.start) / (before + self.proved_lines)
-        waiting = self._lines([crate.name for crate in self.crates if crate.name not in self.done])
-        spent = min(now - begun, a_line * self._lines([self.current or ""]))
+        a_line = (USUAL / 10 + self.proved_seconds) / (every / 10 + self.proved_lines)
+        waiting = self._lines({crate.name for crate in self.crates} - self.done)
+        spent = min(now - self.since, a_line * self._lines({self.current or ""})) if self.is_proving else 0.0
         return a_line * waiting - spent
 
     def text(self, now: float) -> str:

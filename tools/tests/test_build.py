@@ -232,12 +232,26 @@ def test_a_slow_machine_is_noticed() -> None:
     assert progress.left(700.0) == pytest.approx((600 + 150) / 200 * 900)
 
 
+def test_crates_that_another_copy_proves_tell_no_pace() -> None:
+    progress = Progress(THREE, 0.0)
+    assert progress.see("rt: low: another copy of the repository is building this library; waiting for it, at most half an hour, to use its work", 1.0)
+    assert progress.text(400.0) == "mcf: crate 1 of 3 is being proved: low; about 25 minutes left"
+    assert progress.see("rt: low: begins with what a check kept in /somewhere/crates/low", 500.0)
+    assert progress.see("rt: mid: begins with what a check kept in /somewhere/crates/mid", 500.5)
+    assert progress.see("rt: chose --jobs 4 for mid", 501.0)
+    assert progress.text(501.0) == "mcf: crate 2 of 3 is being proved: mid; about 22 minutes left"
+    assert not progress.see("rt: chose --jobs 1 for mid", 502.0)
+    assert progress.see("rt: chose --jobs 4 for top", 951.0)
+    assert progress.text(951.0) == "mcf: crate 3 of 3 is being proved: top; about 15 minutes left"
+
+
 def test_lines_of_crates_side_by_side() -> None:
     progress = Progress(THREE, 0.0)
     assert progress.see("rt: mid proved", 450.0)
     assert not progress.see("rt: mid proved", 451.0)
-    assert progress.see("== low", 460.0)
-    assert progress.text(460.0).startswith("mcf: crate 3 of 3 is being proved; about ")
-    assert progress.see("rt: top is kept: an earlier run on this machine proved the same files", 470.0)
-    assert progress.text(470.0) == "mcf: crate 3 of 3 is being proved; less than a minute left"
-    assert not progress.see("rt: stranger proved", 480.0)
+    assert progress.see("rt: low proved", 600.0)
+    assert progress.text(600.0) == "mcf: crate 3 of 3 is being proved; about 15 minutes left"
+    assert progress.see("rt: top is kept: an earlier run on this machine proved the same files", 610.0)
+    assert progress.text(610.0) == "mcf: crate 3 of 3 is being proved; less than a minute left"
+    assert not progress.see("rt: stranger proved", 620.0)
+    assert not progress.see("rt: chose --jobs 4 for stranger", 620.0)
