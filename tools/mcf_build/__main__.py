@@ -8,6 +8,7 @@ import select
 import signal
 import sys
 import time
+from collections.abc import Iterator
 
 sys.path.insert(0, os.path.dirname(os.path.dirname(os.path.abspath(__file__))))
 
@@ -15,7 +16,7 @@ from mcf_build.crates import crates_below  # noqa: E402
 from mcf_build.progress import Progress  # noqa: E402
 
 
-def lines_of(source: int, seconds: float):
+def lines_of(source: int, seconds: float) -> Iterator[bytes | None]:
     """Lines as they come, and None where none came for so many seconds."""
     rest = b""
     while True:

@@ -34,8 +34,8 @@ def _told(line: str, sentence: str, part: int) -> str:
 def _of_line(line: str, program: str, request: Request) -> str:
     """The hint for a line of a request that is in the grammar."""
     if line == "refused net N1 line 1":
-        return _told(line, f"{shown(request.files['NET'])} {kind_of(front_of(request.files['NET']))}", 1)
-    kind = "routing" if front_of(request.files.get("CERT", ""), 12) == b"mcf-routing " else "certificate"
+        return _told(line, f"{shown(request.words['NET'])} {kind_of(front_of(request.words['NET']))}", 1)
+    kind = "routing" if front_of(request.words.get("CERT", ""), 12) == b"mcf-routing " else "certificate"
     row = next((row for row in TABLE if row.line.fullmatch(line) and row.of in ("", kind, request.command)), None)
     if row is None:
         return _told(line, "docs/formats.md tells what is refused so, under this kind", 8)
@@ -45,18 +45,19 @@ def _of_line(line: str, program: str, request: Request) -> str:
 
 def _fullest(program: str, request: Request) -> str | None:
     """The fullest link of a routing and the scale that fits, if both files can be read."""
+    # (no other hint has to wait for the package)
     from mcf_texts import TextError
 
     from .fullest import fullest
     try:
-        return fullest(program, request.files["NET"], request.files["CERT"])
+        return fullest(program, request.words["NET"], request.words["CERT"])
     except TextError:
         return None
 
 
 def _unreadable(request: Request) -> str:
     """Which file cannot be read, and why as far as one sees."""
-    for word in request.files.values():
+    for word in request.files:
         if not os.path.exists(word):
             standard = "; for standard input, write /dev/stdin" if word == "-" else ""
             return f"{shown(word)} does not exist{standard}"

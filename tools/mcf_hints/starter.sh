@@ -33,7 +33,8 @@ wants_hints() {
         '') [ -t 2 ] || return 1 ;;
         *) return 1 ;;
     esac
-    [ -x /usr/bin/python3 ] && [ -e /proc/$$/fd/0 ] && [ -e /proc/$$/fd/1 ] && [ ! -e /proc/$$/fd/9 ] && setpriv --pdeathsig KILL true 2>/dev/null
+    [ -x /usr/bin/python3 ] && [ -e /proc/$$/fd/0 ] && [ -e /proc/$$/fd/1 ] && [ ! -e /proc/$$/fd/9 ] &&
+        setpriv --pdeathsig KILL true 2>/dev/null
 }
 
 # Runs the program $program with the words given. Where hints are wanted it is a child with the caller's own files, which ends with

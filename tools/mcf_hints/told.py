@@ -7,7 +7,7 @@ import re
 import stat
 import subprocess
 
-from .words import FILES, Request
+from .words import Request
 
 SECONDS = 10.0
 _LINES = {1: re.compile(r"invalid C[0-9]+"), 3: re.compile(r"refused [a-z0-9]+ [A-Za-z0-9 ]+")}
@@ -37,8 +37,7 @@ def _last_line(output: int) -> str | None:
 
 def _asked_again(status: int, program: str, words: list[str], request: Request) -> str | None:
     """The line of a second run, which has to end alike; none where a file may be read only once, or it takes too long."""
-    files = [word for place, word in request.files.items() if place in FILES]
-    if any(os.path.exists(file) and not os.path.isfile(file) for file in files):
+    if any(os.path.exists(file) and not os.path.isfile(file) for file in request.files):
         return None
     try:
         ran = subprocess.run([program, *words], stdout=subprocess.PIPE, stderr=subprocess.DEVNULL, close_fds=False, timeout=SECONDS,

@@ -12,7 +12,7 @@ MODES = {"--links": ("directed", "undirected"), "--modules": ("none", "largest",
 RANGES = {"--phases": (1, 65_536), "--workers": (1, 16), "--step": (1, 1_048_576)}
 OPTIONS = ("--links", "--modules", "--gap", "--phases", "--workers", "--step")
 FILES = ("NET", "CERT", "SCRIPT")
-DRAWN = ("SEED", "NODES", "LINKS", "DEMANDS")
+DRAWN = {"SEED": (0, 2**64 - 1), "NODES": (2, 512), "LINKS": (2, 4096), "DEMANDS": (1, 32_768)}
 
 _NUMBER = re.compile(r"(?:[0-9]+\.?[0-9]*|\.[0-9]+)(?:[Ee][+-]?[0-9]{1,2})?")
 _DIGITS = re.compile(r"[0-9]{1,20}")
@@ -31,8 +31,8 @@ COMMANDS = {
     "check": Command(FILES[:2]),
     "whatif": Command(FILES),
     "print": Command(FILES[:1]),
-    "gen": Command(DRAWN),
-    "trial": Command(DRAWN, OPTIONS),
+    "gen": Command(tuple(DRAWN)),
+    "trial": Command(tuple(DRAWN), OPTIONS),
 }
 
 
@@ -41,7 +41,12 @@ class Request:
     """Words that are in the grammar: the command, and its positional words by their names."""
 
     command: str
-    files: dict[str, str]
+    words: dict[str, str]
+
+    @property
+    def files(self) -> list[str]:
+        """The words that name files, in the order in which they are read."""
+        return [self.words[name] for name in FILES if name in self.words]
 
 
 class Misfit(Exception):
@@ -86,17 +91,12 @@ def _take_word(name: str, command: Command, found: dict[str, str], word: str) ->
         quotes = ", and a name with a blank stands in quotes" if "NET" in command.words else ""
         raise Misfit(f"{shown(word)} is one word too many: {name} takes {' '.join(command.words)}{quotes}")
     place = command.words[len(found)]
-    least, most = _range_of(place, found)
-    if most and not _is_whole(word, least, most):
-        raise Misfit(f"{shown(word)} is no {place}, a whole number from {least} to {most} in digits alone")
+    if place in DRAWN:
+        least, most = DRAWN[place]
+        least = int(found["NODES"]) if place == "LINKS" else least
+        if not _is_whole(word, least, most):
+            raise Misfit(f"{shown(word)} is no {place}, a whole number from {least} to {most} in digits alone")
     found[place] = word
-
-
-def _range_of(place: str, found: dict[str, str]) -> tuple[int, int]:
-    """The range of a number of `gen` and `trial`; (0, 0) for a file."""
-    ranges = {"SEED": (0, 2**64 - 1), "NODES": (2, 512), "LINKS": (int(found.get("NODES", "2")) if place == "LINKS" else 2, 4096),
-              "DEMANDS": (1, 32_768)}
-    return ranges.get(place, (0, 0))
 
 
 def _take_option(name: str, command: Command, seen: set[str], word: str, rest: Iterator[str]) -> None:
