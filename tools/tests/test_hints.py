@@ -83,20 +83,27 @@ def test_usage_of_words_that_fit_here_is_told_without_a_word() -> None:
     assert hint(2, "/nothing", ["print", "x"], 99) == f"hint: usage: {USAGE} (docs/guide.md, part 8)"
 
 
+GOOD = {"--links": ["directed", "undirected"], "--modules": ["none", "largest", "sum"], "--gap": ["0.05", "1e3", "0", ".5", "5.", "1E+2", "1e-6"],
+        "--phases": ["1", "65536", "00000000000000000001"], "--workers": ["1", "16"], "--step": ["1", "1048576"]}
+ODD = ["1001", "1e-7", "5%", "", "--", "-", "both", "65537", "17", "1048577", "000000000000000000001", ".", "1e100", "0x1", "+1", "\u0661", "no.file"]
+
+
 def words_drawn(draw: random.Random) -> list[str]:
-    """Words of a command line that is often nearly right; every file in them is missing."""
-    values = ["0.05", "1e3", "1000", "0", "1", "5%", "", "--", "-", "directed", "undirected", "sum", "none", "largest", "65536", "65537", "16", "17",
-              "000000000000000000001", "0000000000000000000001", "1e-6", "1e-7", ".5", "5.", ".", "1E+2", "1e100", "0x1", "+1", "\u0661", "no.file"]
-    words = [draw.choice([*COMMANDS] * 4 + ["help", "--help", ""])]
-    for _ in range(draw.randrange(6)):
-        option, value = draw.choice(OPTIONS), draw.choice(values)
-        words += draw.choice([[option, value], [f"{option}={value}"], [value], ["no.file"], [draw.choice(["--gaps", "-g", "--gap=", "--ga", "--"])]])
-    return words
+    """Words of a command line that is right or nearly so; every file in them is missing."""
+    name = draw.choice([*COMMANDS] * 4 + ["help", "--help", ""])
+    words = ["no.file"] * len(COMMANDS[name].words if name in COMMANDS and draw.random() < 0.9 else "x" * draw.randrange(5))
+    for option in draw.sample(OPTIONS, draw.randrange(4) if name in ("solve", "trial") else draw.randrange(10) // 9):
+        value = draw.choice(GOOD[option] if draw.random() < 0.85 else ODD)
+        place = draw.randrange(len(words) + 1)
+        words[place:place] = draw.choice([[option, value], [f"{option}={value}"]])
+    if draw.random() < 0.2:
+        words.insert(draw.randrange(len(words) + 1), draw.choice(["--", "-", "--gaps", "-g", "--gap=", "--step", *ODD]))
+    return [name, *words]
 
 
 def test_words_are_judged_as_by_the_program(program: Program, tmp_path: Path) -> None:
     draw, counts = random.Random(47), {True: 0, False: 0}
-    lines = [line.split() for line, _ in MISFITS] + [line.split() for line in FITS] + [words_drawn(draw) for _ in range(1500)]
+    lines = [line.split() for line, _ in MISFITS] + [line.split() for line in FITS] + [words_drawn(draw) for _ in range(1000)]
     for words in lines:
         try:
             fits = bool(read(words))
