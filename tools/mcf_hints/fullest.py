@@ -15,7 +15,10 @@ SECONDS = 10.0
 
 
 def fullest(program: str, net: str, routing: str) -> str | None:
-    """Names the first link with the greatest load over capacity; None where files are too large, TextError where they cannot be read."""
+    """Names the first link with the greatest load over capacity.
+
+    None where a file is too large for that; TextError where one cannot be read.
+    """
     if any(not os.path.isfile(file) or os.path.getsize(file) > MOST_BYTES for file in (net, routing)):
         return None
     text = read_routing(load_text(routing))
@@ -31,7 +34,8 @@ def fullest(program: str, net: str, routing: str) -> str | None:
     if not capacity:
         return f"link {name} has no capacity and paths go over it, so no scale above 0 fits"
     if not text.scale_load:
-        return f"the second number of the scale is 0; link {name} is the fullest, and the greatest scale that fits is {capacity} {load}"
+        return (f"the second number of the scale is 0; link {name} is the fullest, "
+                f"and the greatest scale that fits is {capacity} {load}")
     carries = scaled.in_file_unit(load * Fraction(text.scale_capacity, text.scale_load))
     return (f"link {name} is the fullest, with {_decimal(carries)} on a capacity of {_decimal(scaled.in_file_unit(capacity))}; "
             f"the greatest scale that fits is {capacity} {load}, which carries {_decimal(text.phases * fit)} of each demand")

@@ -1,4 +1,4 @@
-"""The table of hints: for each line that the program may end with, what it means, what mostly causes it, and the part of the guide."""
+"""The table of hints: for each line of the program, what it means, what mostly causes it, and the part of the guide."""
 
 from __future__ import annotations
 

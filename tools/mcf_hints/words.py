@@ -55,8 +55,8 @@ class Misfit(Exception):
 
 def shown(word: str) -> str:
     """A word as it may be shown on a terminal: in backquotes, odd bytes as <1b>, and not too long."""
-    safe = "".join(letter if letter.isprintable() else f"<{letter.encode('utf-8', 'surrogateescape').hex()}>" for letter in word[:60])
-    return f"`{safe}{'..' if len(word) > 60 else ''}`"
+    safe = [letter if letter.isprintable() else f"<{letter.encode('utf-8', 'surrogateescape').hex()}>" for letter in word[:60]]
+    return f"`{''.join(safe)}{'..' if len(word) > 60 else ''}`"
 
 
 def listed(names: tuple[str, ...]) -> str:

@@ -199,7 +199,8 @@ def test_crates_below_stand_behind_what_they_use(root: Path) -> None:
     crates = crates_below(str(root), "mcf")
     names = [crate.name for crate in crates]
     assert len(names) == len(set(names)) > 40 and names[-1] == "mcf" and names[0] == "mcf_base"
-    uses = {line.split(":")[0].split()[0]: line.split(":")[1].split() for line in (root / "crates.txt").read_text().splitlines() if ":" in line}
+    lines = [line.split(":") for line in (root / "crates.txt").read_text().splitlines() if ":" in line]
+    uses = {left.split()[0]: right.split() for left, right in lines}
     for place, name in enumerate(names):
         assert set(uses[name]) & set(uses) <= set(names[:place])
     assert all(crate.lines > 10 for crate in crates)
@@ -234,7 +235,7 @@ def test_a_slow_machine_is_noticed() -> None:
 
 def test_crates_that_another_copy_proves_tell_no_pace() -> None:
     progress = Progress(THREE, 0.0)
-    assert progress.see("rt: low: another copy of the repository is building this library; waiting for it, at most half an hour, to use its work", 1.0)
+    assert progress.see("rt: low: another copy of the repository is building this library; waiting for it, to use its work", 1.0)
     assert progress.text(400.0) == "mcf: crate 1 of 3 is being proved: low; about 25 minutes left"
     assert progress.see("rt: low: begins with what a check kept in /somewhere/crates/low", 500.0)
     assert progress.see("rt: mid: begins with what a check kept in /somewhere/crates/mid", 500.5)

@@ -36,8 +36,8 @@ def gate(root: Path, tmp_path: Path, monkeypatch: pytest.MonkeyPatch):
     monkeypatch.setenv("TMPDIR", str(tmp_path / "tmp"))
 
     def run(**stubs: tuple[str, int]) -> tuple[int, list[str]]:
-        places = {"rt": tmp_path / "bin/rt", "cases": top / "cases/run", "solved": top / "cases/solved", "setup": top / "tools/setup",
-                  "test": top / "tools/test"}
+        places = {"rt": tmp_path / "bin/rt", "cases": top / "cases/run", "solved": top / "cases/solved",
+                  "setup": top / "tools/setup", "test": top / "tools/test"}
         for name, (text, status) in stubs.items():
             stub(places[name], text, status)
         ran = subprocess.run([str(top / ".ci/run")], capture_output=True, text=True, stdin=subprocess.DEVNULL)
@@ -78,8 +78,8 @@ def test_without_packages_one_line_says_so_and_the_rest_counts(gate) -> None:
                          test=(PYTEST.format("1 failed in 3.21s"), 1))
     assert (status, lines[-1]) == (0, "130 passed, 0 failed")
     said = [line for line in lines if line.startswith("tools: ")]
-    assert said == ["tools: not tested, since Debian's packages for them are not installed: tools/setup: run it as root, or install sudo; "
-                    "these are missing: python3-scipy", "tools: 0 passed, 0 failed"]
+    assert said == ["tools: not tested, since Debian's packages for them are not installed: tools/setup: run it as root, or install "
+                    "sudo; these are missing: python3-scipy", "tools: 0 passed, 0 failed"]
 
 
 @pytest.mark.parametrize("part, last", [("cases", "127 passed, 3 failed"), ("solved", "117 passed, 3 failed")])
@@ -102,7 +102,6 @@ def test_tests_run_the_program_that_was_built(gate) -> None:
     stub(gate.top / "tools/test", "")
     (gate.top / "tools/test").write_text('#!/bin/sh\necho "$MCF" >at\necho "1 passed in 0.01s"\n')
     assert gate()[0] == 0
-    # (the stub was made anew by the fixture's defaults alone where one is named)
     assert (gate.top / "at").read_text() == f"{gate.top}/crates/mcf/out/mcf\n"
 
 

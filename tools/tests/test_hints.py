@@ -18,7 +18,18 @@ from mcf_hints.words import COMMANDS, OPTIONS, Misfit, read, shown
 from mcf_texts import Program
 
 HEADER = b"?SNDlib native format; type: network; version: 1.0\n"
-NET = HEADER + b"NODES (\n  A\n  B\n)\nLINKS (\n  L1 ( A B ) 10 0 0 0 ( )\n  L2 ( B A ) 0 0 0 0 ( 2.5 1 )\n)\nDEMANDS (\n  D1 ( A B ) 1 4 UNLIMITED\n)\n"
+NET = HEADER + b"""NODES (
+  A
+  B
+)
+LINKS (
+  L1 ( A B ) 10 0 0 0 ( )
+  L2 ( B A ) 0 0 0 0 ( 2.5 1 )
+)
+DEMANDS (
+  D1 ( A B ) 1 4 UNLIMITED
+)
+"""
 
 
 # -- words
@@ -60,9 +71,11 @@ MISFITS = [
     ("trial 1 2 2 32769", "`32769` is no DEMANDS"),
     ("trial 1 2 2 1 1", "`1` is one word too many: trial takes SEED NODES LINKS DEMANDS"),
 ]
-FITS = ["solve n", "solve -", "solve -- --gap", "solve -- -- ", "solve --gap 0.05 n", "solve n --gap=1e3 --phases=0001 --workers 16", "solve n --gap 5e-6",
-        "print --x" .replace("--x", "x"), "whatif a b c", "gen 18446744073709551615 2 2 1", "gen 007 512 4096 32768",
-        "trial 1 2 2 1 --step 1048576 --links=directed --modules sum"]
+FITS = [
+    "solve n", "solve -", "solve -- --gap", "solve -- -- ", "solve --gap 0.05 n", "solve n --gap=1e3 --phases=0001 --workers 16",
+    "solve n --gap 5e-6", "print x", "whatif a b c", "gen 18446744073709551615 2 2 1", "gen 007 512 4096 32768",
+    "trial 1 2 2 1 --step 1048576 --links=directed --modules sum",
+]
 
 
 @pytest.mark.parametrize("line, said", MISFITS)
@@ -83,9 +96,13 @@ def test_usage_of_words_that_fit_here_is_told_without_a_word() -> None:
     assert hint(2, "/nothing", ["print", "x"], 99) == f"hint: usage: {USAGE} (docs/guide.md, part 8)"
 
 
-GOOD = {"--links": ["directed", "undirected"], "--modules": ["none", "largest", "sum"], "--gap": ["0.05", "1e3", "0", ".5", "5.", "1E+2", "1e-6"],
-        "--phases": ["1", "65536", "00000000000000000001"], "--workers": ["1", "16"], "--step": ["1", "1048576"]}
-ODD = ["1001", "1e-7", "5%", "", "--", "-", "both", "65537", "17", "1048577", "000000000000000000001", ".", "1e100", "0x1", "+1", "\u0661", "no.file"]
+GOOD = {
+    "--links": ["directed", "undirected"], "--modules": ["none", "largest", "sum"], "--workers": ["1", "16"],
+    "--step": ["1", "1048576"], "--gap": ["0.05", "1e3", "0", ".5", "5.", "1E+2", "1e-6"],
+    "--phases": ["1", "65536", "00000000000000000001"],
+}
+ODD = ["1001", "1e-7", "5%", "", "--", "-", "both", "65537", "17", "1048577", "000000000000000000001", ".", "1e100", "0x1", "+1",
+       "\u0661", "no.file"]
 
 
 def words_drawn(draw: random.Random) -> list[str]:
@@ -146,13 +163,15 @@ def test_words_are_shown_safely() -> None:
 
 KINDS = [
     (b"", "is empty"), (b"\xef\xbb\xbf" + NET, "begins with a byte order mark, which tools/convert"),
-    (b"\xff\xfe?\0S\0", "begins with a byte order mark of UTF-16, which tools/convert"), (gzip.compress(NET), "is gzip, which tools/convert"),
+    (b"\xff\xfe?\0S\0", "begins with a byte order mark of UTF-16, which tools/convert"),
+    (gzip.compress(NET), "is gzip, which tools/convert"),
     (b'<?xml version="1.0"?>\n<network xmlns="http://sndlib.zib.de/network">', "is XML, which tools/convert"),
     (b"\xef\xbb\xbf<?xml version='1.0'?>\n<network>", "is XML, which tools/convert"),
     (b'<?xml version="1.0"?>\n<graphml xmlns="http://graphml.graphdrawing.org/xmlns">', "is GraphML, which tools/convert"),
     (b"\n <GraphML>", "is GraphML"), (b"<!DOCTYPE html>\n<html>", "is a web page"), (b"PK\x03\x04abc", "is a zip archive"),
     (b"mcf-certificate 1\nverdict", "is a certificate or routing"), (b"mcf-routing 1\n", "is a certificate or routing"),
-    (b"\n" + NET, "has a blank or an empty line"), (b"?SNDlib native format; type: solution; version: 1.0\n", "is of SNDlib, and no network"),
+    (b"\n" + NET, "has a blank or an empty line"),
+    (b"?SNDlib native format; type: solution; version: 1.0\n", "is of SNDlib, and no network"),
     (b"NODES (\n", "does not begin with ?SNDlib native format; type: network;"),
 ]
 
@@ -183,36 +202,61 @@ def says(folder: Path, line: str, status: int) -> str:
     return str(file)
 
 
-LINES = [
-    ("solve net", 3, "refused net N2 line 3", "255 bytes"), ("solve net", 3, "refused net N3 line 17", "sections"),
-    ("solve net", 3, "refused net N4 line 600", "512 nodes"), ("print net", 3, "refused net N5 line 8", "an id stands twice"),
-    ("check net cert", 3, "refused net N6 line 7", "is no node"), ("whatif net cert s", 3, "refused net N7 line 7", "decimal comma"),
-    ("solve net", 3, "refused net N8 line 9", "finer than a millionth"), ("solve net", 3, "refused net N9 line 9", "2^44"),
-    ("solve net", 3, "refused net N10 line 16", "no demand is left"), ("solve net", 3, "refused net TooLong", "64 MiB"),
-    ("solve net", 3, "refused work 2129920", "2,097,152"), ("trial 1 2 2 1", 3, "refused work 2129920", "2,097,152"),
-    ("check net cert", 3, "refused cert K1 line 1", "no certificate and no routing"),
-    ("whatif net cert s", 3, "refused cert K1 line 1", "whatif does not take"), ("check net cert", 3, "refused cert K2 line 4", "form that is due"),
-    ("check net cert", 3, "refused cert K3 line 11", "another network"), ("check net cert", 3, "refused cert K4 line 11", "zero in front"),
-    ("check net cert", 3, "refused cert K5 line 11", "511 links"), ("check net cert", 3, "refused cert K6 line 5", "counts"),
-    ("check net cert", 3, "refused cert TooLong", "1 GiB"), ("whatif net cert s", 3, "refused script S1 line 2", "set, add, sub, close or show"),
-    ("whatif net cert s", 3, "refused script S2 line 2", "no such link"), ("whatif net cert s", 3, "refused script S3 line 2", "+20%"),
-    ("whatif net cert s", 3, "refused script S4 line 2", "decimals"), ("whatif net cert s", 3, "refused script S5 line 2", "2^44"),
-    ("whatif net cert s", 3, "refused script S6 line 2", "sub takes more"), ("whatif net cert s", 3, "refused script TooLong", "1 MiB"),
-    ("check net cert", 1, "invalid C1", "changed after"), ("check net routing", 1, "invalid C1", "against their way"),
-    ("check net cert", 1, "invalid C2", "changed after"), ("check net routing", 1, "invalid C2", "a path that is missing"),
-    ("check net cert", 1, "invalid C3", "changed after"), ("whatif net cert s", 1, "invalid C3", "changed after"),
-    ("check net cert", 1, "invalid C4", "by hand"), ("check net routing", 1, "invalid C4", "above 0"), ("check net cert", 1, "invalid C5", "length"),
-    ("check net cert", 1, "invalid C6", "potentials"), ("check net cert", 1, "invalid C7", "more than its length"),
-    ("check net cert", 1, "invalid C8", "rises"), ("check net cert", 1, "invalid C9", "lines 9 and 10"), ("check net cert", 1, "invalid C10", "verdict"),
-    ("solve net", 1, "mcf-certificate 1", "more --phases"), ("trial 1 2 2 1", 1, "trial nodes", "more --phases"),
-    ("check net cert", 3, "refused cert X9 line 1", "docs/formats.md tells"), ("check net cert", 1, "something else", "names the first one"),
-    ("check net cert", 3, "something else", "names the kind"),
-]
+LINES = [tuple(map(str.strip, row.split("|"))) for row in """\
+solve net         | 3 | refused net N2 line 3   | 255 bytes
+solve net         | 3 | refused net N3 line 17  | sections
+solve net         | 3 | refused net N4 line 600 | 512 nodes
+print net         | 3 | refused net N5 line 8   | an id stands twice
+check net cert    | 3 | refused net N6 line 7   | is no node
+whatif net cert s | 3 | refused net N7 line 7   | decimal comma
+solve net         | 3 | refused net N8 line 9   | finer than a millionth
+solve net         | 3 | refused net N9 line 9   | 2^44
+solve net         | 3 | refused net N10 line 16 | no demand is left
+solve net         | 3 | refused net TooLong     | 64 MiB
+solve net         | 3 | refused work 2129920    | 2,097,152
+trial 1 2 2 1     | 3 | refused work 2129920    | 2,097,152
+check net cert    | 3 | refused cert K1 line 1  | no certificate and no routing
+whatif net cert s | 3 | refused cert K1 line 1  | whatif does not take
+check net cert    | 3 | refused cert K2 line 4  | form that is due
+check net cert    | 3 | refused cert K3 line 11 | another network
+check net cert    | 3 | refused cert K4 line 11 | zero in front
+check net cert    | 3 | refused cert K5 line 11 | 511 links
+check net cert    | 3 | refused cert K6 line 5  | counts
+check net cert    | 3 | refused cert TooLong    | 1 GiB
+whatif net cert s | 3 | refused script S1 line 2| set, add, sub, close or show
+whatif net cert s | 3 | refused script S2 line 2| no such link
+whatif net cert s | 3 | refused script S3 line 2| +20%
+whatif net cert s | 3 | refused script S4 line 2| decimals
+whatif net cert s | 3 | refused script S5 line 2| 2^44
+whatif net cert s | 3 | refused script S6 line 2| sub takes more
+whatif net cert s | 3 | refused script TooLong  | 1 MiB
+check net cert    | 1 | invalid C1              | changed after
+check net routing | 1 | invalid C1              | against their way
+check net cert    | 1 | invalid C2              | changed after
+check net routing | 1 | invalid C2              | a path that is missing
+check net cert    | 1 | invalid C3              | changed after
+whatif net cert s | 1 | invalid C3              | changed after
+check net cert    | 1 | invalid C4              | by hand
+check net routing | 1 | invalid C4              | above 0
+check net cert    | 1 | invalid C5              | length
+check net cert    | 1 | invalid C6              | potentials
+check net cert    | 1 | invalid C7              | more than its length
+check net cert    | 1 | invalid C8              | rises
+check net cert    | 1 | invalid C9              | lines 9 and 10
+check net cert    | 1 | invalid C10             | verdict
+solve net         | 1 | mcf-certificate 1       | more --phases
+trial 1 2 2 1     | 1 | trial nodes             | more --phases
+check net cert    | 3 | refused cert X9 line 1  | docs/formats.md tells
+check net cert    | 1 | something else          | names the first one
+check net cert    | 3 | something else          | names the kind
+""".splitlines()]
 
 
-@pytest.mark.parametrize("words, status, line, said", LINES)
+@pytest.mark.parametrize("words, ended, line, said", LINES)
 @pytest.mark.parametrize("to_file", [True, False])
-def test_line_has_its_hint(tmp_path: Path, monkeypatch: pytest.MonkeyPatch, words: str, status: int, line: str, said: str, to_file: bool) -> None:
+def test_line_has_its_hint(tmp_path: Path, monkeypatch: pytest.MonkeyPatch, words: str, ended: str, line: str, said: str,
+                           to_file: bool) -> None:
+    status = int(ended)
     monkeypatch.chdir(tmp_path)
     for name, text in (("net", NET), ("cert", b"mcf-certificate 1\n"), ("routing", b"mcf-routing 1\n"), ("s", b"show\n")):
         Path(name).write_bytes(text)
@@ -224,7 +268,8 @@ def test_line_has_its_hint(tmp_path: Path, monkeypatch: pytest.MonkeyPatch, word
         told = hint(status, program, words.split(), out.fileno() if to_file else writer)
     os.close(reader)
     os.close(writer)
-    named = "verdict open" if line in ("mcf-certificate 1", "trial nodes") else f"status {status}" if line == "something else" else line
+    others = {"mcf-certificate 1": "verdict open", "trial nodes": "verdict open", "something else": f"status {status}"}
+    named = others.get(line, line)
     assert told is not None and re.fullmatch(rf"hint: {named}: [^\n]+ \(docs/guide\.md, part [1-8]\)", told)
     assert said in told
 
@@ -270,8 +315,8 @@ def test_a_second_run_has_a_time_limit(tmp_path: Path, monkeypatch: pytest.Monke
     program = tmp_path / "program"
     program.write_text("#!/bin/sh\nexec sleep 30\n")
     program.chmod(0o755)
-    assert hint(1, str(program), ["check", "a", "b"], 99) == (
-        "hint: status 1: a condition of the certificate fails; the line on standard output names the first one (docs/guide.md, part 8)")
+    told = hint(1, str(program), ["check", "a", "b"], 99)
+    assert told is not None and told.startswith("hint: status 1: a condition of the certificate fails; the line on standard output")
 
 
 @pytest.mark.parametrize("words, said", [
@@ -297,18 +342,21 @@ def test_tools_that_call_the_starter_get_no_hints(tmp_path: Path, monkeypatch: p
 # -- the fullest link
 
 ROUTINGS = [
-    ("undirected", "scale 10 3", "path D1 4 L1", "`L1` is the fullest, with 13.333333 on a capacity of 10; the greatest scale that fits is 100 40, which carries 2.5"),
-    ("undirected", "scale 3 1", "path D1 1 L1\npath D1 3 L2", "`L2` is the fullest, with 9 on a capacity of 2.5; the greatest scale that fits is 25 30, which carries 0.833333"),
-    ("undirected", "scale 1 0", "path D1 4 L1", "the second number of the scale is 0; link `L1` is the fullest"),
+    ("scale 10 3", "path D1 40 L1",
+     "`L1` is the fullest, with 13.333333 on a capacity of 10; the greatest scale that fits is 100 40, which carries 2.5 "),
+    ("scale 3 1", "path D1 10 L1\npath D1 30 L2",
+     "`L2` is the fullest, with 9 on a capacity of 2.5; the greatest scale that fits is 25 30, which carries 0.833333 "),
+    ("scale 1 0", "path D1 40 L1",
+     "the second number of the scale is 0; link `L1` is the fullest, and the greatest scale that fits is 100 40 "),
 ]
 
 
-@pytest.mark.parametrize("links, scale, paths, said", ROUTINGS)
-def test_fullest_link_of_a_routing(program: Program, tmp_path: Path, links: str, scale: str, paths: str, said: str) -> None:
+@pytest.mark.parametrize("scale, paths, said", ROUTINGS)
+def test_fullest_link_of_a_routing(program: Program, tmp_path: Path, scale: str, paths: str, said: str) -> None:
     net, routing = tmp_path / "net", tmp_path / "routing"
     net.write_bytes(NET)
-    # (one decimal, by the module of L2)
-    text = f"mcf-routing 1\nlinks {links}\nmodules largest\nphases 1\n{scale}\n" + re.sub(r" (\d+) L", lambda found: f" {found[1]}0 L", paths) + "\nend\n"
+    # (in tenths, by the module of L2)
+    text = f"mcf-routing 1\nlinks undirected\nmodules largest\nphases 1\n{scale}\n{paths}\nend\n"
     routing.write_text(text)
     words = ["check", str(net), str(routing)]
     assert program.run(*words).text == "invalid C3\n"

@@ -31,12 +31,12 @@ def test_archive_has_what_a_receiver_needs(root: Path, tmp_path: Path) -> None:
     name, data = archive(root, STANDS_IN, 1_000_000_000)
     top = unpacked(data, tmp_path)
     assert top.name == name == f"mcf-{version_of(root)}-x86_64-linux"
-    for file in ("mcf", "program/mcf", "docs/mcf.1", "docs/guide.md", "docs/formats.md", "LICENSE-APACHE", "LICENSE-MIT", "README.md", "VERSION",
-                 "SHA256SUMS", "tools/mcf_hints/starter.sh", "tools/mcf_hints/help/solve.txt", "tools/mcf_hints/__main__.py", "tools/mcf_texts/network.py",
-                 "examples/polska.net", "examples/polska.cert"):
+    for file in ("mcf", "program/mcf", "docs/mcf.1", "docs/guide.md", "docs/formats.md", "LICENSE-APACHE", "LICENSE-MIT", "README.md",
+                 "VERSION", "SHA256SUMS", "tools/mcf_hints/starter.sh", "tools/mcf_hints/help/solve.txt", "tools/mcf_hints/__main__.py",
+                 "tools/mcf_texts/network.py", "examples/polska.net", "examples/polska.cert"):
         assert (top / file).is_file(), file
     assert (top / "program/mcf").read_bytes() == STANDS_IN.read_bytes()
-    programs = {str(file.relative_to(top)) for file in top.rglob("*") if file.is_file() and os.access(file, os.X_OK) and file.stat().st_mode & 0o111}
+    programs = {str(file.relative_to(top)) for file in top.rglob("*") if file.is_file() and file.stat().st_mode & 0o111}
     assert programs == {"mcf", "program/mcf"}
     assert not list(top.rglob("__pycache__"))
 
@@ -106,7 +106,8 @@ def test_an_archive_that_does_not_work_is_not_kept(root: Path, tmp_path: Path) -
     name, data = archive(root, STANDS_IN, 0)
     with pytest.raises(TextError, match="mcf check, mcf solve$"):
         try_archive(name, data, version_of(root))
-    ran = subprocess.run([str(root / "tools/release"), "--mcf", str(STANDS_IN), "--to", str(tmp_path / "dist")], capture_output=True, text=True)
+    words = [str(root / "tools/release"), "--mcf", str(STANDS_IN), "--to", str(tmp_path / "dist")]
+    ran = subprocess.run(words, capture_output=True, text=True)
     assert (ran.returncode, ran.stdout) == (2, "") and ran.stderr.count("\n") == 1
     assert not (tmp_path / "dist").exists()
 
@@ -138,6 +139,7 @@ def test_release_of_the_program_works_where_it_is_unpacked(program: Program, roo
     shutil.copy(root / "examples/triangle.routing", tmp_path / "r")
     text = (tmp_path / "r").read_text().replace("scale 2 3", "scale 1 1")
     (tmp_path / "r").write_text(text)
-    said = subprocess.run(["mcf", "check", str(root / "examples/triangle.net"), "r"], env=env, cwd=tmp_path, capture_output=True, text=True)
+    words = ["mcf", "check", str(root / "examples/triangle.net"), "r"]
+    said = subprocess.run(words, env=env, cwd=tmp_path, capture_output=True, text=True)
     assert (said.returncode, said.stdout) == (1, "invalid C3\n")
     assert "the greatest scale that fits is 10 15" in said.stderr

@@ -1,4 +1,4 @@
-"""The starter: help and version, and runs whose output, status, signals and files stay those of the program, with hints or without."""
+"""The starter: help and version, and runs whose output, status, signals and files stay those of the program."""
 
 from __future__ import annotations
 
@@ -35,12 +35,13 @@ def starter(tmp_path: Path, root: Path):
 
 def run(words: list[str], hints: str, **how) -> subprocess.CompletedProcess:
     """A run to its end, with hints or without."""
-    return subprocess.run(words, env={**os.environ, **HINTS[hints]}, stdout=subprocess.PIPE, stderr=subprocess.PIPE, timeout=60, **how)
+    return subprocess.run(words, env={**os.environ, **HINTS[hints]}, capture_output=True, timeout=60, **how)
 
 
 def begun(words: list[str], hints: str) -> subprocess.Popen:
     """A run that has written its first line."""
-    run = subprocess.Popen(words, env={**os.environ, **HINTS[hints]}, stdout=subprocess.PIPE, stderr=subprocess.DEVNULL, start_new_session=True)
+    run = subprocess.Popen(words, env={**os.environ, **HINTS[hints]}, stdout=subprocess.PIPE, stderr=subprocess.DEVNULL,
+                           start_new_session=True)
     assert run.stdout is not None and run.stdout.readline() == b"begun\n"
     return run
 
@@ -61,8 +62,8 @@ def test_version_is_that_of_the_one_file(starter, root: Path) -> None:
 
 
 @pytest.mark.parametrize("words", [
-    ["help", "nothing"], ["help", "../help/solve"], ["help", ""], ["help", "solve", "check"], ["--version", "x"], ["solve", "--help", "x"], [],
-    ["nothing", "--help"], ["-help"],
+    ["help", "nothing"], ["help", "../help/solve"], ["help", ""], ["help", "solve", "check"], ["--version", "x"], ["solve", "--help", "x"],
+    ["nothing", "--help"], ["-help"], [],
 ])
 def test_other_words_are_the_programs(starter, words: list[str]) -> None:
     ran = run([starter('#!/bin/sh\necho "$#"\nexit 2\n'), *words], "0")
@@ -86,8 +87,8 @@ def test_status_and_output_stay(starter, status: int) -> None:
 
 @pytest.mark.parametrize("hints", HINTS)
 def test_hints_come_behind_what_the_program_wrote(starter, hints: str) -> None:
-    ran = subprocess.run([starter("#!/bin/sh\necho usage\nexit 2\n"), "solve"], env={**os.environ, **HINTS[hints]}, stdout=subprocess.PIPE,
-                         stderr=subprocess.STDOUT)
+    made = starter("#!/bin/sh\necho usage\nexit 2\n")
+    ran = subprocess.run([made, "solve"], env={**os.environ, **HINTS[hints]}, stdout=subprocess.PIPE, stderr=subprocess.STDOUT)
     assert ran.returncode == 2
     lines = ran.stdout.decode().splitlines()
     assert lines[0] == "usage" and len(lines) == 1 + (hints == "1")
@@ -174,8 +175,8 @@ def test_a_reader_that_stops_stops_the_program(starter, hints: str) -> None:
 
 @pytest.mark.parametrize("hints", HINTS)
 def test_a_reader_that_stops_is_seen_by_a_program_that_looks(starter, hints: str) -> None:
-    made = starter(f"#!{sys.executable}\nimport os\nprint('begun', flush=True)\ntry:\n    while True:\n        os.write(1, b'x' * 4096)\n"
-                   "except BrokenPipeError:\n    os._exit(5)\n")
+    made = starter(f"#!{sys.executable}\nimport os\nprint('begun', flush=True)\ntry:\n    while True:\n"
+                   "        os.write(1, b'x' * 4096)\nexcept BrokenPipeError:\n    os._exit(5)\n")
     run = begun([made], hints)
     run.stdout.close()
     assert run.wait(timeout=20) == 5
@@ -187,7 +188,8 @@ def test_a_great_output_comes_whole_and_as_fast(starter) -> None:
     times = {}
     for hints in HINTS:
         start = time.monotonic()
-        with subprocess.Popen([made, "solve", "x"], env={**os.environ, **HINTS[hints]}, stdout=subprocess.PIPE, stderr=subprocess.DEVNULL) as run:
+        env = {**os.environ, **HINTS[hints]}
+        with subprocess.Popen([made, "solve", "x"], env=env, stdout=subprocess.PIPE, stderr=subprocess.DEVNULL) as run:
             size = sum(len(part) for part in iter(lambda: run.stdout.read(1 << 20), b""))
         times[hints] = time.monotonic() - start
         assert (size, run.returncode) == (200 << 20, 1)
