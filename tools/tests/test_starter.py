@@ -12,6 +12,8 @@ from pathlib import Path
 
 import pytest
 
+from mcf_texts import Program
+
 RUN = '#!/bin/sh\nhere={root}\n. "$here/tools/mcf_hints/starter.sh"\nanswer_help "$@"\nprogram={program}\nrun_program "$@"\n'
 HINTS = {"0": {"MCF_HINTS": "0"}, "1": {"MCF_HINTS": "1"}}
 
@@ -227,3 +229,39 @@ def is_gone(pid: int) -> bool:
 def test_a_program_that_is_killed_is_seen_so(starter, hints: str, sent: str) -> None:
     ran = run([starter(f"#!/bin/sh\nulimit -c 0\nkill -{sent} $$\n")], hints)
     assert (ran.returncode, ran.stderr) == (-signal.Signals[f"SIG{sent}"], b"")
+
+
+# -- the program itself, beside its starter with hints
+
+@pytest.fixture
+def both(program: Program, tmp_path: Path, root: Path) -> list[list[str]]:
+    """The program, and a starter of it with hints."""
+    made = script(tmp_path, "starter", RUN.format(root=root, program=program.path))
+    return [[program.path], ["env", "MCF_HINTS=1", str(made)]]
+
+
+LINES = [
+    "gen 7 100 4000 20000 >&-", "gen 7 100 4000 20000 >/dev/full", "solve no.net >&-", "x >&-", "x >/dev/full",
+    "gen 7 100 4000 20000 | head -c 5", "gen 7 100 4000 20000 | tail -c 50", "gen 7 4 5 2 <&-", "print /dev/stdin <examples/polska.net",
+    "print /dev/fd/3 3<examples/polska.net", "print <(cat examples/geant.net)", "print <(printf x) 2>&-",
+    "check examples/polska.net <(cat examples/triangle.cert)",
+]
+
+
+@pytest.mark.parametrize("line", LINES)
+def test_output_and_status_are_the_programs(both: list[list[str]], root: Path, line: str) -> None:
+    seen = []
+    for words in both:
+        text = f'"$@" {line}; echo "status ${{PIPESTATUS[0]}}"'
+        seen.append(subprocess.run(["bash", "-c", text, "bash", *words], cwd=root, capture_output=True).stdout)
+    assert seen[0] == seen[1] and b"status " in seen[0]
+
+
+def test_a_reader_that_stops_early_gives_one_status(both: list[list[str]]) -> None:
+    ended = []
+    for words in both:
+        run = subprocess.Popen([*words, "gen", "7", "512", "4096", "32768"], stdout=subprocess.PIPE, stderr=subprocess.DEVNULL)
+        assert run.stdout is not None and run.stdout.read(10) == b"?SNDlib na"
+        run.stdout.close()
+        ended.append(run.wait(timeout=60))
+    assert ended[0] == ended[1] != 0
