@@ -64,8 +64,8 @@ def test_version_is_that_of_the_one_file(starter, root: Path) -> None:
 
 
 @pytest.mark.parametrize("words", [
-    ["help", "nothing"], ["help", "../help/solve"], ["help", ""], ["help", "solve", "check"], ["--version", "x"], ["solve", "--help", "x"],
-    ["nothing", "--help"], ["-help"], [],
+    ["help", "nothing"], ["help", "../help/solve"], ["help", ""], ["help", "solve", "check"], ["--version", "x"], ["-help"], [],
+    ["solve", "--help", "x"], ["nothing", "--help"],
 ])
 def test_other_words_are_the_programs(starter, words: list[str]) -> None:
     ran = run([starter('#!/bin/sh\necho "$#"\nexit 2\n'), *words], "0")
@@ -242,8 +242,8 @@ def both(program: Program, tmp_path: Path, root: Path) -> list[list[str]]:
 
 LINES = [
     "gen 7 100 4000 20000 >&-", "gen 7 100 4000 20000 >/dev/full", "solve no.net >&-", "x >&-", "x >/dev/full",
-    "gen 7 100 4000 20000 | head -c 5", "gen 7 100 4000 20000 | tail -c 50", "gen 7 4 5 2 <&-", "print /dev/stdin <examples/polska.net",
-    "print /dev/fd/3 3<examples/polska.net", "print <(cat examples/geant.net)", "print <(printf x) 2>&-",
+    "gen 7 100 4000 20000 | head -c 5", "gen 7 100 4000 20000 | tail -c 50", "gen 7 4 5 2 <&-",
+    "print /dev/stdin <examples/polska.net", "print /dev/fd/3 3<examples/polska.net", "print <(cat examples/geant.net)", "print <(printf x) 2>&-",
     "check examples/polska.net <(cat examples/triangle.cert)",
 ]
 
