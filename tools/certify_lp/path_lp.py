@@ -48,7 +48,7 @@ class Pool:
         return True
 
     def cells_by_walks(self, cells: int) -> csc_matrix:
-        """How often each path has each cell."""
+        """Which cells each path has, each once."""
         counts = np.fromiter(map(len, self.walks), _INDEX, len(self.walks))
         starts = np.concatenate([[0], np.cumsum(counts)])
         numbers = np.fromiter((cell for walk in self.walks for cell in walk), _INDEX, starts[-1])
@@ -146,7 +146,7 @@ class PathProgram:
         counts = np.diff(matrix.indptr)
         cross = csc_matrix((matrix.data, (matrix.indices, np.repeat(pair, counts))), (len(self._capacity), len(self._amount)))
         cross.sum_duplicates()
-        most = cross.minimum(1) @ self._amount if matrix.data.max(initial=0) <= 1 else cross @ self._amount
+        most = (cross > 0) @ self._amount
         bound = np.inf if best is None else best.bound
         least = 0.0 if not np.isfinite(bound) else (1 - 1e-6) / bound
         self._active |= (self._capacity > 0) & (most > self._capacity * least)
