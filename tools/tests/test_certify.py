@@ -215,8 +215,8 @@ def test_an_optimum_that_no_number_of_phases_meets() -> None:
     split = Network((Node("A"), Node("B"), Node("C")), (Link("L0", "A", "B", "65546"), Link("L1", "A", "C", "1"), Link("L2", "C", "B", "1")),
                     (Demand("D", "A", "B", "1", "1"),))
     certificate = run._optimum(unlimited(scale(split), 1), None, np.inf)
-    assert Fraction(*certificate.upper) == 65547
-    assert 0 < gap_of(certificate) <= 1
+    assert bounds(certificate) == (65546, 65547), "one unit of at most 65,536 is too much for the small link, and none is what is left"
+    assert gap_of(certificate) == 16
 
 
 def test_bound_is_exact_for_prices_with_noise() -> None:
