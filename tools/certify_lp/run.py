@@ -16,7 +16,7 @@ from mcf_texts import Certificate, Program, Routing, ScaledNetwork, TextError, s
 from .build import certificate_of, in_form, with_gap
 from .clp import load_clp
 from .path_lp import Optimum, PathProgram, complete
-from .prices import Bound, Bounds
+from .prices import Bound, Bounds, over_all_paths
 from .problem import Arcs, Pairs, pairs_of
 from .rounding import Rounding
 from .start import Source, combined, first_certificate, given, lengths_of, longer_certificates, pool_of
@@ -102,8 +102,8 @@ def _optimum(begun: Begun, gap: int | None, deadline: float) -> Certificate:
     complete(pool, arcs, pairs, 1 / np.maximum(capacity, 0.5))
     left = deadline - time.monotonic()
     optimum = _solved(PathProgram(library, pairs, arcs, capacity, pool), time.monotonic() + left * 0.6)
-    bound = _bound(Bounds(pairs, arcs, capacities), optimum, begun)
     amounts = [int(amount) for amount in pairs.amount]
+    bound = _bound(Bounds(amounts, capacities, over_all_paths(pairs, arcs)), optimum, begun)
     used = len(optimum.flows)
     matrix = pool.cells_by_walks(len(capacities))[:, :used]
     with tqdm(desc="whole numbers", disable=None, leave=False):

@@ -12,7 +12,7 @@ import pytest
 from certify_lp import clp, run
 from certify_lp.build import gap_of
 from certify_lp.path_lp import PathProgram, Pool, complete
-from certify_lp.prices import Bounds
+from certify_lp.prices import Bounds, over_all_paths
 from certify_lp.problem import Arcs, pairs_of
 from certify_lp.rounding import Rounding
 from certify_lp.run import Begun, Request, certify
@@ -222,7 +222,7 @@ def test_an_optimum_that_no_number_of_phases_meets() -> None:
 def test_bound_is_exact_for_prices_with_noise() -> None:
     scaled = scale(line_network("3", "5", "11"))
     pairs, arcs = pairs_of(scaled), Arcs(scaled)
-    found = Bounds(pairs, arcs, [3, 5, 11]).offer(np.array([0.2500000001, 0.25, 0.2499999999]))
+    found = Bounds([1], [3, 5, 11], over_all_paths(pairs, arcs)).offer(np.array([0.2500000001, 0.25, 0.2499999999]))
     assert found is not None and found.value == 19
 
 
@@ -243,7 +243,7 @@ def test_rounding_keeps_sums_and_repairs() -> None:
     complete(pool, arcs, pairs, np.array([1.0, 9.0, 9.0]))
     library = clp.load_clp()
     optimum = PathProgram(library, pairs, arcs, np.array(capacities, float), pool).optimise(np.inf, lambda found: None)
-    bound = Bounds(pairs, arcs, capacities).offer(optimum.prices)
+    bound = Bounds([5, 1], capacities, over_all_paths(pairs, arcs)).offer(optimum.prices)
     assert bound is not None and optimum.proved and near(bound.value, 1 / optimum.congestion)
     matrix = pool.cells_by_walks(3)
     whole = Rounding(matrix, np.array(pool.pair), [5, 1], capacities, optimum.flows).best(bound.value, bound.value, np.inf)
