@@ -70,6 +70,8 @@ def read(words: list[str]) -> Request:
         raise Misfit(f"a command has to stand there: {listed(tuple(COMMANDS))}; ./mcf --help explains them")
     name, rest = words[0], iter(words[1:])
     if name not in COMMANDS:
+        # (the starter answers help on the commands that there are)
+        name = words[1] if name == "help" and len(words) == 2 else name
         raise Misfit(f"{shown(name)} is no command{_nearest(name, tuple(COMMANDS))}")
     command, found, seen, is_plain = COMMANDS[name], {}, set(), False
     for word in rest:
