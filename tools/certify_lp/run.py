@@ -77,7 +77,9 @@ def _begin(program: Program, request: Request, deadline: float) -> Begun:
     scaled = source.scaled()
     with tqdm(desc="paths of a solve", disable=None, leave=False):
         first = paths if isinstance(paths, Certificate) else first_certificate(source, len(scaled.commodities), deadline)
-    return Begun(source, scaled, in_form(scaled, first, program.form), paths or first, paths is not None)
+    if paths is None:
+        return Begun(source, scaled, first, first, False)
+    return Begun(source, scaled, in_form(scaled, first, program.form), paths, True)
 
 
 def _options(request: Request, paths: Routing | None) -> tuple[str, str]:

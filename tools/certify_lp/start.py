@@ -48,7 +48,7 @@ class Source:
 
 def start_phases(commodities: int) -> int:
     """How many phases the start has: a few, and more in small networks, where they cost nothing."""
-    return max(12, min(100, 300_000 // commodities))
+    return max(12, min(100, 150_000 // commodities))
 
 
 def step_for(phases: int) -> int:

@@ -5,10 +5,7 @@ from __future__ import annotations
 import random
 from fractions import Fraction
 
-import numpy as np
-from scipy.optimize import linprog
-from scipy.sparse import coo_matrix
-
+from arc_program import arc_program, by_highs
 from mcf_texts import Demand, Link, Module, Network, Node, ScaledNetwork
 
 _CAPACITIES = (["1", "2", "3", "10"], ["0", "5", "7.5", ".25"], ["8796093", "1", "3"], ["0.000001", "1", "12.5"], ["155", "622", "2480"])
@@ -38,33 +35,10 @@ def odd_network(seed: int) -> Network:
 
 
 def arc_optimum(scaled: ScaledNetwork) -> float:
-    """The greatest fraction by an arc program of one flow for each source, solved by HiGHS."""
-    nodes = len(scaled.network.nodes)
-    wanted: dict[int, np.ndarray] = {}
-    for commodity in scaled.commodities:
-        row = wanted.setdefault(commodity.source, np.zeros(nodes))
-        row[commodity.target] += commodity.amount
-    top = max(float(commodity.amount) for commodity in scaled.commodities)
-    arcs = [(cell.tail, cell.head, number) for number, cell in enumerate(scaled.cells) if cell.capacity and cell.tail != cell.head]
-    arcs += [(cell.head, cell.tail, number) for number, cell in enumerate(scaled.cells) if cell.both and cell.capacity and cell.tail != cell.head]
-    columns = len(wanted) * len(arcs)
-    balance, fill = [], []
-    for block, row in enumerate(wanted.values()):
-        for at, (tail, head, cell) in enumerate(arcs):
-            column = block * len(arcs) + at
-            balance += [(block * nodes + head, column, 1.0), (block * nodes + tail, column, -1.0)]
-            fill.append((cell, column, 1.0))
-        source = list(wanted)[block]
-        for node in range(nodes):
-            amount = row[node] if node != source else -row.sum() + row[node]
-            balance.append((block * nodes + node, columns, -amount / top))
-    equal = coo_matrix(([v for *_, v in balance], tuple(zip(*[(r, c) for r, c, _ in balance]))), (len(wanted) * nodes, columns + 1))
-    within = coo_matrix(([v for *_, v in fill], ([r for r, _, _ in fill], [c for _, c, _ in fill])), (len(scaled.cells), columns + 1))
-    room = np.array([cell.capacity / top for cell in scaled.cells])
-    cost = np.append(np.zeros(columns), -1.0)
-    found = linprog(cost, A_ub=within, b_ub=room, A_eq=equal, b_eq=np.zeros(equal.shape[0]), method="highs")
-    assert found.status == 0, found.message
-    return -found.fun
+    """The greatest fraction by the program over arcs, solved by HiGHS."""
+    fraction, _ = by_highs(arc_program(scaled), "highs", 600.0)
+    assert fraction is not None
+    return fraction
 
 
 def near(value: Fraction, other: float) -> bool:
