@@ -44,7 +44,7 @@ def test_commands_give_what_is_shown(room: Path, root: Path, program: Program, m
             # (a file that the reader is to write)
             (room / file[1]).write_text(shown)
             continue
-        ran = subprocess.run(["bash", "-c", f"exec 2>&1; {command}"], cwd=room, stdout=subprocess.PIPE, text=True, timeout=300)
+        ran = subprocess.run(["bash", "-c", f"exec 2>&1; {command}"], cwd=room, stdout=subprocess.PIPE, text=True, timeout=900)
         assert ran.stdout == shown, command
 
 
