@@ -1,0 +1,100 @@
+"""The table of hints: for each line of the program, what it means, what mostly causes it, and the part of the guide."""
+
+from __future__ import annotations
+
+import re
+from dataclasses import dataclass
+
+
+@dataclass(frozen=True)
+class Row:
+    """A sentence for lines of one form; `of` limits it to a kind of second file (`certificate` or `routing`) or to a command."""
+
+    line: re.Pattern[str]
+    sentence: str
+    part: int = 8
+    of: str = ""
+
+
+def _row(line: str, sentence: str, part: int = 8, of: str = "") -> Row:
+    """A row of the table; a line is written with N for its number."""
+    return Row(re.compile(line.replace(" line N", " line [0-9]+").replace(" W", " [0-9]+")), sentence, part, of)
+
+
+_OTHER = "mostly since the network's file was changed after the certificate was made: solve it anew"
+_EDITED = "mostly in a file that was edited by hand or cut off"
+
+TABLE = (
+    _row("refused net N2 line N", "a word has more than 255 bytes, mostly in a file that is no text or has lost its blanks"),
+    _row("refused net N3 line N",
+         "the text cannot go on as this line does; mostly the line before lacks its `( )` of modules, the sections stand in "
+         "another order, or the file is cut off"),
+    _row("refused net N4 line N",
+         "there are more than 512 nodes, 4,096 links or 32,768 demands, mostly since demands of the same ends are not merged"),
+    _row("refused net N5 line N",
+         "an id stands twice among the nodes, the links or the demands, mostly in a row that was copied; the line is that of "
+         "the second"),
+    _row("refused net N6 line N",
+         "an end of a link or demand is no node, mostly by a misspelt name or a comma that sticks to it"),
+    _row("refused net N7 line N",
+         "a word that has to be a number is none, mostly by a sign, a decimal comma or a unit behind it"),
+    _row("refused net N8 line N",
+         "a number is finer than a millionth, mostly one that was computed: round it, or write the file in a smaller unit"),
+    _row("refused net N9 line N",
+         "a number is over 2^44 units or all amounts together over 2^46, mostly of bits in place of Gbit, or of large numbers "
+         "with many decimals: write the file in a greater unit, or round"),
+    _row("refused net N10 line N",
+         "no demand is left, since each has amount 0 or ends in its own node, mostly in a file that has links alone"),
+    _row("refused net TooLong", "the network file is over 64 MiB, mostly by sections that are skipped anyway: take them out"),
+    _row("refused work W",
+         "demands times phases are over 2,097,152, so with so many demands --phases has to be less, or left out", 5),
+    _row("refused cert K1 line 1",
+         "this is no certificate: another file, a routing, which whatif does not take, or line ends as on Windows, which sed "
+         "'s/\\r$//' mends", of="whatif"),
+    _row("refused cert K1 line 1",
+         "this is no certificate and no routing: mostly another file, or line ends as on Windows, which sed 's/\\r$//' mends"),
+    _row("refused cert K2 line N", f"the line has not the form that is due there, {_EDITED}"),
+    _row("refused cert K3 line N",
+         "the network has no demand, link or node of that name (a demand of amount 0 is left out), mostly since it is another "
+         "network"),
+    _row("refused cert K4 line N", f"a word is no number of a certificate's form, as one with a zero in front, {_EDITED}"),
+    _row("refused cert K5 line N", f"a number is over its limit or a path has more than 511 links, {_EDITED}"),
+    _row("refused cert K6 line 5",
+         "the certificate's counts are not those of this network; mostly it is another network, or rows or sections were added "
+         "or taken away"),
+    _row("refused cert TooLong",
+         "the certificate is over 1 GiB, mostly of very many phases: ask for a greater gap, or for fewer phases"),
+    _row("refused script S1 line N",
+         "a command has to stand there: set, add, sub, close or show, with a link and a number; mostly a word is missing"),
+    _row("refused script S2 line N", "the network has no such link, mostly by a misspelt id"),
+    _row("refused script S3 line N", "a word that has to be a number is none, as +20% or 0,5"),
+    _row("refused script S4 line N",
+         "a number has more decimals than the certificate's line 5 tells, mostly one that was computed: round it"),
+    _row("refused script S5 line N", "a capacity is over 2^44 units, mostly by a number in a smaller unit than the network's"),
+    _row("refused script S6 line N", "sub takes more than the link has at that point, mostly after an earlier edit of it"),
+    _row("refused script TooLong", "the script is over 1 MiB: cut it in two"),
+    _row("invalid C1",
+         "a path is no walk from its demand's source to its target, mostly by links out of order, or against their way where "
+         "links are directed", 3, "routing"),
+    _row("invalid C1", f"a path is no walk from its demand's source to its target, {_OTHER}"),
+    _row("invalid C2",
+         "the weights of a demand do not sum to phases times its amount in whole units, mostly by a path that is missing or by "
+         "rounding", 3, "routing"),
+    _row("invalid C2", f"the weights of a demand do not sum to phases times its amount, {_OTHER}"),
+    _row("invalid C3",
+         "a link carries more than its capacity at this scale, mostly by a scale that is too great", 3, "routing"),
+    _row("invalid C3", f"a link carries more than its capacity at this scale, {_OTHER}"),
+    _row("invalid C4", "the second number of the scale is 0, and has to be a load above 0", 3, "routing"),
+    _row("invalid C4", f"the second number of the scale is 0, {_EDITED}"),
+    _row("invalid C5", f"a link has no length or has two, {_EDITED}"),
+    _row("invalid C6", f"a source of demands has no row of potentials or two, or another node has one, {_EDITED}"),
+    _row("invalid C7", f"a link raises a potential by more than its length, {_OTHER}"),
+    _row("invalid C8", f"no demand has a potential that rises from its source to its target, {_EDITED}"),
+    _row("invalid C9", f"the fractions of lines 9 and 10 are not those of the rows, {_OTHER}"),
+    _row("invalid C10", f"the verdict is not that of the gap and of both fractions, {_EDITED}"),
+    _row("verdict open",
+         "the phases were spent before both fractions came within the gap; both hold, and more --phases, a smaller --step or a "
+         "greater --gap may close it", 5),
+    _row("status 1", "a condition of the certificate fails; the line on standard output names the first one"),
+    _row("status 3", "a file is refused; the line on standard output names the kind of the fault and its line"),
+)

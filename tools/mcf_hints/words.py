@@ -1,0 +1,147 @@
+"""The words of the command line, as docs/formats.md has them, and the first one that does not fit."""
+
+from __future__ import annotations
+
+import difflib
+import re
+from collections.abc import Callable, Iterator
+from dataclasses import dataclass
+from fractions import Fraction
+
+MODES = {"--links": ("directed", "undirected"), "--modules": ("none", "largest", "sum")}
+RANGES = {"--phases": (1, 65_536), "--workers": (1, 16), "--step": (1, 1_048_576)}
+OPTIONS = ("--links", "--modules", "--gap", "--phases", "--workers", "--step")
+FILES = ("NET", "CERT", "SCRIPT")
+DRAWN = {"SEED": (0, 2**64 - 1), "NODES": (2, 512), "LINKS": (2, 4096), "DEMANDS": (1, 32_768)}
+
+_NUMBER = re.compile(r"(?:[0-9]+\.?[0-9]*|\.[0-9]+)(?:[Ee][+-]?[0-9]{1,2})?")
+_DIGITS = re.compile(r"[0-9]{1,20}")
+
+
+@dataclass(frozen=True)
+class Command:
+    """What stands behind a command's word: names of positional words, and options."""
+
+    words: tuple[str, ...]
+    options: tuple[str, ...] = ()
+
+
+COMMANDS = {
+    "solve": Command(FILES[:1], OPTIONS),
+    "check": Command(FILES[:2]),
+    "whatif": Command(FILES),
+    "print": Command(FILES[:1]),
+    "gen": Command(tuple(DRAWN)),
+    "trial": Command(tuple(DRAWN), OPTIONS),
+}
+
+
+@dataclass(frozen=True)
+class Request:
+    """Words that are in the grammar: the command, and its positional words by their names."""
+
+    command: str
+    words: dict[str, str]
+
+    @property
+    def files(self) -> list[str]:
+        """The words that name files, in the order in which they are read."""
+        return [self.words[name] for name in FILES if name in self.words]
+
+
+class Misfit(Exception):
+    """The first word that does not fit, and why, as part of a sentence."""
+
+
+def shown(word: str) -> str:
+    """A word as it may be shown on a terminal: in backquotes, odd bytes as <1b>, and not too long."""
+    safe = [letter if letter.isprintable() else f"<{letter.encode('utf-8', 'surrogateescape').hex()}>" for letter in word[:60]]
+    return f"`{''.join(safe)}{'..' if len(word) > 60 else ''}`"
+
+
+def listed(names: tuple[str, ...]) -> str:
+    """Names as `a, b or c`."""
+    return " or ".join([*([", ".join(names[:-1])] if names[1:] else []), *names[-1:]])
+
+
+def read(words: list[str]) -> Request:
+    """The request of the words; Misfit at the first one with which no command line of the grammar goes on."""
+    if not words:
+        raise Misfit(f"a command has to stand there: {listed(tuple(COMMANDS))}; ./mcf --help explains them")
+    name, rest = words[0], iter(words[1:])
+    if name not in COMMANDS:
+        # (the starter answers help on the commands that there are)
+        name = words[1] if name == "help" and len(words) == 2 else name
+        raise Misfit(f"{shown(name)} is no command{_nearest(name, tuple(COMMANDS))}")
+    command, found, seen, is_plain = COMMANDS[name], {}, set(), False
+    for word in rest:
+        if is_plain or word == "-" or not word.startswith("-"):
+            _take_word(name, command, found, word)
+        elif word == "--":
+            is_plain = True
+        else:
+            _take_option(name, command, seen, word, rest)
+    if len(found) < len(command.words):
+        missing = " and ".join(command.words[len(found):])
+        raise Misfit(f"{missing} is missing at the end: {name} takes {' '.join(command.words)}")
+    return Request(name, found)
+
+
+def _take_word(name: str, command: Command, found: dict[str, str], word: str) -> None:
+    """One more positional word."""
+    if len(found) == len(command.words):
+        quotes = ", and a name with a blank stands in quotes" if "NET" in command.words else ""
+        raise Misfit(f"{shown(word)} is one word too many: {name} takes {' '.join(command.words)}{quotes}")
+    place = command.words[len(found)]
+    if place in DRAWN:
+        least, most = DRAWN[place]
+        least = int(found["NODES"]) if place == "LINKS" else least
+        if not _is_whole(word, least, most):
+            raise Misfit(f"{shown(word)} is no {place}, a whole number from {least} to {most} in digits alone")
+    found[place] = word
+
+
+def _take_option(name: str, command: Command, seen: set[str], word: str, rest: Iterator[str]) -> None:
+    """One more option, with its value."""
+    option, equals, value = word.partition("=")
+    if option not in command.options:
+        none = ", which takes none; they are those of solve and trial" if not command.options else _nearest(option, command.options)
+        raise Misfit(f"{shown(option)} is no option of {name}{none}")
+    if option in seen:
+        raise Misfit(f"{option} stands twice")
+    seen.add(option)
+    value = value if equals else next(rest, None)
+    if value is None:
+        raise Misfit(f"the value of {option} is missing at the end")
+    wanted, fits = _values_of(option)
+    if not fits(value):
+        raise Misfit(f"{shown(value)} is no value of {option}, which is {wanted}")
+
+
+def _values_of(option: str) -> tuple[str, Callable[[str], bool]]:
+    """What an option's value has to be, in words and as a test."""
+    if option in MODES:
+        return listed(MODES[option]), lambda value: value in MODES[option]
+    if option in RANGES:
+        least, most = RANGES[option]
+        return f"a whole number from {least} to {most} in digits alone", lambda value: _is_whole(value, least, most)
+    return "a number from 0 to 1000 with a point and at most six decimals, as 0.05", _is_gap
+
+
+def _is_whole(word: str, least: int, most: int) -> bool:
+    """Whether a word is a whole number of 1 to 20 digits within a range."""
+    return _DIGITS.fullmatch(word) is not None and least <= int(word) <= most
+
+
+def _is_gap(word: str) -> bool:
+    """Whether a word is a number of network files, a whole number of millionths, from 0 to 1000."""
+    if not _NUMBER.fullmatch(word):
+        return False
+    value = Fraction(word)
+    return value <= 1000 and (value * 10**6).denominator == 1
+
+
+def _nearest(word: str, names: tuple[str, ...]) -> str:
+    """The name that is nearest to a word, as the end of a sentence; else all names."""
+    near = difflib.get_close_matches(word, names, 1)
+    return f"; perhaps {near[0]}" if near else f": they are {listed(names)}"

@@ -1,0 +1,1 @@
+"""The archive for those who want no toolchain."""

@@ -1,0 +1,63 @@
+"""What the documents show is what comes: every command of a text block is run, and its output compared."""
+
+from __future__ import annotations
+
+import re
+import subprocess
+from pathlib import Path
+
+import pytest
+
+from mcf_texts import Program
+
+STARTER = '#!/bin/sh\nhere={root}\n. "$here/tools/mcf_hints/starter.sh"\nanswer_help "$@"\nprogram={program}\nrun_program "$@"\n'
+
+
+def sessions(text: str) -> list[tuple[str, str]]:
+    """The commands of all text blocks in their order, each with the output that is shown behind it."""
+    found = []
+    for block in re.findall(r"^```text\n(.*?)^```$", text, re.M | re.S):
+        found += re.findall(r"^\$ (.*)\n((?:(?!\$ ).*\n)*)", block, re.M)
+    return found
+
+
+@pytest.fixture
+def room(program: Program, root: Path, tmp_path: Path) -> Path:
+    """A folder as the top of the repository, with a starter that builds nothing."""
+    for name in ("examples", "tools", "docs", "VERSION"):
+        (tmp_path / name).symlink_to(root / name)
+    (tmp_path / "mcf").write_text(STARTER.format(root=root, program=program.path))
+    (tmp_path / "mcf").chmod(0o755)
+    return tmp_path
+
+
+@pytest.mark.parametrize("document, least", [("README.md", 5), ("docs/guide.md", 25)])
+def test_commands_give_what_is_shown(room: Path, root: Path, program: Program, monkeypatch: pytest.MonkeyPatch, document: str,
+                                     least: int) -> None:
+    monkeypatch.setenv("MCF", program.path)
+    monkeypatch.delenv("MCF_HINTS", raising=False)
+    commands = sessions((root / document).read_text())
+    assert len(commands) >= least
+    for command, shown in commands:
+        file = re.fullmatch(r"cat (\S+)", command)
+        if file and not (room / file[1]).exists():
+            # (a file that the reader is to write)
+            (room / file[1]).write_text(shown)
+            continue
+        ran = subprocess.run(["bash", "-c", f"exec 2>&1; {command}"], cwd=room, stdout=subprocess.PIPE, text=True, timeout=900)
+        assert ran.stdout == shown, command
+
+
+def test_links_of_the_documents_lead_somewhere(root: Path) -> None:
+    for document in [root / "README.md", *sorted((root / "docs").glob("*.md"))]:
+        for target in re.findall(r"\]\(([^)#:]+)(?:#[^)]*)?\)", document.read_text()):
+            assert (document.parent / target).exists(), (document.name, target)
+
+
+def test_anchors_of_the_documents_are_there(root: Path) -> None:
+    for document in [root / "README.md", *sorted((root / "docs").glob("*.md"))]:
+        for target, anchor in re.findall(r"\]\(([^)#:]*)#([^)]+)\)", document.read_text()):
+            other = document.parent / target if target else document
+            titles = re.findall(r"^#+ (.+)$", other.read_text(), re.M)
+            anchors = {re.sub(r"[^\w\- ]", "", title.lower()).replace(" ", "-") for title in titles}
+            assert anchor in anchors, (document.name, target, anchor)

@@ -1,0 +1,145 @@
+"""The release: what is in the archive, that it is the same for the same files, and that it works."""
+
+from __future__ import annotations
+
+import hashlib
+import io
+import os
+import re
+import shutil
+import subprocess
+import tarfile
+from pathlib import Path
+
+import pytest
+
+from mcf_release.archive import archive, built_program, files_of, is_for_this_kind, try_archive, version_of
+from mcf_texts import Program, TextError
+
+STANDS_IN = Path("/bin/true")
+
+
+def unpacked(data: bytes, folder: Path) -> Path:
+    """The archive's one folder, unpacked."""
+    with tarfile.open(fileobj=io.BytesIO(data)) as tar:
+        tar.extractall(folder)
+    top, = folder.iterdir()
+    return top
+
+
+def test_archive_has_what_a_receiver_needs(root: Path, tmp_path: Path) -> None:
+    name, data = archive(root, STANDS_IN, 1_000_000_000)
+    top = unpacked(data, tmp_path)
+    assert top.name == name == f"mcf-{version_of(root)}-x86_64-linux"
+    for file in ("mcf", "program/mcf", "docs/mcf.1", "docs/guide.md", "docs/formats.md", "LICENSE-APACHE", "LICENSE-MIT", "README.md",
+                 "VERSION", "SHA256SUMS", "tools/mcf_hints/starter.sh", "tools/mcf_hints/help/solve.txt", "tools/mcf_hints/__main__.py",
+                 "tools/mcf_texts/network.py", "examples/polska.net", "examples/polska.cert"):
+        assert (top / file).is_file(), file
+    assert (top / "program/mcf").read_bytes() == STANDS_IN.read_bytes()
+    programs = {str(file.relative_to(top)) for file in top.rglob("*") if file.is_file() and file.stat().st_mode & 0o111}
+    assert programs == {"mcf", "program/mcf"}
+    assert not list(top.rglob("__pycache__"))
+
+
+def test_checksums_are_of_every_other_file(root: Path, tmp_path: Path) -> None:
+    top = unpacked(archive(root, STANDS_IN, 0)[1], tmp_path)
+    sums = {line.split("  ", 1)[1]: line.split("  ", 1)[0] for line in (top / "SHA256SUMS").read_text().splitlines()}
+    files = {str(file.relative_to(top)) for file in top.rglob("*") if file.is_file()}
+    assert set(sums) == files - {"SHA256SUMS"}
+    assert all(hashlib.sha256((top / file).read_bytes()).hexdigest() == digest for file, digest in sums.items())
+    assert subprocess.run(["sha256sum", "--quiet", "-c", "SHA256SUMS"], cwd=top).returncode == 0
+
+
+def test_the_same_files_give_the_same_bytes(root: Path) -> None:
+    one, other = archive(root, STANDS_IN, 7), archive(root, STANDS_IN, 7)
+    assert one == other
+    with tarfile.open(fileobj=io.BytesIO(one[1])) as tar:
+        assert {(member.mtime, member.uid, member.gid, member.uname) for member in tar} == {(7, 0, 0, "root")}
+
+
+def test_version_stands_in_one_file(root: Path) -> None:
+    version = version_of(root)
+    files = files_of(root, STANDS_IN)
+    assert files["docs/mcf.1"][1].decode().startswith(f'.TH MCF 1 "2026" "mcf {version}" "User commands"\n')
+    listed = [name for name, (_, data) in files.items() if version.encode() in data and not name.startswith("examples/")]
+    assert sorted(listed) == ["VERSION", "docs/mcf.1"]
+    assert version not in (root / "README.md").read_text() + (root / "docs/mcf.1").read_text()
+
+
+def test_starter_of_the_release_has_help_and_no_build(root: Path, tmp_path: Path) -> None:
+    top = unpacked(archive(root, STANDS_IN, 0)[1], tmp_path)
+    assert Program(str(top / "mcf")).ask("--version") == f"mcf {version_of(root)}\n"
+    assert Program(str(top / "mcf")).ask("help", "check").startswith("usage: mcf check")
+    assert Program(str(top / "mcf")).run("solve").status == 0
+
+
+@pytest.mark.parametrize("version", ["", "1", "1.2", "v1.2.3", "1.2.3\n4", "1.2.3/.."])
+def test_a_version_of_another_form_is_refused(tmp_path: Path, version: str) -> None:
+    (tmp_path / "VERSION").write_text(version)
+    with pytest.raises(TextError):
+        version_of(tmp_path)
+
+
+def test_a_program_older_than_a_source_is_not_shipped(tmp_path: Path) -> None:
+    with pytest.raises(TextError, match="run ./mcf once"):
+        built_program(tmp_path)
+    (tmp_path / "crates/mcf/out").mkdir(parents=True)
+    (tmp_path / "crates/mcf/src").mkdir()
+    source, program = tmp_path / "crates/mcf/src/main.rt", tmp_path / "crates/mcf/out/mcf"
+    source.write_text("")
+    program.write_text("")
+    (tmp_path / "crates/mcf/out/later.rt").write_text("")
+    os.utime(source, (100, 100))
+    os.utime(program, (100, 100))
+    assert built_program(tmp_path) == program
+    os.utime(source, (101, 101))
+    with pytest.raises(TextError, match="older than its sources"):
+        built_program(tmp_path)
+
+
+def test_kind_of_program() -> None:
+    assert is_for_this_kind(STANDS_IN) == (os.uname().machine == "x86_64")
+    assert not is_for_this_kind(Path(__file__))
+
+
+def test_an_archive_that_does_not_work_is_not_kept(root: Path, tmp_path: Path) -> None:
+    name, data = archive(root, STANDS_IN, 0)
+    with pytest.raises(TextError, match="mcf check, mcf solve$"):
+        try_archive(name, data, version_of(root))
+    words = [str(root / "tools/release"), "--mcf", str(STANDS_IN), "--to", str(tmp_path / "dist")]
+    ran = subprocess.run(words, capture_output=True, text=True)
+    assert (ran.returncode, ran.stdout) == (2, "") and ran.stderr.count("\n") == 1
+    assert not (tmp_path / "dist").exists()
+
+
+@pytest.mark.parametrize("words", [["--mcf", "/no/where"], ["--mcf", "/etc/passwd"]])
+def test_errors_are_one_line(root: Path, words: list[str]) -> None:
+    ran = subprocess.run([str(root / "tools/release"), *words], capture_output=True, text=True)
+    assert ran.returncode == 2 and re.fullmatch(r"tools/release: [^\n]+ is no program for Linux on x86-64\n", ran.stderr)
+
+
+def test_release_of_the_program_works_where_it_is_unpacked(program: Program, root: Path, tmp_path: Path) -> None:
+    to = tmp_path / "dist"
+    ran = subprocess.run([str(root / "tools/release"), "--mcf", program.path, "--to", str(to)], capture_output=True, text=True)
+    assert (ran.returncode, ran.stderr) == (0, "")
+    file = Path(ran.stdout.rstrip("\n"))
+    assert subprocess.run(["sha256sum", "--quiet", "-c", f"{file.name}.sha256"], cwd=to).returncode == 0
+    (tmp_path / "a folder").mkdir()
+    subprocess.run(["tar", "xzf", str(file), "-C", str(tmp_path / "a folder")], check=True)
+    top, = (tmp_path / "a folder").iterdir()
+    starter = Program(str(top / "mcf"))
+    certificate = starter.solve(root / "examples/triangle.net", "--workers", "1")
+    assert certificate == (root / "examples/triangle.cert").read_text()
+    (tmp_path / "bin").mkdir()
+    (tmp_path / "bin/mcf").symlink_to(top / "mcf")
+    env = {**os.environ, "PATH": f"{tmp_path}/bin:{os.environ['PATH']}", "MCF_HINTS": "1"}
+    said = subprocess.run(["mcf", "solve", "none.net"], env=env, cwd=tmp_path, capture_output=True, text=True)
+    assert (said.returncode, said.stdout) == (4, "read fault\n")
+    assert said.stderr == "hint: read fault: `none.net` does not exist (docs/guide.md, part 8)\n"
+    shutil.copy(root / "examples/triangle.routing", tmp_path / "r")
+    text = (tmp_path / "r").read_text().replace("scale 2 3", "scale 1 1")
+    (tmp_path / "r").write_text(text)
+    words = ["mcf", "check", str(root / "examples/triangle.net"), "r"]
+    said = subprocess.run(words, env=env, cwd=tmp_path, capture_output=True, text=True)
+    assert (said.returncode, said.stdout) == (1, "invalid C3\n")
+    assert "the greatest scale that fits is 10 15" in said.stderr
