@@ -76,7 +76,8 @@ def _begin(program: Program, request: Request, deadline: float) -> Begun:
     source = Source(program, request.net, *_options(request, paths))
     scaled = source.scaled()
     with tqdm(desc="paths of a solve", disable=None, leave=False):
-        first = paths if isinstance(paths, Certificate) else first_certificate(source, len(scaled.commodities), deadline)
+        half = deadline - request.seconds / 2
+        first = paths if isinstance(paths, Certificate) else first_certificate(source, len(scaled.commodities), half)
     if paths is None:
         return Begun(source, scaled, first, first, False)
     return Begun(source, scaled, in_form(scaled, first, program.form), paths, True)
