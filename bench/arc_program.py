@@ -54,21 +54,22 @@ def arc_program(scaled: ScaledNetwork) -> ArcProgram:
     every = np.concatenate([columns, columns, np.full(wanted.size, len(columns))])
     balance = coo_matrix((values, (rows, every)), (len(sources) * nodes, len(columns) + 1)).tocsc()
     balance.eliminate_zeros()
-    within = coo_matrix((np.ones(len(columns)), (np.tile(arcs[:, 2], len(sources)), columns)), (len(scaled.cells), len(columns) + 1)).tocsc()
+    fill = np.ones(len(columns)), (np.tile(arcs[:, 2], len(sources)), columns)
+    within = coo_matrix(fill, (len(scaled.cells), len(columns) + 1)).tocsc()
     return ArcProgram(balance, within, np.array([cell.capacity / top for cell in scaled.cells]))
 
 
 def by_highs(program: ArcProgram, method: str, seconds: float) -> tuple[float | None, float]:
-    """The fraction by scipy's HiGHS, None where the time is not enough, and how long it took."""
-    begun = time.monotonic()
+    """The fraction by scipy's HiGHS, None where the time is not enough, and the processor's time."""
+    begun = time.process_time()
     found = linprog(program.cost, A_ub=program.within, b_ub=program.room, A_eq=program.balance, b_eq=np.zeros(program.balance.shape[0]),
                     method=method, options={"time_limit": seconds})
-    return (-found.fun if found.status == 0 else None), time.monotonic() - begun
+    return (-found.fun if found.status == 0 else None), time.process_time() - begun
 
 
 def by_clp(program: ArcProgram, seconds: float) -> tuple[float | None, float]:
     """The fraction by CLP's own choice of a method, likewise."""
-    begun = time.monotonic()
+    begun = time.process_time()
     library = load_clp()
     matrix = vstack([program.balance, program.within]).tocsc()
     zeros = np.zeros(program.balance.shape[0])
@@ -76,4 +77,4 @@ def by_clp(program: ArcProgram, seconds: float) -> tuple[float | None, float]:
         model.load(matrix, program.cost, np.full(matrix.shape[1], np.inf), np.concatenate([zeros, program.room]),
                    np.concatenate([zeros, np.full(len(program.room), -np.inf)]))
         solved = model.solve_anew(seconds)
-        return (-model.cost if solved else None), time.monotonic() - begun
+        return (-model.cost if solved else None), time.process_time() - begun

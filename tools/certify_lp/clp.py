@@ -71,10 +71,10 @@ class Model:
              row_lower: np.ndarray | None = None) -> None:
         """The program: columns from 0 to `upper`, rows up to `row_upper`, and from `row_lower` where that is given."""
         self._rows, self._columns = matrix.shape
-        arrays = [np.ascontiguousarray(matrix.indptr, np.int32), np.ascontiguousarray(matrix.indices, np.int32),
-                  np.ascontiguousarray(matrix.data, np.float64), np.zeros(self._columns), np.ascontiguousarray(upper, np.float64),
-                  np.ascontiguousarray(cost, np.float64), np.full(self._rows, -np.inf) if row_lower is None else np.ascontiguousarray(row_lower, np.float64),
-                  np.ascontiguousarray(row_upper, np.float64)]
+        lower = np.full(self._rows, -np.inf) if row_lower is None else row_lower
+        places = [np.ascontiguousarray(array, np.int32) for array in (matrix.indptr, matrix.indices)]
+        numbers = (matrix.data, np.zeros(self._columns), upper, cost, lower, row_upper)
+        arrays = [*places, *(np.ascontiguousarray(array, np.float64) for array in numbers)]
         self._clp.Clp_loadProblem(self._model, self._columns, self._rows, *(array.ctypes.data for array in arrays))
 
     def set_tolerances(self, primal: float, dual: float) -> None:

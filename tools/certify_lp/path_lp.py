@@ -22,6 +22,7 @@ from .problem import Arcs, Pairs, Walk
 ROUNDS = 500
 TOLERANCE = 1e-9
 ENOUGH = 1e-11
+NOISE = 1e-13
 
 _INDEX = np.int64
 
@@ -199,7 +200,7 @@ class PathProgram:
         """Adds a shortest path for each pair all of whose paths are longer; says how many are new."""
         shortest = np.full(len(self._amount), np.inf)
         np.minimum.at(shortest, np.array(self._pool.pair, _INDEX), matrix.T @ prices)
-        longer = np.flatnonzero(self._distance < shortest - TOLERANCE * prices.max(initial=0))
+        longer = np.flatnonzero(self._distance < shortest * (1 - TOLERANCE) - NOISE * prices.max(initial=0))
         return add_shortest(self._pool, self._arcs, self._pairs, longer, self._found[1], self._row)
 
 

@@ -17,7 +17,7 @@ from .build import certificate_of, in_form, with_gap
 from .clp import load_clp
 from .path_lp import Optimum, PathProgram, complete
 from .prices import Bound, Bounds, over_all_paths
-from .problem import Arcs, Pairs, pairs_of
+from .problem import Arcs, pairs_of
 from .rounding import Rounding
 from .start import Source, combined, first_certificate, given, lengths_of, longer_certificates, pool_of
 
@@ -76,7 +76,8 @@ def _begin(program: Program, request: Request, deadline: float) -> Begun:
     source = Source(program, request.net, *_options(request, paths))
     scaled = source.scaled()
     with tqdm(desc="paths of a solve", disable=None, leave=False):
-        first = paths if isinstance(paths, Certificate) else first_certificate(source, len(scaled.commodities), deadline)
+        half = deadline - request.seconds / 2
+        first = paths if isinstance(paths, Certificate) else first_certificate(source, len(scaled.commodities), half)
     if paths is None:
         return Begun(source, scaled, first, first, False)
     return Begun(source, scaled, in_form(scaled, first, program.form), paths, True)
@@ -119,6 +120,7 @@ def _solved(program: PathProgram, deadline: float) -> Optimum:
     """The linear program's answer; its rounds are told on a terminal."""
     with tqdm(desc="linear program", unit=" rounds", disable=None, leave=False) as bar:
         def told(optimum: Optimum) -> None:
+            """Shows a round."""
             bar.update()
             bar.set_postfix(fraction=f"{1 / optimum.congestion:.6f}", bound=f"{optimum.bound:.6f}")
         return program.optimise(deadline, told)

@@ -26,7 +26,7 @@ SIX = ("abilene", "polska", "nobel-us", "geant", "germany50", "ta2")
 
 def asked(net: Path, **options: object) -> Request:
     """A request with defaults."""
-    given: dict[str, object] = {"links": None, "modules": None, "gap": None, "seconds": 120.0, "start": None}
+    given: dict[str, object] = {"links": None, "modules": None, "gap": None, "seconds": 3600.0, "start": None}
     return Request(str(net), **{**given, **options})  # type: ignore[arg-type]
 
 
