@@ -1,0 +1,91 @@
+"""The program `mcf`: where it is, and its commands with their answers."""
+
+from __future__ import annotations
+
+import os
+import subprocess
+import tempfile
+from dataclasses import dataclass
+from functools import cached_property
+from pathlib import Path
+
+from .certificate import save_text
+from .errors import TextError
+from .network import Network, read_network
+
+TINY = ("?SNDlib native format; type: network; version: 1.0\nNODES (\n  A\n  B\n)\nLINKS (\n  L ( A B ) 1 0 0 0 ( )\n)\n"
+        "DEMANDS (\n  D ( A B ) 1 1 UNLIMITED\n)\n")
+
+
+@dataclass(frozen=True)
+class Answer:
+    """What a run of the program wrote, and its status."""
+
+    status: int
+    text: str
+
+    @property
+    def line(self) -> str:
+        """The first line of the text."""
+        return self.text.split("\n", 1)[0]
+
+
+@dataclass(frozen=True)
+class Program:
+    """The program at a path."""
+
+    path: str
+
+    def run(self, *words: str, seconds: float | None = None) -> Answer:
+        """Runs a command; TextError where the program cannot be started or takes longer than so many seconds."""
+        try:
+            done = subprocess.run([self.path, *words], stdout=subprocess.PIPE, stdin=subprocess.DEVNULL, timeout=seconds, check=False)
+        except OSError as error:
+            raise TextError(f"{self.path}: {error.strerror}") from error
+        except subprocess.TimeoutExpired as error:
+            raise TextError(f"mcf {words[0]} was not done in {seconds:.0f} seconds") from error
+        return Answer(done.returncode, done.stdout.decode("latin-1"))
+
+    def ask(self, *words: str, statuses: tuple[int, ...] = (0,), seconds: float | None = None) -> str:
+        """The text that a command wrote; TextError, with its line, where the status is another one."""
+        answer = self.run(*words, seconds=seconds)
+        if answer.status not in statuses:
+            raise TextError(f"mcf {' '.join(words)}: {answer.line or f'status {answer.status}'}")
+        return answer.text
+
+    def network(self, file: str | Path) -> Network:
+        """The rows of any network file, by `mcf print`."""
+        return read_network(self.ask("print", _word(file)))
+
+    def solve(self, file: str | Path, *options: str, seconds: float | None = None) -> str:
+        """The certificate of a network file, closed or open."""
+        return self.ask("solve", *options, "--", str(file), statuses=(0, 1), seconds=seconds)
+
+    def check(self, file: str | Path, certificate: str | Path, seconds: float | None = None) -> Answer:
+        """What `mcf check` says of a certificate or routing."""
+        return self.run("check", _word(file), _word(certificate), seconds=seconds)
+
+    @cached_property
+    def form(self) -> int:
+        """The form of the certificates that `mcf solve` writes, 1 or 2, seen by solving a tiny network."""
+        with tempfile.TemporaryDirectory() as room:
+            file = Path(room, "tiny.net")
+            save_text(file, TINY)
+            header = self.solve(file, "--workers", "1").split("\n", 1)[0]
+        if header not in ("mcf-certificate 1", "mcf-certificate 2"):
+            raise TextError(f"{self.path}: the certificate begins with {header!r}")
+        return int(header[-1])
+
+
+def find_program(path: str | None = None) -> Program:
+    """The program: the path given, else that of the environment's MCF, else `mcf` at the top of the repository."""
+    found = path or os.environ.get("MCF") or str(Path(__file__).resolve().parents[2] / "mcf")
+    if not os.path.isfile(found):
+        raise TextError(f"{found}: no such program; name it by --mcf, or by MCF in the environment")
+    return Program(os.path.abspath(found))
+
+
+def _word(file: str | Path) -> str:
+    """A file's name as a word that is no option."""
+    word = str(file)
+    return f"./{word}" if word.startswith("-") and word != "-" else word

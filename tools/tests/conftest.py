@@ -1,0 +1,29 @@
+"""What the tests share: the packages under tools/, the program, and the repository's examples."""
+
+from __future__ import annotations
+
+import os
+import sys
+from pathlib import Path
+
+import pytest
+
+ROOT = Path(__file__).resolve().parents[2]
+sys.path.insert(0, str(ROOT / "tools"))
+
+from mcf_texts import Program, find_program  # noqa: E402
+
+
+@pytest.fixture(scope="session")
+def root() -> Path:
+    """The top of the repository."""
+    return ROOT
+
+
+@pytest.fixture(scope="session")
+def program() -> Program:
+    """The program that was built; tests that need it are skipped where there is none. Never the starter, which would build."""
+    path = os.environ.get("MCF") or str(ROOT / "crates/mcf/out/mcf")
+    if not os.path.isfile(path):
+        pytest.skip("mcf was not built, and MCF names none")
+    return find_program(path)
