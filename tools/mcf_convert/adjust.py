@@ -95,14 +95,14 @@ def _rounded_demand(demand: Demand, matrix: str, decimals: int, notes: Notes) ->
 def require_fit(network: Network, linked: bool, limited: bool) -> None:
     """Refuses what the program would refuse for its size or its numbers, and says which option helps."""
     _require_counts(network, linked, limited)
-    for link in network.links:
+    for link in network.links if linked else []:
         if link.capacity is None:
             lost = sum(1 for other in network.links if other.capacity is None)
             raise Refused(f"link {link.name} has no capacity, and {lost - 1} others have none: --capacity-default X gives them X")
         for value in (link.capacity, *(size for size, _ in link.modules)):
             _require_number(value, f"link {link.name}")
     for matrix in network.matrices:
-        _require_demands(matrix, network.links)
+        _require_demands(matrix, network.links if linked else [])
 
 
 def _require_counts(network: Network, linked: bool, limited: bool) -> None:

@@ -152,8 +152,8 @@ def _modules(table: Table, at: int, row: list[str]) -> tuple[tuple[Fraction, str
 def _node(table: Table, at: int, row: list[str]) -> Node:
     name = table.word(row, "node") or table.must(at, row, "id")
     comma = "." if table.form.comma else ","
-    x, y = (table.must(at, row, role).replace(",", comma) for role in ("x", "y"))
-    return Node(name, name, (x, y))
+    x, y = (table.word(row, role).replace(",", comma) for role in ("x", "y"))
+    return Node(name, name, (x, y) if x and y else None)
 
 
 def _demands(table: Table) -> Source:
