@@ -1,0 +1,76 @@
+"""From files to a report's files."""
+
+from __future__ import annotations
+
+import argparse
+import sys
+from dataclasses import dataclass
+from pathlib import Path
+
+from mcf_texts import Program, TextError, load_text, read_any, scale
+
+from .figures import Figures
+from .page import report_page, side
+from .shown import counted
+from .tables import links_table, paths_table
+
+
+@dataclass(frozen=True)
+class Files:
+    """What a report is on."""
+
+    net: str
+    certificate: str
+    second: str | None
+    net2: str | None
+
+
+def judged(program: Program, net: str, certificate: str) -> tuple[Figures, str]:
+    """The figures of a certificate or routing that `mcf check` finds valid, and what it said."""
+    answer = program.check(net, certificate)
+    if answer.status != 0:
+        raise TextError(f"{certificate} on {net}: mcf check says: {answer.line or f"status {answer.status}"}")
+    text = read_any(load_text(certificate))
+    return Figures(scale(program.network(net), text.links, text.modules), text), answer.line
+
+
+def write_report(program: Program, files: Files, title: str, words: argparse.Namespace) -> None:
+    """Writes the page and the tables that are asked for."""
+    first = judged(program, files.net, files.certificate)
+    second = judged(program, files.net2 or files.net, files.second) if files.second else None
+    both = [first, second] if second else [first]
+    if words.html:
+        headings = ["Before", "After"] if second else [""]
+        sides = [side(one[0], heading, _checked(one), words.rows) for one, heading in zip(both, headings)]
+        write(words.html, report_page(title, _about(first[0]), sides), "utf-8")
+    if words.csv:
+        write(words.csv, links_table([one[0] for one in both]))
+    if words.paths:
+        write(words.paths, paths_table(both[-1][0]))
+
+
+def _checked(one: tuple[Figures, str]) -> str:
+    """What the program said of a certificate."""
+    return f"mcf check: {one[1]}"
+
+
+def _about(figures: Figures) -> str:
+    """What the network is."""
+    scaled = figures.scaled
+    network = scaled.network
+    parts = [counted(len(network.nodes), "node"), counted(len(network.links), "link"), counted(len(scaled.commodities), "demand")]
+    modes = {"undirected": "both ways of a link share its capacity", "directed": "links are one way", "bidirected": "each way of a link has its whole capacity"}
+    return f"{', '.join(parts)}; {modes[scaled.links]}; modules: {scaled.modules}."
+
+
+def write(file: str, text: str, encoding: str = "latin-1") -> None:
+    """Writes a text; `-` is standard output."""
+    data = text.encode(encoding, "replace")
+    try:
+        if file == "-":
+            sys.stdout.buffer.write(data)
+            sys.stdout.buffer.flush()
+        else:
+            Path(file).write_bytes(data)
+    except OSError as error:
+        raise TextError(f"{file}: {error.strerror}") from error
