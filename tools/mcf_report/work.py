@@ -29,7 +29,7 @@ def judged(program: Program, net: str, certificate: str) -> tuple[Figures, str]:
     """The figures of a certificate or routing that `mcf check` finds valid, and what it said."""
     answer = program.check(net, certificate)
     if answer.status != 0:
-        raise TextError(f"{certificate} on {net}: mcf check says: {answer.line or f"status {answer.status}"}")
+        raise TextError(f"{certificate} on {net}: mcf check says: {answer.line or f'status {answer.status}'}")
     text = read_any(load_text(certificate))
     return Figures(scale(program.network(net), text.links, text.modules), text), answer.line
 
