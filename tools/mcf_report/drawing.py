@@ -21,6 +21,7 @@ CLASSES = (
 OVER = (len(CLASSES), "more than 100 %")
 UNUSED, CLOSED = "n", "c"
 MOST_LABELS = 70
+LARGE = 1.8
 
 
 @dataclass(frozen=True)
@@ -128,9 +129,9 @@ class _Room:
     boxes: list[tuple[float, float, float, float]]
     points: list[tuple[float, float]]
 
-    def cost(self, box: tuple[float, float, float, float]) -> int | None:
-        """How many points of lines a box covers; none where it cannot stand."""
-        inside = 0 <= box[0] and box[2] <= self.width and 0 <= box[1] and box[3] <= self.height
+    def cost(self, box: tuple[float, float, float, float], left: float, right: float) -> int | None:
+        """How many points of lines a box covers; none where it cannot stand, or is outside in large letters."""
+        inside = 0 <= left and right <= self.width and 10 <= box[1] and box[3] + 10 <= self.height
         if not inside or any(_cover(box, other) for other in self.boxes):
             return None
         return sum(box[0] < x < box[2] and box[1] < y < box[3] for x, y in self.points)
@@ -165,13 +166,20 @@ def _dot(title: str, places: Layout, at: int, radius: float, room: _Room, wanted
     for rise in (5, -6, 16):
         sides += [(x + radius + 4, y + rise, "start", x + radius + 4), (x - radius - 4, y + rise, "end", x - radius - 4 - width)]
     boxes = [(left, label_y - height + 3, left + width, label_y + 3) for _, label_y, _, left in sides]
-    costs = [(cost, side) for side, box in enumerate(boxes) if wanted and (cost := room.cost(box)) is not None]
+    costs = [(cost, side) for side, box in enumerate(boxes) if wanted and (cost := room.cost(box, *_large(box, sides[side][2]))) is not None]
     if not costs:
         return Dot(x, y, title, "", x, y, "middle")
     best = min(costs)[1]
     room.boxes.append(boxes[best])
     label_x, label_y, anchor, _ = sides[best]
     return Dot(x, y, title, label, round(label_x, 1), round(label_y, 1), anchor)
+
+
+def _large(box: tuple[float, float, float, float], anchor: str) -> tuple[float, float]:
+    """From where to where a label goes in the large letters that narrow pages have."""
+    more = (box[2] - box[0]) * (LARGE - 1)
+    left = {"start": 0.0, "middle": more / 2, "end": more}[anchor]
+    return box[0] - left, box[2] + more - left
 
 
 def _cover(a: tuple[float, float, float, float], b: tuple[float, float, float, float]) -> bool:

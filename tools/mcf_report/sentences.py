@@ -50,18 +50,20 @@ def _nothing(figures: Figures) -> str:
 
 
 def growth(figures: Figures) -> str:
-    """What the bottleneck says."""
-    rows = figures.bottleneck
-    if not rows or figures.upper is None:
+    """What the bottleneck says: which links make up the bound, and how far doubling the first of them can lift it."""
+    shares: dict[str, Fraction] = {}
+    for row in figures.bottleneck:
+        shares[row.link] = shares.get(row.link, Fraction(0)) + (row.share or 0)
+    if not shares or figures.upper is None:
         return ""
-    half, sum_so_far = 0, Fraction(0)
-    while sum_so_far < Fraction(9, 10):
-        sum_so_far += rows[half].share or 0
-        half += 1
-    first = rows[0]
-    doubled = figures.upper * (1 + (first.share or 0))
-    weight = f"{counted(half, 'link makes', 'links make')} up {percent(sum_so_far)} of the bound"
-    return f"{weight}. With twice the capacity on {name(first.link)} alone, no routing would carry more than {percent_up(doubled)} of every demand."
+    ordered = sorted(shares.items(), key=lambda pair: -pair[1])
+    count, together = 0, Fraction(0)
+    while together < Fraction(9, 10):
+        together += ordered[count][1]
+        count += 1
+    first, share = ordered[0]
+    weight = f"{counted(count, 'link makes', 'links make')} up {percent(together)} of the bound"
+    return f"{weight}. With twice the capacity on {name(first)} alone, no routing would carry more than {percent_up(figures.upper * (1 + share))} of every demand."
 
 
 def peak(figures: Figures) -> str:

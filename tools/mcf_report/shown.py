@@ -34,11 +34,10 @@ def _small(value: Fraction) -> str:
     """A share that is too small for a tenth of a percent, by its first two digits, rounded down."""
     if not 0 < value * 1000 < 1:
         return ""
-    places = 0
-    while value * 10**places < 10:
+    places = 3
+    while value * 10 ** (places + 2) < 10:
         places += 1
-    digits = str((value * 10**places).__floor__()).rjust(places - 1, "0")
-    return f"0.{digits[: places - 2]} %" if places > 2 else f"{digits} %"
+    return f"0.{(value * 10 ** (places + 2)).__floor__():0{places}d} %"
 
 
 def amount(value: Fraction) -> str:
