@@ -10,6 +10,8 @@ from typing import Any
 
 import jinja2
 
+from mcf_texts import ScaledNetwork
+
 from . import sentences, shown
 from .drawing import CLASSES, CLOSED, OVER, UNUSED, Drawing, drawing
 from .figures import DemandFigures, Figures, LinkFigures
@@ -43,6 +45,11 @@ class Side:
     def bound(self) -> bool:
         """Whether shares are known."""
         return self.figures.is_certificate
+
+    @property
+    def about(self) -> str:
+        """What the network is."""
+        return about(self.figures.scaled)
 
     @property
     def verdict(self) -> str:
@@ -157,21 +164,35 @@ def changes(before: Figures, after: Figures) -> list[Change]:
     return sorted(rows, key=lambda row: -abs(row.difference))
 
 
-def side(figures: Figures, heading: str, checked: str, rows: int) -> Side:
-    """A side of a page."""
-    return Side(figures, heading, drawing(figures, layout(figures.scaled)), checked, rows)
+def sides_of(both: list[tuple[Figures, str]], rows: int) -> list[Side]:
+    """The sides of a page from figures and what was said of them; the same nodes stand at the same places."""
+    headings = ["Before", "After"] if len(both) > 1 else [""]
+    places = layout(both[0][0].scaled)
+    done = []
+    for (figures, checked), heading in zip(both, headings):
+        same = [node.id for node in figures.scaled.network.nodes] == [node.id for node in both[0][0].scaled.network.nodes]
+        done.append(Side(figures, heading, drawing(figures, places if same else layout(figures.scaled)), checked, rows))
+    return done
 
 
-def report_page(title: str, about: str, sides: list[Side]) -> str:
+def report_page(title: str, sides: list[Side]) -> str:
     """The page of one certificate, or of two side by side."""
     full = all(one.figures.lower >= 1 for one in sides)
     rows = changes(sides[0].figures, sides[1].figures) if len(sides) > 1 else []
-    return render("report.html", title=title, about=about, sides=sides, changes=rows, full=full, most=max(one.most for one in sides))
+    return render("report.html", title=title, sides=sides, changes=rows, full=full, most=max(one.most for one in sides))
 
 
 def render(template: str, **values: Any) -> str:
     """A page of a template."""
     return _templates().get_template(template).render(colours=LEGEND, **values)
+
+
+def about(scaled: ScaledNetwork) -> str:
+    """A network in a line."""
+    network = scaled.network
+    parts = [shown.counted(len(network.nodes), "node"), shown.counted(len(network.links), "link"), shown.counted(len(scaled.commodities), "demand")]
+    modes = {"undirected": "both ways of a link share its capacity", "directed": "links are one way", "bidirected": "each way of a link has its whole capacity"}
+    return f"{', '.join(parts)}; {modes[scaled.links]}; modules: {scaled.modules}."
 
 
 def bar(value: Fraction, most: Fraction | int = 1) -> int:

@@ -10,8 +10,7 @@ from pathlib import Path
 from mcf_texts import Program, TextError, load_text, read_any, scale
 
 from .figures import Figures
-from .page import report_page, side
-from .shown import counted
+from .page import report_page, sides_of
 from .tables import links_table, paths_table
 
 
@@ -40,27 +39,12 @@ def write_report(program: Program, files: Files, title: str, words: argparse.Nam
     second = judged(program, files.net2 or files.net, files.second) if files.second else None
     both = [first, second] if second else [first]
     if words.html:
-        headings = ["Before", "After"] if second else [""]
-        sides = [side(one[0], heading, _checked(one), words.rows) for one, heading in zip(both, headings)]
-        write(words.html, report_page(title, _about(first[0]), sides), "utf-8")
+        sides = sides_of([(figures, f"mcf check: {said}") for figures, said in both], words.rows)
+        write(words.html, report_page(title, sides), "utf-8")
     if words.csv:
         write(words.csv, links_table([one[0] for one in both]))
     if words.paths:
         write(words.paths, paths_table(both[-1][0]))
-
-
-def _checked(one: tuple[Figures, str]) -> str:
-    """What the program said of a certificate."""
-    return f"mcf check: {one[1]}"
-
-
-def _about(figures: Figures) -> str:
-    """What the network is."""
-    scaled = figures.scaled
-    network = scaled.network
-    parts = [counted(len(network.nodes), "node"), counted(len(network.links), "link"), counted(len(scaled.commodities), "demand")]
-    modes = {"undirected": "both ways of a link share its capacity", "directed": "links are one way", "bidirected": "each way of a link has its whole capacity"}
-    return f"{', '.join(parts)}; {modes[scaled.links]}; modules: {scaled.modules}."
 
 
 def write(file: str, text: str, encoding: str = "latin-1") -> None:

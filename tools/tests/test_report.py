@@ -54,8 +54,7 @@ def certificate(low: tuple[int, int], high: tuple[int, int], demand: int = 1) ->
 
 def page_of(*sides: Figures, title: str = "net") -> str:
     """The page of figures."""
-    headings = ["Before", "After"] if len(sides) > 1 else [""]
-    return page.report_page(title, "about", [page.side(one, heading, "checked", 300) for one, heading in zip(sides, headings)])
+    return page.report_page(title, page.sides_of([(one, "checked") for one in sides], 300))
 
 
 def test_loads_and_utilisations_of_the_triangle_by_hand(triangle: Figures):
