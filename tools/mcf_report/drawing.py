@@ -4,6 +4,7 @@ from __future__ import annotations
 
 import math
 from collections import Counter, defaultdict
+from collections.abc import Callable
 from dataclasses import dataclass
 from fractions import Fraction
 
@@ -68,15 +69,19 @@ def class_of(utilisation: Fraction | None) -> str:
 
 
 def drawing(figures: Figures, places: Layout) -> Drawing:
-    """The map of all links, those with the greatest share on top."""
+    """The map of a certificate or routing: colours by utilisation, thickness by share of the bound."""
     crowd = len(figures.links)
     thin = 2.5 if crowd <= 200 else 1.5 if crowd <= 1000 else 0.8
     most = max((row.share or Fraction(0) for row in figures.links), default=Fraction(0))
-    bends = _bends(figures)
-    lines = [(row.share or Fraction(0), _line(figures, row, places, bends[row.cell], thin, most)) for row in figures.links]
-    lines.sort(key=lambda pair: pair[0])
-    radius = 7.0 if len(places.places) <= 100 else 4.0 if len(places.places) <= 300 else 3.0
-    return Drawing(places, tuple(line for _, line in lines), _dots(figures, places, radius), radius)
+    return drawn(figures, places, lambda row, path: _line(row, path, thin, most))
+
+
+def drawn(figures: Figures, places: Layout, line: Callable[[LinkFigures, str], Line]) -> Drawing:
+    """The map of all links, the thickest on top."""
+    bends, cells, at = _bends(figures), figures.scaled.cells, places.places
+    lines = [line(row, _path(at[cells[row.cell].tail], at[cells[row.cell].head], bends[row.cell])) for row in figures.links]
+    radius = 7.0 if len(at) <= 100 else 4.0 if len(at) <= 300 else 3.0
+    return Drawing(places, tuple(sorted(lines, key=lambda line: line.width)), _dots(figures, places, radius), radius)
 
 
 def _bends(figures: Figures) -> list[float]:
@@ -93,10 +98,8 @@ def _bends(figures: Figures) -> list[float]:
     return bends
 
 
-def _line(figures: Figures, row: LinkFigures, places: Layout, bend: float, thin: float, most: Fraction) -> Line:
+def _line(row: LinkFigures, path: str, thin: float, most: Fraction) -> Line:
     """The line of a link."""
-    cell = figures.scaled.cells[row.cell]
-    path = _path(places.places[cell.tail], places.places[cell.head], bend)
     share = float(row.share / most) if row.share and most else 0.0
     return Line(path, class_of(row.utilisation), class_of(row.utilisation_at_lower), round(thin + 11 * share, 2), _title(row))
 

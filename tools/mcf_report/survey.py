@@ -1,0 +1,191 @@
+"""What becomes of the fraction where one link fails, where one is doubled, and where all demands grow."""
+
+from __future__ import annotations
+
+import re
+import tempfile
+from collections.abc import Iterable, Iterator
+from concurrent.futures import ThreadPoolExecutor
+from contextlib import contextmanager
+from dataclasses import dataclass, replace
+from fractions import Fraction
+from pathlib import Path
+
+from tqdm import tqdm
+
+from mcf_texts import Link, Network, Program, TextError, read_certificate, save_text, write_network
+
+from .figures import Figures
+
+SHOW = re.compile(r"show lower (\d+)/(\d+) \S+ upper (\d+)/(\d+) \S+")
+SWEEP = re.compile(r"sweep (\S+) lower (\d+)/(\d+) \S+ upper (\d+)/(\d+) \S+")
+
+
+@dataclass(frozen=True)
+class Bounds:
+    """A fraction that is carried, and one that no routing exceeds."""
+
+    lower: Fraction
+    upper: Fraction
+
+    def divided(self, growth: Fraction) -> Bounds:
+        """The same where all demands are so many times as great: fractions are by so much smaller."""
+        return Bounds(self.lower / growth, self.upper / growth)
+
+    def best(self, other: Bounds) -> Bounds:
+        """Both hold, so the closer ends do."""
+        return Bounds(max(self.lower, other.lower), min(self.upper, other.upper))
+
+    def within(self, gap: Fraction) -> bool:
+        """Whether both ends are as close as that."""
+        return self.upper <= self.lower * (1 + gap)
+
+
+@dataclass(frozen=True)
+class Case:
+    """What one change of a link does: with the certificate's own paths and bound, and routed anew."""
+
+    kind: str
+    link: Link
+    capacity: Fraction
+    kept: Bounds
+    routed: Bounds
+
+
+@dataclass(frozen=True)
+class Settings:
+    """How a survey is made."""
+
+    growth: Fraction = Fraction(1)
+    solve: bool = True
+    jobs: int = 1
+    options: tuple[str, ...] = ()
+    quiet: bool = False
+
+
+@dataclass(frozen=True)
+class Survey:
+    """All cases of a kind, in the order in which they matter."""
+
+    figures: Figures
+    kind: str
+    base: Bounds
+    cases: tuple[Case, ...]
+    settings: Settings
+
+
+@dataclass(frozen=True)
+class Ground:
+    """What a survey stands on: the files, their figures and the program."""
+
+    program: Program
+    net: str
+    certificate: str
+    figures: Figures
+
+    @property
+    def base(self) -> Bounds:
+        """The bounds of the network as it is."""
+        upper = self.figures.upper
+        if upper is None:
+            raise TextError(f"{self.certificate}: a routing has no bound, so a certificate is wanted")
+        return Bounds(self.figures.lower, upper)
+
+    @property
+    def links(self) -> tuple[Link, ...]:
+        """The links of the network."""
+        return self.figures.scaled.network.links
+
+    def installed(self, link: Link) -> Fraction:
+        """A link's capacity, modules included."""
+        return link.installed(self.figures.scaled.modules)
+
+
+def survey(ground: Ground, kind: str, settings: Settings) -> Survey:
+    """The cases of a kind, `failure` or `double`, the worst failure or the best doubling first."""
+    factor = {"failure": 0, "double": 2}[kind]
+    kept = _kept(ground, kind, factor)
+    base = ground.base
+    routed = list(_routed(ground, factor, kept, settings)) if settings.solve else kept
+    growth = settings.growth
+    cases = [
+        Case(kind, link, ground.installed(link), old.divided(growth), new.divided(growth))
+        for link, old, new in zip(ground.links, kept, routed)
+    ]
+    return Survey(ground.figures, kind, base.divided(growth), tuple(sorted(cases, key=_order)), settings)
+
+
+def _order(case: Case) -> tuple[Fraction, Fraction]:
+    """Failures by the least fraction, doublings by the greatest."""
+    key = (case.routed.lower, case.routed.upper)
+    return key if case.kind == "failure" else (-key[0], -key[1])
+
+
+def _kept(ground: Ground, kind: str, factor: int) -> list[Bounds]:
+    """What the certificate is still worth in each case: by `sweep` where the program has it, else by one `whatif`."""
+    if kind == "failure":
+        swept = ground.program.run("sweep", ground.net, ground.certificate)
+        if swept.status == 0:
+            found = {match[1]: _bounds(match.groups()[1:]) for match in SWEEP.finditer(swept.text)}
+            return [found[link.id] for link in ground.links]
+    with _room() as room:
+        save_text(room / "script", "".join(_steps(ground, link, factor) for link in ground.links))
+        text = ground.program.ask("whatif", ground.net, ground.certificate, str(room / "script"))
+    found = [_bounds(match.groups()) for match in SHOW.finditer(text)]
+    if len(found) != len(ground.links):
+        raise TextError(f"mcf whatif wrote {len(found)} lines for {len(ground.links)} links")
+    return found
+
+
+def _steps(ground: Ground, link: Link, factor: int) -> str:
+    """The steps of a script that change a link, show, and change it back."""
+    installed = ground.installed(link)
+    return f"set {link.id} {_decimal(installed * factor)} show set {link.id} {_decimal(installed)}\n"
+
+
+def _decimal(value: Fraction) -> str:
+    """A number of at most six decimals as a word."""
+    millionths = int(value * 10**6)
+    return f"{millionths // 10**6}.{millionths % 10**6:06d}".rstrip("0").rstrip(".")
+
+
+def _bounds(words: Iterable[str]) -> Bounds:
+    """The bounds of four numbers."""
+    a, b, c, d = map(int, words)
+    return Bounds(Fraction(a, b), Fraction(c, d))
+
+
+def _routed(ground: Ground, factor: int, kept: list[Bounds], settings: Settings) -> Iterator[Bounds]:
+    """The bounds of each case routed anew; where the old paths are as good already, nothing is solved."""
+    gap = Fraction(getattr(ground.figures.text, "gap"), 10**6)
+    with ThreadPoolExecutor(settings.jobs) as pool:
+        tasks = [None if old.within(gap) else pool.submit(_solved, ground, at, factor, settings.options) for at, old in enumerate(kept)]
+        try:
+            bar = tqdm(zip(tasks, kept), total=len(tasks), unit="link", disable=True if settings.quiet else None)
+            for task, old in bar:
+                yield task.result().best(old) if task else old
+        finally:
+            pool.shutdown(cancel_futures=True)
+
+
+def _solved(ground: Ground, at: int, factor: int, options: tuple[str, ...]) -> Bounds:
+    """The bounds of the network with one link changed."""
+    scaled = ground.figures.scaled
+    with _room() as room:
+        save_text(room / "net", write_network(changed(scaled.network, at, ground.installed(ground.links[at]) * factor)))
+        words = ("--links", scaled.links, "--modules", scaled.modules, "--workers", "1", *options)
+        text = read_certificate(ground.program.solve(room / "net", *words))
+    return Bounds(Fraction(*text.lower), Fraction(*text.upper))
+
+
+def changed(network: Network, at: int, capacity: Fraction) -> Network:
+    """The network with one link of that capacity, and without modules there."""
+    link = replace(network.links[at], capacity=_decimal(capacity), modules=())
+    return replace(network, links=(*network.links[:at], link, *network.links[at + 1 :]))
+
+
+@contextmanager
+def _room() -> Iterator[Path]:
+    """A folder for a while."""
+    with tempfile.TemporaryDirectory(prefix="mcf-survey-") as room:
+        yield Path(room)
