@@ -3,6 +3,7 @@
 from __future__ import annotations
 
 import re
+import subprocess
 import tempfile
 from collections.abc import Iterable, Iterator
 from concurrent.futures import ThreadPoolExecutor
@@ -57,10 +58,15 @@ class Settings:
     """How a survey is made."""
 
     growth: Fraction = Fraction(1)
-    solve: bool = True
+    solver: str = "solve"
     jobs: int = 1
     options: tuple[str, ...] = ()
     quiet: bool = False
+
+    @property
+    def solves(self) -> bool:
+        """Whether each case is routed anew."""
+        return self.solver != "none"
 
 
 @dataclass(frozen=True)
@@ -106,7 +112,7 @@ def survey(ground: Ground, kind: str, settings: Settings) -> Survey:
     factor = {"failure": 0, "double": 2}[kind]
     kept = _kept(ground, kind, factor)
     base = ground.base
-    routed = list(_routed(ground, factor, kept, settings)) if settings.solve else kept
+    routed = list(_routed(ground, factor, kept, settings)) if settings.solves else kept
     growth = settings.growth
     cases = [
         Case(kind, link, ground.installed(link), old.divided(growth), new.divided(growth))
@@ -157,9 +163,9 @@ def _bounds(words: Iterable[str]) -> Bounds:
 
 def _routed(ground: Ground, factor: int, kept: list[Bounds], settings: Settings) -> Iterator[Bounds]:
     """The bounds of each case routed anew; where the old paths are as good already, nothing is solved."""
-    gap = Fraction(getattr(ground.figures.text, "gap"), 10**6)
+    gap = Fraction(getattr(ground.figures.text, "gap"), 10**6) if settings.solver == "solve" else Fraction(0)
     with ThreadPoolExecutor(settings.jobs) as pool:
-        tasks = [None if old.within(gap) else pool.submit(_solved, ground, at, factor, settings.options) for at, old in enumerate(kept)]
+        tasks = [None if old.within(gap) else pool.submit(_solved, ground, at, factor, settings) for at, old in enumerate(kept)]
         try:
             bar = tqdm(zip(tasks, kept), total=len(tasks), unit="link", disable=True if settings.quiet else None)
             for task, old in bar:
@@ -168,14 +174,28 @@ def _routed(ground: Ground, factor: int, kept: list[Bounds], settings: Settings)
             pool.shutdown(cancel_futures=True)
 
 
-def _solved(ground: Ground, at: int, factor: int, options: tuple[str, ...]) -> Bounds:
+def _solved(ground: Ground, at: int, factor: int, settings: Settings) -> Bounds:
     """The bounds of the network with one link changed."""
     scaled = ground.figures.scaled
     with _room() as room:
         save_text(room / "net", write_network(changed(scaled.network, at, ground.installed(ground.links[at]) * factor)))
-        words = ("--links", scaled.links, "--modules", scaled.modules, "--workers", "1", *options)
-        text = read_certificate(ground.program.solve(room / "net", *words))
-    return Bounds(Fraction(*text.lower), Fraction(*text.upper))
+        modes = ("--links", scaled.links, "--modules", scaled.modules)
+        if settings.solver == "certify":
+            text = _certified(ground, room / "net", *modes, *settings.options)
+        else:
+            text = ground.program.solve(room / "net", *modes, "--workers", "1", *settings.options)
+    found = read_certificate(text)
+    return Bounds(Fraction(*found.lower), Fraction(*found.upper))
+
+
+def _certified(ground: Ground, net: Path, *words: str) -> str:
+    """The certificate of `tools/certify`, for the changed network."""
+    command = [str(Path(__file__).parents[1] / "certify"), str(net), *words, "--mcf", ground.program.path]
+    done = subprocess.run(command, capture_output=True, stdin=subprocess.DEVNULL, check=False)
+    if done.returncode not in (0, 1):
+        lines = done.stderr.decode("utf-8", "replace").splitlines()
+        raise TextError(lines[-1] if lines else f"certify ended with status {done.returncode}")
+    return done.stdout.decode("latin-1")
 
 
 def changed(network: Network, at: int, capacity: Fraction) -> Network:

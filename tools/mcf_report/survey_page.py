@@ -58,7 +58,7 @@ class Part:
     @property
     def legend(self) -> str:
         """What colours mean."""
-        if not self.survey.settings.solve:
+        if not self.survey.settings.solves:
             return "The bound of the fraction " + ("falls" if self.survey.kind == "failure" else "rises")
         return "The fraction that is carried " + ("falls" if self.survey.kind == "failure" else "rises")
 
@@ -81,7 +81,7 @@ class Part:
 
     def change(self, case: Case) -> Fraction:
         """By what part of it the fraction changes, where 0 is not at all."""
-        solved = self.survey.settings.solve
+        solved = self.survey.settings.solves
         base = self.survey.base.lower if solved else self.survey.base.upper
         new = case.routed.lower if solved else case.routed.upper
         if not base:

@@ -32,19 +32,22 @@ def sentence(survey: Survey) -> str:
 
 
 def _failures(survey: Survey) -> str:
-    """Of failures: how many leave room for all demands, and which is the worst."""
-    first, every = survey.cases[0], len(survey.cases)
-    counts = [(word, sum(fits(case.routed) == word for case in survey.cases)) for word in ("yes", "no", "open")]
-    words = {"yes": "leave room for all demands", "no": "do not", "open": "are not decided"}
-    parts = [f"{'all' if count == every else count} {words[word]}" for word, count in counts if count]
-    worst = f"The worst is that of {_title(first)}: {_range(first.routed, survey.settings.solve)}"
-    return f"of {counted(every, 'single failure')} {', '.join(parts)}. {worst}; without failures it is {_range(survey.base, True)}."
+    """Of failures: how many leave no room for all demands, and which is the worst."""
+    first, every = survey.cases[0], counted(len(survey.cases), "single failure")
+    lost, left = (sum(fits(case.routed) == word for case in survey.cases) for word in ("no", "open"))
+    front = f"all demands fit after each of {every}"
+    if lost:
+        front = f"not all demands fit after {lost} of {every}" + (f", and after {left} it is not decided" if left else "")
+    elif left:
+        front = f"it is not decided whether all demands fit after {left} of {every}"
+    worst = f"The worst is that of {_title(first)}: {_range(first.routed, survey.settings.solves)}"
+    return f"{front}. {worst}; without failures it is {_range(survey.base, True)}."
 
 
 def _doublings(survey: Survey) -> str:
     """Of doublings: which link is worth most."""
     first = survey.cases[0]
-    return f"the link most worth doubling is {_title(first)}: {_range(first.routed, survey.settings.solve)} with it, and {_range(survey.base, True)} without."
+    return f"the link most worth doubling is {_title(first)}: {_range(first.routed, survey.settings.solves)} with it, and {_range(survey.base, True)} without."
 
 
 def _title(case: Case) -> str:
