@@ -110,8 +110,8 @@ class Ground:
 def survey(ground: Ground, kind: str, settings: Settings) -> Survey:
     """The cases of a kind, `failure` or `double`, the worst failure or the best doubling first."""
     factor = {"failure": 0, "double": 2}[kind]
-    kept = _kept(ground, kind, factor)
     base = ground.base
+    kept = _kept(ground, kind, factor)
     routed = list(_routed(ground, factor, kept, settings)) if settings.solves else kept
     growth = settings.growth
     cases = [
