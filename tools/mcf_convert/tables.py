@@ -77,13 +77,13 @@ def read(path: str, text: str, notes: Notes, form: Form) -> Source:
         return _square(path, head, rows[1:], form)
     place = _places(path, head, form.columns)
     table = Table(path, place, rows[1:], form)
-    if "source" in place and "target" in place:
-        kind = "capacity" if "capacity" in place else "amount"
-        if "modules" in place:
-            kind = "capacity"
-        roles = LINK_ROLES if kind == "capacity" else DEMAND_ROLES
-        _tell_unread(path, head, place, roles, notes)
-        return _links(table, notes) if kind == "capacity" else _demands(table)
+    pairs = "source" in place and "target" in place
+    if pairs and ("capacity" in place or "modules" in place):
+        _tell_unread(path, head, place, LINK_ROLES, notes)
+        return _links(table, notes)
+    if pairs and "amount" in place:
+        _tell_unread(path, head, place, DEMAND_ROLES, notes)
+        return _demands(table)
     if ("node" in place or "id" in place) and "x" in place and "y" in place:
         _tell_unread(path, head, place, ("node", "id", "x", "y"), notes)
         return Source(path, "nodes", nodes=[_node(table, at, row) for at, row in table.rows])

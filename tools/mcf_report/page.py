@@ -34,6 +34,7 @@ class Side:
     heading: str
     drawing: Drawing
     checked: str
+    unit: str
     rows: int
 
     @property
@@ -77,7 +78,7 @@ class Side:
         if low >= 1:
             cards.append(("Headroom of all demands", shown.percent_down(low - 1) if low > 1 else "0.0 %"))
         cards.append(("Maximum link utilisation", sentences.peak(self.figures) if self.figures.text.phases else "–"))
-        cards.append(("All demands together", shown.amount(self.figures.total)))
+        cards.append(("All demands together", f"{shown.amount(self.figures.total)} {self.unit}".strip()))
         return cards
 
     @property
@@ -164,14 +165,14 @@ def changes(before: Figures, after: Figures) -> list[Change]:
     return sorted(rows, key=lambda row: -abs(row.difference))
 
 
-def sides_of(both: list[tuple[Figures, str]], rows: int) -> list[Side]:
-    """The sides of a page from figures and what was said of them; the same nodes stand at the same places."""
+def sides_of(both: list[tuple[Figures, str, str]], rows: int) -> list[Side]:
+    """The sides of a page from figures, what was said of them, and units; the same nodes stand at the same places."""
     headings = ["Before", "After"] if len(both) > 1 else [""]
     places = layout(both[0][0].scaled)
     done = []
-    for (figures, checked), heading in zip(both, headings):
+    for (figures, checked, unit), heading in zip(both, headings):
         same = [node.id for node in figures.scaled.network.nodes] == [node.id for node in both[0][0].scaled.network.nodes]
-        done.append(Side(figures, heading, drawing(figures, places if same else layout(figures.scaled)), checked, rows))
+        done.append(Side(figures, heading, drawing(figures, places if same else layout(figures.scaled)), checked, unit, rows))
     return done
 
 

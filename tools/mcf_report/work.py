@@ -3,14 +3,19 @@
 from __future__ import annotations
 
 import argparse
+import re
 import sys
 from dataclasses import dataclass
 from pathlib import Path
 
+from mcf_convert.files import contents
+from mcf_convert.model import Notes, Refused
+from mcf_convert.native import read_network
 from mcf_texts import Program, TextError, load_text, read_any, scale
 
 from .figures import Figures
 from .page import report_page, sides_of
+from .sentences import verdict
 from .tables import links_table, paths_table
 
 
@@ -39,12 +44,26 @@ def write_report(program: Program, files: Files, title: str, words: argparse.Nam
     second = judged(program, files.net2 or files.net, files.second) if files.second else None
     both = [first, second] if second else [first]
     if words.html:
-        sides = sides_of([(figures, f"mcf check: {said}") for figures, said in both], words.rows)
+        units = [unit_of_file(files.net), unit_of_file(files.net2 or files.net)]
+        sides = sides_of([(figures, f"mcf check: {said}", unit) for (figures, said), unit in zip(both, units)], words.rows)
         write(words.html, report_page(title, sides), "utf-8")
     if words.csv:
         write(words.csv, links_table([one[0] for one in both]))
     if words.paths:
         write(words.paths, paths_table(both[-1][0]))
+    if "-" not in (words.html, words.csv, words.paths):
+        for front, (figures, _) in zip(("Before: ", "After: ") if second else ("",), both):
+            print(front + verdict(figures))
+
+
+def unit_of_file(net: str) -> str:
+    """The unit that a network file's META names, as people write it; nothing where it names none."""
+    try:
+        unit = read_network(net, contents(net), Notes(quiet=True)).meta.get("unit", "")
+    except Refused:
+        return ""
+    rate = re.fullmatch(r"([KMGT]?)BITPERSEC", unit)
+    return f"{rate[1].replace('K', 'k')}bit/s" if rate else unit
 
 
 def write(file: str, text: str, encoding: str = "latin-1") -> None:

@@ -258,6 +258,7 @@ def test_names_that_fall_together_stay_two():
         ("source,target,capacity\nA,,3\n", "line 2: no target"),
         ("left,right,capacity\nA,B,3\n", "it has left, right, capacity (--columns names them)"),
         ("source,target,capacity\nA,B,99999999999999\n", "--unit Mbit or Gbit"),
+        ("from,to,Gbps\nA,B,3\n", "it has from, to, Gbps (--columns names them)"),
         ('source,target,capacity\nA,"B,3\n', "line 2"),
         ("", "no rows"),
     ],

@@ -54,7 +54,7 @@ def certificate(low: tuple[int, int], high: tuple[int, int], demand: int = 1) ->
 
 def page_of(*sides: Figures, title: str = "net") -> str:
     """The page of figures."""
-    return page.report_page(title, page.sides_of([(one, "checked") for one in sides], 300))
+    return page.report_page(title, page.sides_of([(one, "checked", "Gbit/s") for one in sides], 300))
 
 
 def test_loads_and_utilisations_of_the_triangle_by_hand(triangle: Figures):
@@ -330,11 +330,12 @@ def report(*words: str | Path, program: Program, status: int = 0) -> tuple[str, 
 def test_the_command_writes_page_and_tables(tmp_path: Path, program: Program):
     net, cert = EXAMPLES / "polska.net", EXAMPLES / "polska.cert"
     words = ["--html", tmp_path / "x.html", "--csv", tmp_path / "x.csv", "--paths", tmp_path / "p.csv"]
-    assert report(net, cert, *words, program=program) == ("", "")
+    sentence = "Not every demand fits: these paths carry 39.8 % of each, and no routing carries more than 41.9 %.\n"
+    assert report(net, cert, *words, program=program) == (sentence, "")
     first = [(tmp_path / name).read_bytes() for name in ("x.html", "x.csv", "p.csv")]
     report(net, cert, *words, program=program)
     assert first == [(tmp_path / name).read_bytes() for name in ("x.html", "x.csv", "p.csv")]
-    assert b"these paths carry 39.8 % of each, and no routing carries more than 41.9 %" in first[0]
+    assert sentence.strip().encode() in first[0] and b"<b>9,658 Mbit/s</b>" in first[0] and b"<th>Load, Mbit/s</th>" in first[0]
     assert len(first[1].splitlines()) == 19
     out, _ = report(net, cert, "--csv", "-", program=program)
     assert out.encode() == first[1]
@@ -351,6 +352,7 @@ def test_what_is_not_valid_is_not_shown(tmp_path: Path, program: Program):
 
 def test_a_routing_and_a_certificate_side_by_side(tmp_path: Path, program: Program):
     words = [EXAMPLES / "triangle.net", EXAMPLES / "triangle.routing", EXAMPLES / "triangle.cert", "--html", tmp_path / "x.html"]
-    report(*words, program=program)
+    out, _ = report(*words, program=program)
+    assert [line.split(":")[0] for line in out.splitlines()] == ["Before", "After"]
     text = (tmp_path / "x.html").read_text("utf-8")
     assert "Links before and after" in text and "<h3>Before</h3>" in text and "<h3>After</h3>" in text
