@@ -132,7 +132,8 @@ def _require_demands(matrix: Matrix, links: list[Link]) -> None:
     amounts = [d.amount for d in matrix.demands if d.source != d.target]
     decimals = _decimals([*amounts, *(link.capacity for link in links if link.capacity is not None)])
     if sum(amounts) * 10**decimals > MAX_TOTAL or max(amounts, default=0) * 10**decimals > MAX_NUMBER:
-        raise Refused(f"{where}amounts of {brief(sum(amounts, Fraction(0)))} together with {decimals} decimals are too great (--unit or --round N)")
+        total = brief(sum(amounts, Fraction(0)))
+        raise Refused(f"{where}amounts of {total} together with {decimals} decimals are too great (--unit or --round N)")
 
 
 def _decimals(values: list[Fraction]) -> int:

@@ -52,7 +52,9 @@ def _structure(sources: list[Source]) -> Source:
     linked = [source for source in sources if source.links]
     first = linked[0] if linked else next((source for source in sources if source.nodes), Source("", "none"))
     for other in linked[1:]:
-        if [(a.name, a.source, a.target, a.capacity) for a in other.links] != [(a.name, a.source, a.target, a.capacity) for a in first.links]:
+        if [(a.name, a.source, a.target, a.capacity) for a in other.links] != [
+            (a.name, a.source, a.target, a.capacity) for a in first.links
+        ]:
             raise Refused(f"{first.path} and {other.path} have different links: one network is due")
     places = {n.name: n.place for source in sources if source is not first for n in source.nodes if n.place}
     nodes = [replace(n, place=places.get(n.name)) if n.place is None else n for n in first.nodes]

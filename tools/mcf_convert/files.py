@@ -42,7 +42,7 @@ def without_mark(path: str, data: bytes, notes: Notes) -> bytes:
         if data.startswith(mark):
             notes.say("dropped", f"{path}: the byte order mark of {title}")
             try:
-                return data[len(mark):].decode(encoding).encode("utf-8")
+                return data[len(mark) :].decode(encoding).encode("utf-8")
             except UnicodeDecodeError:
                 raise Refused(f"{path}: has the mark of {title}, and is none") from None
     return data

@@ -13,7 +13,19 @@ from .xml import attribute, children, local, root_of, where, words
 SPACE = "http://graphml.graphdrawing.org/xmlns"
 PLACES = (("Longitude", "Latitude"), ("longitude", "latitude"), ("lon", "lat"), ("x", "y"))
 CAPACITIES = ("capacity", "Capacity", "bandwidth", "LinkSpeedRaw")
-READ = {"label", "id", "capacity_cost", "routing_cost", "setup_cost", "modules", "LinkSpeed", "LinkSpeedUnits", "LinkSpeedRaw", "LinkLabel", *CAPACITIES}
+READ = {
+    "label",
+    "id",
+    "capacity_cost",
+    "routing_cost",
+    "setup_cost",
+    "modules",
+    "LinkSpeed",
+    "LinkSpeedUnits",
+    "LinkSpeedRaw",
+    "LinkLabel",
+    *CAPACITIES,
+}
 
 
 def read(path: str, data: bytes, notes: Notes, form: Form) -> Source:

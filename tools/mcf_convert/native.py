@@ -197,7 +197,9 @@ def _node_row(node: Node) -> str:
 
 def _link_row(link: Link) -> str:
     modules = "".join(f"{plain(capacity)} {cost} " for capacity, cost in link.modules)
-    return f"  {link.name} ( {link.source} {link.target} ) {plain(link.capacity or Fraction(0))} {' '.join(link.costs)} ( {modules})"
+    return (
+        f"  {link.name} ( {link.source} {link.target} ) {plain(link.capacity or Fraction(0))} {' '.join(link.costs)} ( {modules})"
+    )
 
 
 def _demand_row(demand: Demand) -> str:

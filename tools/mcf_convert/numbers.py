@@ -60,7 +60,7 @@ def rate(word: str, what: str, unit: Unit, comma: bool = False) -> Fraction:
     text = word.strip().replace(",", ".") if comma else word.strip()
     fitting = WITH_UNIT.fullmatch(text)
     own = unit_of(fitting.group(2)) if fitting else None
-    if own is None:
+    if fitting is None or own is None:
         value = number(word, what, comma)
         if unit.bits is not None and not unit.told:
             raise Refused(f"{what}: {text} has no unit: --from-unit says in which plain numbers are")

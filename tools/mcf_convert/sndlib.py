@@ -20,7 +20,7 @@ def read(path: str, data: bytes, notes: Notes) -> Source:
     root = root_of(path, data)
     structure = child(root, "networkStructure")
     source = Source(path, "xml")
-    source.meta = {local(e): words(e) for e in child(root, "meta") if words(e)} if child(root, "meta") is not None else {}
+    source.meta = {local(entry): words(entry) for meta in children(root, "meta") for entry in meta if words(entry)}
     source.bits = unit_of(source.meta.get("unit", ""))
     source.nodes = [_node(path, e) for e in children(child(structure, "nodes"), "node")]
     source.links = [_link(path, e, notes) for e in children(child(structure, "links"), "link")]
@@ -56,7 +56,11 @@ def _link(path: str, element: etree._Element, notes: Notes) -> Link:
     _others(path, element, KNOWN_LINK, notes)
     installed = child(element, "preInstalledModule")
     capacity = _number(path, child(installed, "capacity")) if installed is not None else Fraction(0)
-    costs = (words(child(installed, "cost")) or "0", words(child(element, "routingCost")) or "0", words(child(element, "setupCost")) or "0")
+    costs = (
+        words(child(installed, "cost")) or "0",
+        words(child(element, "routingCost")) or "0",
+        words(child(element, "setupCost")) or "0",
+    )
     modules = tuple(_module(path, e) for e in children(child(element, "additionalModules"), "addModule"))
     return Link(name, *_ends(path, element), capacity, costs, modules)
 
@@ -83,4 +87,6 @@ def _demand(path: str, element: etree._Element, notes: Notes) -> Demand:
     longest = words(child(element, "maxPathLength")) or "UNLIMITED"
     if longest != "UNLIMITED":
         number(longest, f"{where(path, element)}: maxPathLength")
-    return Demand(name, *_ends(path, element), _number(path, value), _number(path, unit) if unit is not None else Fraction(1), longest)
+    return Demand(
+        name, *_ends(path, element), _number(path, value), _number(path, unit) if unit is not None else Fraction(1), longest
+    )

@@ -87,7 +87,8 @@ def read(path: str, text: str, notes: Notes, form: Form) -> Source:
     if ("node" in place or "id" in place) and "x" in place and "y" in place:
         _tell_unread(path, head, place, ("node", "id", "x", "y"), notes)
         return Source(path, "nodes", nodes=[_node(table, at, row) for at, row in table.rows])
-    raise Refused(f"{path}: columns source, target and capacity (links) or amount (demands), or node, x and y are due; it has {', '.join(head)} (--columns names them)")
+    due = "source, target and capacity (links) or amount (demands), or node, x and y (places)"
+    raise Refused(f"{path}: columns {due} are due; it has {', '.join(head)} (--columns names them)")
 
 
 def _places(path: str, head: list[str], columns: dict[str, str]) -> dict[str, int]:
@@ -122,7 +123,7 @@ def _links(table: Table, notes: Notes) -> Source:
         ends = table.must(at, row, "source"), table.must(at, row, "target")
         source.nodes += [Node(end, end) for end in ends]
         name = table.word(row, "id")
-        costs = tuple(table.word(row, role, "0") for role in ("capacity_cost", "routing_cost", "setup_cost"))
+        costs = table.word(row, "capacity_cost", "0"), table.word(row, "routing_cost", "0"), table.word(row, "setup_cost", "0")
         source.links.append(Link(name, *ends, _capacity(table, at, row, notes), costs, _modules(table, at, row)))
     source.nodes = list({node.key: node for node in source.nodes}.values())
     return source

@@ -39,12 +39,20 @@ class Task:
 def target_of(path: str) -> str:
     """What a file of that name is to have."""
     name = path.removesuffix(".gz").lower()
-    for ending, kind in ((".nodes.csv", "nodes"), (".demands.csv", "demands"), (".csv", "links"), (".graphml", "graphml"), (".list", "list")):
+    for ending, kind in (
+        (".nodes.csv", "nodes"),
+        (".demands.csv", "demands"),
+        (".csv", "links"),
+        (".graphml", "graphml"),
+        (".list", "list"),
+    ):
         if name.endswith(ending):
             return kind
     if name.endswith((".net", ".txt")):
         return "net"
-    raise Refused(f"{path}: ends with none of .net, .txt, .list, .graphml, .csv, .demands.csv, .nodes.csv (--to says what to write)")
+    raise Refused(
+        f"{path}: ends with none of .net, .txt, .list, .graphml, .csv, .demands.csv, .nodes.csv (--to says what to write)"
+    )
 
 
 def convert(task: Task, notes: Notes) -> None:
@@ -68,8 +76,8 @@ def _in_one_unit(sources: list[Source], task: Task) -> list[Source]:
     given = Fraction(1000) ** UNITS[task.from_unit] if task.from_unit else None
     sources = [replace(s, bits=given) if s.bits is None and given else s for s in sources]
     if task.unit:
-        wanted = Fraction(1000) ** UNITS[task.unit]
-        return [in_unit(s, wanted) if s.links or s.matrices else s for s in sources]
+        asked = Fraction(1000) ** UNITS[task.unit]
+        return [in_unit(s, asked) if s.links or s.matrices else s for s in sources]
     wanted = next((s.bits for s in sources if s.links), None)
     return [in_unit(s, wanted) if wanted and s.bits else s for s in sources]
 

@@ -120,7 +120,8 @@ def _title(row: LinkFigures) -> str:
     arrow = {"=": "–", "+": "→", "-": "→"}[row.way]
     used = "no capacity" if row.utilisation is None else f"utilisation {percent(row.utilisation)}"
     share = "" if row.share is None else f", share of the bound {percent(row.share)}"
-    return f"{name(row.link)}: {name(row.source)} {arrow} {name(row.target)}, {amount(row.load)} of {amount(row.capacity)}, {used}{share}"
+    ends = f"{name(row.source)} {arrow} {name(row.target)}"
+    return f"{name(row.link)}: {ends}, {amount(row.load)} of {amount(row.capacity)}, {used}{share}"
 
 
 @dataclass
@@ -156,8 +157,12 @@ def _dots(figures: Figures, places: Layout, radius: float) -> tuple[Dot, ...]:
 def _points(figures: Figures, places: Layout) -> list[tuple[float, float]]:
     """Points along all lines, where these are few enough to be kept off."""
     cells = figures.scaled.cells if len(figures.links) <= 400 else ()
-    ends = [(places.places[cell.tail], places.places[cell.head]) for cell in cells]
-    return [(a[0] + (b[0] - a[0]) * at / 40, a[1] + (b[1] - a[1]) * at / 40) for a, b in ends for at in range(41)]
+    points = []
+    for cell in cells:
+        a, b = places.places[cell.tail], places.places[cell.head]
+        steps = max(1, round(math.dist(a, b) / 4))
+        points += [(a[0] + (b[0] - a[0]) * at / steps, a[1] + (b[1] - a[1]) * at / steps) for at in range(steps + 1)]
+    return points
 
 
 def _dot(title: str, places: Layout, at: int, radius: float, room: _Room, wanted: bool) -> Dot:
@@ -169,7 +174,11 @@ def _dot(title: str, places: Layout, at: int, radius: float, room: _Room, wanted
     for rise in (5, -6, 16):
         sides += [(x + radius + 4, y + rise, "start", x + radius + 4), (x - radius - 4, y + rise, "end", x - radius - 4 - width)]
     boxes = [(left, label_y - height + 3, left + width, label_y + 3) for _, label_y, _, left in sides]
-    costs = [(cost, side) for side, box in enumerate(boxes) if wanted and (cost := room.cost(box, *_large(box, sides[side][2]))) is not None]
+    costs = [
+        (cost, side)
+        for side, box in enumerate(boxes)
+        if wanted and (cost := room.cost(box, *_large(box, sides[side][2]))) is not None
+    ]
     if not costs:
         return Dot(x, y, title, "", x, y, "middle")
     best = min(costs)[1]

@@ -107,13 +107,15 @@ class Figures:
         share = shares[number] if shares else None
         link = scaled.network.links[cell.link].id
         ends = nodes[cell.tail].id, nodes[cell.head].id
-        return LinkFigures(number, link, cell.sign, *ends, file_unit(cell.capacity), file_unit(full), file_unit(full * self.lower), share)
+        return LinkFigures(
+            number, link, cell.sign, *ends, file_unit(cell.capacity), file_unit(full), file_unit(full * self.lower), share
+        )
 
     @cached_property
     def most_utilised(self) -> LinkFigures | None:
         """The link of the maximum link utilisation, the first of equal ones."""
-        used = [row for row in self.links if row.utilisation]
-        return max(used, key=lambda row: row.utilisation or 0, default=None)
+        used = [row for row in self.by_utilisation if row.utilisation]
+        return used[0] if used else None
 
     @cached_property
     def bottleneck(self) -> tuple[LinkFigures, ...]:

@@ -191,8 +191,16 @@ def render(template: str, **values: Any) -> str:
 def about(scaled: ScaledNetwork) -> str:
     """A network in a line."""
     network = scaled.network
-    parts = [shown.counted(len(network.nodes), "node"), shown.counted(len(network.links), "link"), shown.counted(len(scaled.commodities), "demand")]
-    modes = {"undirected": "both ways of a link share its capacity", "directed": "links are one way", "bidirected": "each way of a link has its whole capacity"}
+    parts = [
+        shown.counted(len(network.nodes), "node"),
+        shown.counted(len(network.links), "link"),
+        shown.counted(len(scaled.commodities), "demand"),
+    ]
+    modes = {
+        "undirected": "both ways of a link share its capacity",
+        "directed": "links are one way",
+        "bidirected": "each way of a link has its whole capacity",
+    }
     return f"{', '.join(parts)}; {modes[scaled.links]}; modules: {scaled.modules}."
 
 
@@ -210,6 +218,15 @@ def tenths(value: Fraction) -> str:
 def _templates() -> jinja2.Environment:
     """The templates, in which every text is escaped."""
     loader = jinja2.FileSystemLoader(Path(__file__).parent / "templates")
-    found = jinja2.Environment(loader=loader, autoescape=True, undefined=jinja2.StrictUndefined, trim_blocks=True, lstrip_blocks=True)
-    found.globals |= {"name": shown.name, "percent": shown.percent, "amount": shown.amount, "counted": shown.counted, "bar": bar, "tenths": tenths}
+    found = jinja2.Environment(
+        loader=loader, autoescape=True, undefined=jinja2.StrictUndefined, trim_blocks=True, lstrip_blocks=True
+    )
+    found.globals |= {
+        "name": shown.name,
+        "percent": shown.percent,
+        "amount": shown.amount,
+        "counted": shown.counted,
+        "bar": bar,
+        "tenths": tenths,
+    }
     return found

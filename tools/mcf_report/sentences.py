@@ -20,8 +20,13 @@ def verdict(figures: Figures) -> str:
     if low >= 1:
         return f"Every demand fits{_spare(low)}; no routing gives more than {percent_up(high - 1)} to spare."
     if high < 1:
-        return f"Not every demand fits: these paths carry {percent_down(low)} of each, and no routing carries more than {percent_up(high)}."
-    return f"Not decided: these paths carry {percent_down(low)} of every demand, and no routing carries more than {percent_up(high)}. A smaller gap or more phases bring both closer."
+        return f"Not every demand fits: {_carried(low, 'each')}, and no routing carries more than {percent_up(high)}."
+    closer = "A smaller gap or more phases bring both closer."
+    return f"Not decided: {_carried(low)}, and no routing carries more than {percent_up(high)}. {closer}"
+
+
+def _carried(low: Fraction, what: str = "every demand") -> str:
+    return f"these paths carry {percent_down(low)} of {what}"
 
 
 def _spare(low: Fraction) -> str:
@@ -32,12 +37,14 @@ def _exact(low: Fraction) -> str:
     """Where both fractions are the same."""
     if low >= 1:
         return f"Every demand fits{_spare(low)}, and no routing gives more: this is the exact optimum."
-    return f"Not every demand fits: these paths carry {percent_down(low)} of each, and no routing carries more: this is the exact optimum."
+    return f"Not every demand fits: {_carried(low, 'each')}, and no routing carries more: this is the exact optimum."
 
 
 def _routing(low: Fraction) -> str:
     """Where there are paths alone."""
-    front = f"Every demand fits{_spare(low)} on these paths" if low >= 1 else f"These paths carry {percent_down(low)} of every demand"
+    front = (
+        f"Every demand fits{_spare(low)} on these paths" if low >= 1 else f"These paths carry {percent_down(low)} of every demand"
+    )
     return f"{front}; whether other paths carry more is not known, since a routing has no bound."
 
 
@@ -45,8 +52,9 @@ def _nothing(figures: Figures) -> str:
     """Where the fraction is 0."""
     lost = figures.without_way
     if not lost:
-        return "These paths carry nothing."
-    return f"{counted(len(lost), 'demand has', 'demands have')} no way over links with capacity, the greatest of them {name(lost[0].demand)}: so nothing can be said to be carried of every demand."
+        return "These paths carry nothing of some demand."
+    some = counted(len(lost), "demand has", "demands have")
+    return f"{some} no way over links with capacity, the greatest of them {name(lost[0].demand)}: no part of every demand can be carried."
 
 
 def growth(figures: Figures) -> str:
@@ -63,7 +71,8 @@ def growth(figures: Figures) -> str:
         count += 1
     first, share = ordered[0]
     weight = f"{counted(count, 'link makes', 'links make')} up {percent(together)} of the bound"
-    return f"{weight}. With twice the capacity on {name(first)} alone, no routing would carry more than {percent_up(figures.upper * (1 + share))} of every demand."
+    most = percent_up(figures.upper * (1 + share))
+    return f"{weight}. With twice the capacity on {name(first)} alone, no routing would carry more than {most} of every demand."
 
 
 def peak(figures: Figures) -> str:

@@ -132,8 +132,8 @@ def _kept(ground: Ground, kind: str, factor: int) -> list[Bounds]:
     if kind == "failure":
         swept = ground.program.run("sweep", ground.net, ground.certificate)
         if swept.status == 0:
-            found = {match[1]: _bounds(match.groups()[1:]) for match in SWEEP.finditer(swept.text)}
-            return [found[link.id] for link in ground.links]
+            by_link = {match[1]: _bounds(match.groups()[1:]) for match in SWEEP.finditer(swept.text)}
+            return [by_link[link.id] for link in ground.links]
     with _room() as room:
         save_text(room / "script", "".join(_steps(ground, link, factor) for link in ground.links))
         text = ground.program.ask("whatif", ground.net, ground.certificate, str(room / "script"))

@@ -14,15 +14,23 @@ from .page import about, render
 from .survey import Bounds, Case, Survey
 
 HEADINGS = {"failure": "Single failures, the worst first", "double": "Links doubled, the most useful first"}
-STEPS = (Fraction(1, 100), Fraction(1, 10), Fraction(1, 4), Fraction(1, 2), Fraction(1))
+STEPS = (Fraction(1, 100), Fraction(1, 10), Fraction(1, 4), Fraction(1, 2))
 FAILURE_COLOURS = (
-    ("0", "#92c5de", "by at most 1 %"), ("1", "#e6c34a", "1 to 10 %"), ("2", "#f4a05c", "10 to 25 %"), ("3", "#d6604d", "25 to 50 %"),
-    ("4", "#8e0f24", "more than 50 %"), (CLOSED, "#9aa5b1", "without capacity"),
-)  # fmt: skip
+    ("0", "#92c5de", "by at most 1 %"),
+    ("1", "#e6c34a", "1 to 10 %"),
+    ("2", "#f4a05c", "10 to 25 %"),
+    ("3", "#d6604d", "25 to 50 %"),
+    ("4", "#8e0f24", "more than 50 %"),
+    (CLOSED, "#9aa5b1", "without capacity"),
+)
 DOUBLE_COLOURS = (
-    ("0", "#c2cad2", "by at most 1 %"), ("1", "#a6dba0", "1 to 10 %"), ("2", "#5aae61", "10 to 25 %"), ("3", "#1b7837", "25 to 50 %"),
-    ("4", "#00441b", "more than 50 %"), (CLOSED, "#9aa5b1", "without capacity"),
-)  # fmt: skip
+    ("0", "#c2cad2", "by at most 1 %"),
+    ("1", "#a6dba0", "1 to 10 %"),
+    ("2", "#5aae61", "10 to 25 %"),
+    ("3", "#1b7837", "25 to 50 %"),
+    ("4", "#00441b", "more than 50 %"),
+    (CLOSED, "#9aa5b1", "without capacity"),
+)
 
 
 @dataclass(frozen=True)
@@ -67,12 +75,16 @@ class Part:
         figures = self.survey.figures
         by_link = {case.link.id: case for case in self.survey.cases}
         links = figures.scaled.network.links
-        return drawn(figures, layout(figures.scaled), lambda row, path: self._line(by_link[links[figures.scaled.cells[row.cell].link].id], path))
+        return drawn(
+            figures,
+            layout(figures.scaled),
+            lambda row, path: self._line(by_link[links[figures.scaled.cells[row.cell].link].id], path),
+        )
 
     def _line(self, case: Case, path: str) -> Line:
         """The line of a link."""
         change = self.change(case)
-        key = CLOSED if case.capacity == 0 else str(sum(change > step for step in STEPS[:4]))
+        key = CLOSED if case.capacity == 0 else str(sum(change > step for step in STEPS))
         thin = 2.5 if len(self.survey.cases) <= 200 else 1.0
         width = round(thin + 11 * min(1.0, float(change)), 2)
         what = {"failure": "closed", "double": "doubled"}[case.kind]

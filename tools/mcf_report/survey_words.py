@@ -47,7 +47,8 @@ def _failures(survey: Survey) -> str:
 def _doublings(survey: Survey) -> str:
     """Of doublings: which link is worth most."""
     first = survey.cases[0]
-    return f"the link most worth doubling is {_title(first)}: {_range(first.routed, survey.settings.solves)} with it, and {_range(survey.base, True)} without."
+    with_it, without = _range(first.routed, survey.settings.solves), _range(survey.base, True)
+    return f"the link most worth doubling is {_title(first)}: {with_it} with it, and {without} without."
 
 
 def _title(case: Case) -> str:
@@ -77,7 +78,9 @@ def _plain(value: Fraction) -> str:
 
 def survey_table(surveys: list[Survey], growths: list[tuple[Fraction, Bounds]]) -> str:
     """A row for each case, in their order; growth of demands has rows of its own."""
-    rows = [[f"grow {_plain(growth)}", "", "", "", "", *_both(bounds), *_both(bounds), fits(bounds)] for growth, bounds in growths]
+    rows = [
+        [f"grow {_plain(growth)}", "", "", "", "", *_both(bounds), *_both(bounds), fits(bounds)] for growth, bounds in growths
+    ]
     for one in surveys:
         for case in one.cases:
             words = [case.kind, case.link.id, case.link.source, case.link.target, decimal(case.capacity)]

@@ -49,7 +49,7 @@ def _word(value: Fraction | None) -> str:
     return "" if value is None else decimal(value)
 
 
-def table(head: list[str], rows: Iterable[Iterable[str]]) -> str:
+def table(head: Iterable[str], rows: Iterable[Iterable[str]]) -> str:
     """The text of a table."""
     out = io.StringIO()
     writer = csv.writer(out, lineterminator="\n")

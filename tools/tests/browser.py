@@ -66,7 +66,14 @@ def find_browser() -> str:
 def run(words: list[str], room: Path) -> str:
     """What a headless run writes."""
     root = ["--no-sandbox"] if os.getuid() == 0 else []
-    front = [find_browser(), "--headless", *root, "--disable-gpu", "--disable-dev-shm-usage", f"--user-data-dir={room / 'profile'}"]
+    front = [
+        find_browser(),
+        "--headless",
+        *root,
+        "--disable-gpu",
+        "--disable-dev-shm-usage",
+        f"--user-data-dir={room / 'profile'}",
+    ]
     done = subprocess.run([*front, *words], capture_output=True, timeout=120, check=False)
     return done.stdout.decode("utf-8", "replace")
 

@@ -48,7 +48,10 @@ def test_sndlib_xml_has_all_rows_and_says_what_is_dropped():
     ]
     assert rows(text, "DEMANDS") == ["Köln_Ulm ( Köln Ulm ) 2 30.5 3", "Frankfurt_Ulm ( Frankfurt_Main_ Ulm ) 1 20 UNLIMITED"]
     assert rows(text, "META") == ["granularity = 1month", "time = 2004", "unit = MBITPERSEC", "origin = made up for tests"]
-    assert said == ["dropped: network.xml: admissiblePaths of demand 'Köln_Ulm'", "renamed: node 'Frankfurt (Main)' is Frankfurt_Main_"]
+    assert said == [
+        "dropped: network.xml: admissiblePaths of demand 'Köln_Ulm'",
+        "renamed: node 'Frankfurt (Main)' is Frankfurt_Main_",
+    ]
 
 
 def test_units_are_those_of_meta():
@@ -71,7 +74,9 @@ def test_dynamic_matrices_become_a_list():
         "  ATLAng_CHINng ( ATLAng CHINng ) 1 0 UNLIMITED",
         ")",
     ]
-    assert said[0] == "rounded: matrix demandMatrix-abilene-zhang-5min-20040301-0000: demand ATLAM5_ATLAng: 0.00123456789 to 0.0012"
+    assert (
+        said[0] == "rounded: matrix demandMatrix-abilene-zhang-5min-20040301-0000: demand ATLAM5_ATLAng: 0.00123456789 to 0.0012"
+    )
     assert len([line for line in said if line.startswith("rounded")]) == 1
 
 
@@ -87,7 +92,12 @@ def test_rounding_to_nothing_is_said():
 
 def test_topology_zoo_has_places_labels_and_raw_speeds():
     text, said = convert("zoo.graphml", "-", "--to", "net", "--unit", "Mbit", "--capacity-default", "2.4G")
-    assert rows(text, "NODES") == ["New_York ( -74.00597 40.71427 )", "Chicago ( -87.65005 41.85003 )", "None", "None_2 ( -77.03637 38.89511 )"]
+    assert rows(text, "NODES") == [
+        "New_York ( -74.00597 40.71427 )",
+        "Chicago ( -87.65005 41.85003 )",
+        "None",
+        "None_2 ( -77.03637 38.89511 )",
+    ]
     assert rows(text, "LINKS") == [
         "e1 ( New_York Chicago ) 10000 0 0 0 ( )",
         "New_York-Chicago ( New_York Chicago ) 622 0 0 0 ( )",
@@ -149,7 +159,9 @@ def test_csv_links_and_a_square():
 
 
 def test_csv_of_hours_becomes_a_list():
-    text, said = convert("--net", "links.csv", "hours.csv", "-", "--to", "list", "--from-unit", "Mbit", "--merge", "--scale", "1.1")
+    text, said = convert(
+        "--net", "links.csv", "hours.csv", "-", "--to", "list", "--from-unit", "Mbit", "--merge", "--scale", "1.1"
+    )
     assert text.splitlines() == [
         "08:00 (",
         "  Den_Haag-Utrecht ( Den_Haag Utrecht ) 1 165 UNLIMITED",
@@ -160,11 +172,15 @@ def test_csv_of_hours_becomes_a_list():
         ")",
     ]
     assert "merged: demand Den_Haag-Utrecht_2 of 33 into Den_Haag-Utrecht" in said
-    assert "2 matrices (08:00, 09:00, ..): a network has one" in refusal("links.csv", "hours.csv", "-", "--to", "net", "--from-unit", "Mbit")
+    assert "2 matrices (08:00, 09:00, ..): a network has one" in refusal(
+        "links.csv", "hours.csv", "-", "--to", "net", "--from-unit", "Mbit"
+    )
 
 
 def test_merge_both_adds_the_two_directions():
-    text, _ = convert("--net", "links.csv", "square.csv", "-", "--to", "list", "--from-unit", "Mbit", "--decimal-comma", "--merge-both")
+    text, _ = convert(
+        "--net", "links.csv", "square.csv", "-", "--to", "list", "--from-unit", "Mbit", "--decimal-comma", "--merge-both"
+    )
     assert text.splitlines()[1:] == [
         "  Den_Haag-Utrecht ( Den_Haag Utrecht ) 1 200.5 UNLIMITED",
         "  Den_Haag-Zwolle ( Den_Haag Zwolle ) 1 35 UNLIMITED",
@@ -288,7 +304,9 @@ def test_xml_with_entities_of_its_own_is_refused(tmp_path: Path):
     assert "entities of its own are not read" in refusal(tmp_path / "b.xml", "-", "--to", "net")
 
 
-@pytest.mark.parametrize("data", [b"", b"\x00\x01\x02", b"\x1f\x8bnot gzip", b"<network>", b"<html></html>", b"NODES 3\nlabel x y\n", b"no such thing"])
+@pytest.mark.parametrize(
+    "data", [b"", b"\x00\x01\x02", b"\x1f\x8bnot gzip", b"<network>", b"<html></html>", b"NODES 3\nlabel x y\n", b"no such thing"]
+)
 def test_files_of_nothing_known_are_refused_in_one_line(tmp_path: Path, data: bytes):
     (tmp_path / "x").write_bytes(data)
     refusal(tmp_path / "x", "-", "--to", "net")
@@ -318,5 +336,7 @@ def test_the_program_reads_what_is_written(tmp_path: Path, program: Program, wor
     convert(*words, tmp_path / "x.net")
     rows_read = program.network(tmp_path / "x.net")
     text = (tmp_path / "x.net").read_text("utf-8")
-    assert [len(part) for part in (rows_read.nodes, rows_read.links, rows_read.demands)] == [len(rows(text, s)) for s in ("NODES", "LINKS", "DEMANDS")]
+    assert [len(part) for part in (rows_read.nodes, rows_read.links, rows_read.demands)] == [
+        len(rows(text, s)) for s in ("NODES", "LINKS", "DEMANDS")
+    ]
     assert "verdict" in program.solve(tmp_path / "x.net", "--workers", "1")

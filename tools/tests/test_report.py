@@ -15,15 +15,28 @@ import pytest
 import browser
 from mcf_report import drawing, layout, page, sentences, shown, tables
 from mcf_report.figures import Figures
-from mcf_texts import (Certificate, Length, Network, Path as Route, Potential, Program, Routing, load_text, read_any, read_certificate, read_network,
-                       scale)
+from mcf_texts import (
+    Certificate,
+    Length,
+    Network,
+    Path as Route,
+    Potential,
+    Program,
+    load_text,
+    read_any,
+    read_certificate,
+    read_network,
+    scale,
+)
 
 ROOT = Path(__file__).resolve().parents[2]
 REPORT = ROOT / "tools/report"
 EXAMPLES = ROOT / "examples"
 HEAD = "?SNDlib native format; type: network; version: 1.0\n"
-TRIANGLE = (f"{HEAD}NODES (\n  A\n  B\n  C\n)\nLINKS (\n  AB ( A B ) 10 0 0 0 ( )\n  AC ( A C ) 6 0 0 0 ( )\n  BC ( B C ) 6 0 0 0 ( )\n)\n"
-            "DEMANDS (\n  A_to_B ( A B ) 1 8 UNLIMITED\n  A_to_C ( A C ) 1 4 UNLIMITED\n)\n")
+TRIANGLE = (
+    f"{HEAD}NODES (\n  A\n  B\n  C\n)\nLINKS (\n  AB ( A B ) 10 0 0 0 ( )\n  AC ( A C ) 6 0 0 0 ( )\n  BC ( B C ) 6 0 0 0 ( )\n)\n"
+    "DEMANDS (\n  A_to_B ( A B ) 1 8 UNLIMITED\n  A_to_C ( A C ) 1 4 UNLIMITED\n)\n"
+)
 SCRIPT = "<script>window.top.hit=1</script>"
 QUOTE = '"onload="window.top.hit=1'
 
@@ -47,8 +60,17 @@ def _by_hand() -> Figures:
 def certificate(low: tuple[int, int], high: tuple[int, int], demand: int = 1) -> Figures:
     """A network of one link of 1 and a demand, with any fractions: for sentences alone."""
     net = f"{HEAD}NODES (\n  A\n  B\n)\nLINKS (\n  L ( A B ) {high[0]} 0 0 0 ( )\n)\nDEMANDS (\n  D ( A B ) 1 {demand} UNLIMITED\n)\n"
-    text = Certificate(1, "undirected", "largest", low[0], 1, low[1], [Route("D", low[0] * demand, ("L",))], lengths=[Length("L", 1)],
-                       potentials=[Potential("A", (0, high[1]))])
+    text = Certificate(
+        1,
+        "undirected",
+        "largest",
+        low[0],
+        1,
+        low[1],
+        [Route("D", low[0] * demand, ("L",))],
+        lengths=[Length("L", 1)],
+        potentials=[Potential("A", (0, high[1]))],
+    )
     return Figures(scale(read_network(net)), text)
 
 
@@ -77,8 +99,17 @@ def test_shares_are_capacity_times_length(triangle: Figures):
 
 def test_capacity_counts_and_not_length_alone():
     net = f"{HEAD}NODES (\n  A\n  B\n)\nLINKS (\n  thin ( A B ) 1 0 0 0 ( )\n  thick ( A B ) 100 0 0 0 ( )\n)\nDEMANDS (\n  D ( A B ) 1 1 UNLIMITED\n)\n"
-    text = Certificate(1, "undirected", "largest", 1, 1, 1, [Route("D", 1, ("thick",))], lengths=[Length("thin", 3), Length("thick", 2)],
-                       potentials=[Potential("A", (0, 2))])
+    text = Certificate(
+        1,
+        "undirected",
+        "largest",
+        1,
+        1,
+        1,
+        [Route("D", 1, ("thick",))],
+        lengths=[Length("thin", 3), Length("thick", 2)],
+        potentials=[Potential("A", (0, 2))],
+    )
     rows = Figures(scale(read_network(net)), text).bottleneck
     assert [(row.link, row.share) for row in rows] == [("thick", Fraction(200, 203)), ("thin", Fraction(3, 203))]
 
@@ -95,22 +126,44 @@ def test_a_routing_has_no_bound(by_hand: Figures):
     assert by_hand.upper is None and by_hand.bottleneck == ()
     assert [row.share for row in by_hand.links] == [None] * 3
     assert by_hand.links[0].load == Fraction(15, 2)
-    assert sentences.verdict(by_hand) == ("Every demand fits with 33.3 % to spare on these paths; whether other paths carry more is not known, "
-                                          "since a routing has no bound.")
+    assert sentences.verdict(by_hand) == (
+        "Every demand fits with 33.3 % to spare on these paths; whether other paths carry more is not known, "
+        "since a routing has no bound."
+    )
     assert "Share of the bound</th>" not in page_of(by_hand)
 
 
 @pytest.mark.parametrize(
     ("low", "high", "sentence"),
     [
-        ((480, 372), (43282433967267834, 32023741924084936), "Every demand fits with 29.0 % to spare; no routing gives more than 35.2 % to spare."),
+        (
+            (480, 372),
+            (43282433967267834, 32023741924084936),
+            "Every demand fits with 29.0 % to spare; no routing gives more than 35.2 % to spare.",
+        ),
         ((1, 1), (1001, 1000), "Every demand fits with nothing to spare; no routing gives more than 0.1 % to spare."),
-        ((999, 1000), (1001, 1000), "Not decided: these paths carry 99.9 % of every demand, and no routing carries more than 100.1 %. "
-                                    "A smaller gap or more phases bring both closer."),
-        ((3999, 10000), (4001, 10000), "Not every demand fits: these paths carry 39.9 % of each, and no routing carries more than 40.1 %."),
-        ((1, 3), (1, 3), "Not every demand fits: these paths carry 33.3 % of each, and no routing carries more: this is the exact optimum."),
+        (
+            (999, 1000),
+            (1001, 1000),
+            "Not decided: these paths carry 99.9 % of every demand, and no routing carries more than 100.1 %. "
+            "A smaller gap or more phases bring both closer.",
+        ),
+        (
+            (3999, 10000),
+            (4001, 10000),
+            "Not every demand fits: these paths carry 39.9 % of each, and no routing carries more than 40.1 %.",
+        ),
+        (
+            (1, 3),
+            (1, 3),
+            "Not every demand fits: these paths carry 33.3 % of each, and no routing carries more: this is the exact optimum.",
+        ),
         ((4, 3), (4, 3), "Every demand fits with 33.3 % to spare, and no routing gives more: this is the exact optimum."),
-        ((1, 100000), (1, 50000), "Not every demand fits: these paths carry 0.0010 % of each, and no routing carries more than 0.1 %."),
+        (
+            (1, 100000),
+            (1, 50000),
+            "Not every demand fits: these paths carry 0.0010 % of each, and no routing carries more than 0.1 %.",
+        ),
     ],
 )
 def test_the_verdict_in_a_sentence(low: tuple[int, int], high: tuple[int, int], sentence: str):
@@ -118,9 +171,21 @@ def test_the_verdict_in_a_sentence(low: tuple[int, int], high: tuple[int, int], 
 
 
 def test_a_cut_is_told_with_its_demands():
-    net = (f"{HEAD}NODES (\n  A\n  B\n  C\n)\nLINKS (\n  L1 ( A B ) 5 0 0 0 ( )\n  L2 ( B C ) 0 0 0 0 ( )\n)\nDEMANDS (\n  D1 ( A B ) 1 2 UNLIMITED\n"
-           "  D2 ( A C ) 1 3 UNLIMITED\n)\n")
-    text = Certificate(1, "undirected", "largest", 0, 0, 1, [], lengths=[Length("L1", 0), Length("L2", 1)], potentials=[Potential("A", (0, 0, 1))])
+    net = (
+        f"{HEAD}NODES (\n  A\n  B\n  C\n)\nLINKS (\n  L1 ( A B ) 5 0 0 0 ( )\n  L2 ( B C ) 0 0 0 0 ( )\n)\nDEMANDS (\n  D1 ( A B ) 1 2 UNLIMITED\n"
+        "  D2 ( A C ) 1 3 UNLIMITED\n)\n"
+    )
+    text = Certificate(
+        1,
+        "undirected",
+        "largest",
+        0,
+        0,
+        1,
+        [],
+        lengths=[Length("L1", 0), Length("L2", 1)],
+        potentials=[Potential("A", (0, 0, 1))],
+    )
     found = Figures(scale(read_network(net)), text)
     assert (found.lower, found.upper) == (0, 0)
     assert [row.demand for row in found.without_way] == ["D2"]
@@ -131,21 +196,39 @@ def test_a_cut_is_told_with_its_demands():
 
 def test_doubling_a_link_is_told_of_both_of_its_ways():
     net = f"{HEAD}NODES (\n  A\n  B\n)\nLINKS (\n  L1 ( A B ) 10 0 0 0 ( )\n)\nDEMANDS (\n  D1 ( A B ) 1 5 UNLIMITED\n  D2 ( B A ) 1 5 UNLIMITED\n)\n"
-    text = ("mcf-certificate 2\nverdict closed\nlinks bidirected\nmodules largest\nnet nodes 2 cells 2 commodities 2 decimals 0 skipped 0 left 0 hops 0\n"
-            "gap 0.050000\nphases 1\nscale 10 5\nlower 10/5 2.000000\nupper 90071992547409920/45035996273704960 2.000000\npath D1 5 +L1\npath D2 5 -L1\n"
-            "length +L1 4503599627370496\nlength -L1 4503599627370496\npotential A 0 4503599627370496\npotential B 4503599627370496 0\nend\n")
+    text = (
+        "mcf-certificate 2\nverdict closed\nlinks bidirected\nmodules largest\nnet nodes 2 cells 2 commodities 2 decimals 0 skipped 0 left 0 hops 0\n"
+        "gap 0.050000\nphases 1\nscale 10 5\nlower 10/5 2.000000\nupper 90071992547409920/45035996273704960 2.000000\npath D1 5 +L1\npath D2 5 -L1\n"
+        "length +L1 4503599627370496\nlength -L1 4503599627370496\npotential A 0 4503599627370496\npotential B 4503599627370496 0\nend\n"
+    )
     found = Figures(scale(read_network(net), "bidirected"), read_certificate(text))
     assert [(row.link, row.way, row.source, row.load, row.share) for row in found.links] == [
-        ("L1", "+", "A", 5, Fraction(1, 2)), ("L1", "-", "B", 5, Fraction(1, 2))]
-    assert sentences.growth(found) == "1 link makes up 100.0 % of the bound. With twice the capacity on L1 alone, no routing would carry more than 400.0 % of every demand."
+        ("L1", "+", "A", 5, Fraction(1, 2)),
+        ("L1", "-", "B", 5, Fraction(1, 2)),
+    ]
+    assert (
+        sentences.growth(found)
+        == "1 link makes up 100.0 % of the bound. With twice the capacity on L1 alone, no routing would carry more than 400.0 % of every demand."
+    )
     lines = drawing.drawing(found, layout.layout(found.scaled)).lines
     assert len({line.path for line in lines}) == 2
 
 
 def test_the_table_of_links(triangle: Figures):
     rows = list(csv.DictReader(io.StringIO(tables.links_table([triangle]))))
-    assert rows[0] == {"link": "AB", "way": "=", "source": "A", "target": "B", "capacity": "10.000000", "load": "7.750000", "load_at_lower": "10.000000",
-                       "utilisation": "0.775000", "utilisation_at_lower": "1.000000", "headroom": "2.250000", "share": "0.624309"}
+    assert rows[0] == {
+        "link": "AB",
+        "way": "=",
+        "source": "A",
+        "target": "B",
+        "capacity": "10.000000",
+        "load": "7.750000",
+        "load_at_lower": "10.000000",
+        "utilisation": "0.775000",
+        "utilisation_at_lower": "1.000000",
+        "headroom": "2.250000",
+        "share": "0.624309",
+    }
     assert [row["link"] for row in rows] == ["AB", "AC", "BC"]
 
 
@@ -181,7 +264,9 @@ def _network(name: str) -> Network:
             at += 1
         rows[name] = row[:-1]
     lines = {name: _rows(rows[name], size) for name, size in (("NODES", 1), ("LINKS", 9), ("DEMANDS", 8))}
-    return read_network(HEAD + "".join(f"{name} (\n" + "".join(f"  {' '.join(row)}\n" for row in part) + ")\n" for name, part in lines.items()))
+    return read_network(
+        HEAD + "".join(f"{name} (\n" + "".join(f"  {' '.join(row)}\n" for row in part) + ")\n" for name, part in lines.items())
+    )
 
 
 def _rows(words: list[str], size: int) -> list[list[str]]:
@@ -236,15 +321,27 @@ def hostile() -> Figures:
     demands = "".join(f"  {name};{at} ( {name} {names[at - 1]} ) 1 1 UNLIMITED\n" for at, name in enumerate(names))
     net = read_network(f"{HEAD}NODES (\n{nodes})\nLINKS (\n{links})\nDEMANDS (\n{demands})\n")
     routes = [Route(demand.id, 1, (link.id,)) for demand, link in zip(net.demands, net.links)]
-    return Figures(scale(net), Certificate(1, "undirected", "largest", 1, 5, 1, routes, lengths=[Length(link.id, 1) for link in net.links],
-                                           potentials=[Potential(node.id, (0, 1, 1, 1, 1, 1)) for node in net.nodes]))
+    return Figures(
+        scale(net),
+        Certificate(
+            1,
+            "undirected",
+            "largest",
+            1,
+            5,
+            1,
+            routes,
+            lengths=[Length(link.id, 1) for link in net.links],
+            potentials=[Potential(node.id, (0, 1, 1, 1, 1, 1)) for node in net.nodes],
+        ),
+    )
 
 
 def test_names_are_escaped_and_nothing_comes_from_elsewhere():
     text = page_of(hostile(), title=SCRIPT)
     assert "<script" not in text and "&lt;script&gt;window.top.hit=1&lt;/script&gt;" in text
     assert 'onload="' not in text.replace("&#34;", "")
-    assert not re.search(r'(?:src|href)\s*=|url\(|@import|<link|<img|<iframe|https?://', text)
+    assert not re.search(r"(?:src|href)\s*=|url\(|@import|<link|<img|<iframe|https?://", text)
     assert "default-src 'none'" in text
 
 
@@ -252,7 +349,11 @@ def test_names_are_escaped_and_nothing_comes_from_elsewhere():
 def test_pages_lie_within_their_width_in_a_browser(tmp_path: Path, width: int, triangle: Figures, by_hand: Figures):
     text = read_any(load_text(EXAMPLES / "polska.cert"))
     polska = Figures(scale(_network("polska"), text.links, text.modules), text)
-    for found, circles, lines in ((page_of(polska), 12, 18), (page_of(by_hand, triangle), 6, 6), (page_of(hostile(), title=SCRIPT), 6, 6)):
+    for found, circles, lines in (
+        (page_of(polska), 12, 18),
+        (page_of(by_hand, triangle), 6, 6),
+        (page_of(hostile(), title=SCRIPT), 6, 6),
+    ):
         seen = browser.measured(found, width, tmp_path)
         assert seen["outside"] == [] and seen["lost"] == [] and seen["wide"] <= width
         assert seen["circles"] == circles and sum(seen["strokes"].values()) == lines
@@ -263,7 +364,11 @@ def test_pages_lie_within_their_width_in_a_browser(tmp_path: Path, width: int, t
 
 
 def test_the_colours_in_a_browser_are_those_of_the_legend(tmp_path: Path, triangle: Figures):
-    assert browser.measured(page_of(triangle), 1600, tmp_path)["strokes"] == {"rgb(244, 160, 92)": 1, "rgb(230, 195, 74)": 1, "rgb(67, 147, 195)": 1}
+    assert browser.measured(page_of(triangle), 1600, tmp_path)["strokes"] == {
+        "rgb(244, 160, 92)": 1,
+        "rgb(230, 195, 74)": 1,
+        "rgb(67, 147, 195)": 1,
+    }
 
 
 def greatest() -> Figures:
@@ -276,8 +381,20 @@ def greatest() -> Figures:
     scaled = scale(read_network(f"{HEAD}NODES (\n{nodes})\nLINKS (\n{links})\nDEMANDS (\n{demands})\n"))
     trees = {source: _tree(ends, source) for source in {a for a, _ in pairs}}
     routes = [Route(f"D{at}", 1, tuple(f"L{link}" for link in _way(trees[a], ends, b))) for at, (a, b) in enumerate(pairs)]
-    return Figures(scaled, Certificate(1, "undirected", "largest", 1, 1, 60, routes, lengths=[Length(f"L{at}", 1 + at % 7) for at in range(4096)],
-                                       potentials=[Potential(f"N{a}", (1,) * 512) for a in trees]))
+    return Figures(
+        scaled,
+        Certificate(
+            1,
+            "undirected",
+            "largest",
+            1,
+            1,
+            60,
+            routes,
+            lengths=[Length(f"L{at}", 1 + at % 7) for at in range(4096)],
+            potentials=[Potential(f"N{a}", (1,) * 512) for a in trees],
+        ),
+    )
 
 
 def _tree(ends: list[tuple[int, int]], source: int) -> list[int]:

@@ -22,8 +22,10 @@ ROOT = Path(__file__).resolve().parents[2]
 SURVEY = ROOT / "tools/survey"
 EXAMPLES = ROOT / "examples"
 HEAD = "?SNDlib native format; type: network; version: 1.0\n"
-TRIANGLE = (f"{HEAD}NODES (\n  A\n  B\n  C\n)\nLINKS (\n  AB ( A B ) 10 0 0 0 ( )\n  AC ( A C ) 6 0 0 0 ( )\n  BC ( B C ) 6 0 0 0 ( )\n)\n"
-            "DEMANDS (\n  A_to_B ( A B ) 1 8 UNLIMITED\n  A_to_C ( A C ) 1 4 UNLIMITED\n)\n")
+TRIANGLE = (
+    f"{HEAD}NODES (\n  A\n  B\n  C\n)\nLINKS (\n  AB ( A B ) 10 0 0 0 ( )\n  AC ( A C ) 6 0 0 0 ( )\n  BC ( B C ) 6 0 0 0 ( )\n)\n"
+    "DEMANDS (\n  A_to_B ( A B ) 1 8 UNLIMITED\n  A_to_C ( A C ) 1 4 UNLIMITED\n)\n"
+)
 # The exact optima of the triangle with one link closed, and with one link doubled: cuts that are easily seen.
 CLOSED = {"AB": Fraction(1, 2), "AC": Fraction(5, 6), "BC": Fraction(5, 4)}
 DOUBLED = {"AB": Fraction(13, 6), "AC": Fraction(11, 6), "BC": Fraction(4, 3)}
@@ -31,7 +33,9 @@ DOUBLED = {"AB": Fraction(13, 6), "AC": Fraction(11, 6), "BC": Fraction(4, 3)}
 
 def run(*words: str | Path, program: Program, status: int = 0) -> tuple[str, str]:
     """What a run writes on both outputs."""
-    done = subprocess.run([SURVEY, *map(str, words), "--mcf", program.path, "--jobs", "1"], capture_output=True, text=True, check=False)
+    done = subprocess.run(
+        [SURVEY, *map(str, words), "--mcf", program.path, "--jobs", "1"], capture_output=True, text=True, check=False
+    )
     assert done.returncode == status, done.stderr
     return done.stdout, done.stderr
 
@@ -50,14 +54,26 @@ def triangle() -> Figures:
 def of_values(kind: str, values: dict[str, Fraction], growth: Fraction = Fraction(1), solver: str = "solve") -> Survey:
     """A survey of the triangle with given fractions."""
     links = {link.id: link for link in triangle().scaled.network.links}
-    cases = [Case(kind, links[name], Fraction(links[name].capacity), Bounds(Fraction(0), value), Bounds(value, value)) for name, value in values.items()]
+    cases = [
+        Case(kind, links[name], Fraction(links[name].capacity), Bounds(Fraction(0), value), Bounds(value, value))
+        for name, value in values.items()
+    ]
     return Survey(triangle(), kind, Bounds(Fraction(4, 3), Fraction(4, 3)), tuple(cases), Settings(growth, solver))
 
 
 @pytest.mark.parametrize(("option", "kind", "optima"), [("--failures", "failure", CLOSED), ("--double", "double", DOUBLED)])
 def test_the_triangle_has_its_known_optima(program: Program, option: str, kind: str, optima: dict[str, Fraction]):
-    out, _ = run(EXAMPLES / "triangle.net", EXAMPLES / "triangle.cert", option, "--csv", "-", "--gap", "0.01", program=program,
-                 status=1 if kind == "failure" else 0)
+    out, _ = run(
+        EXAMPLES / "triangle.net",
+        EXAMPLES / "triangle.cert",
+        option,
+        "--csv",
+        "-",
+        "--gap",
+        "0.01",
+        program=program,
+        status=1 if kind == "failure" else 0,
+    )
     rows = table(out)
     assert [row["link"] for row in rows] == ["AB", "AC", "BC"] and {row["change"] for row in rows} == {kind}
     for row in rows:
@@ -80,8 +96,10 @@ def test_what_is_kept_is_what_whatif_shows(program: Program, tmp_path: Path):
 def test_growth_divides_both_fractions_and_sets_the_status(program: Program):
     words = [EXAMPLES / "triangle.net", EXAMPLES / "triangle.cert"]
     out, _ = run(*words, "--grow", "1.2", "--grow", "1.25", program=program)
-    assert out == ("With all demands times 1.25 all of them fit: 103.2 % to 108.2 % of every demand.\n"
-                   "With all demands times 1.2 all of them fit: 107.5 % to 112.7 % of every demand.\n")
+    assert out == (
+        "With all demands times 1.25 all of them fit: 103.2 % to 108.2 % of every demand.\n"
+        "With all demands times 1.2 all of them fit: 107.5 % to 112.7 % of every demand.\n"
+    )
     out, _ = run(*words, "--grow", "1.3", program=program, status=1)
     assert out.startswith("With all demands times 1.3 it is not decided whether they fit")
     run(*words, "--failures", "--grow", "0.4", program=program)
@@ -93,7 +111,20 @@ def test_one_input_gives_one_text_whatever_the_jobs(program: Program, tmp_path: 
     net, cert = EXAMPLES / "triangle.net", EXAMPLES / "triangle.cert"
     texts = []
     for jobs in ("1", "3"):
-        run(net, cert, "--failures", "--double", "--jobs", jobs, "--html", tmp_path / "x.html", "--csv", tmp_path / "x.csv", program=program, status=1)
+        run(
+            net,
+            cert,
+            "--failures",
+            "--double",
+            "--jobs",
+            jobs,
+            "--html",
+            tmp_path / "x.html",
+            "--csv",
+            tmp_path / "x.csv",
+            program=program,
+            status=1,
+        )
         texts.append(((tmp_path / "x.html").read_bytes(), (tmp_path / "x.csv").read_bytes()))
     assert texts[0] == texts[1]
 
@@ -101,16 +132,27 @@ def test_one_input_gives_one_text_whatever_the_jobs(program: Program, tmp_path: 
 def test_a_bridge_cuts_demands_off(program: Program, tmp_path: Path):
     (tmp_path / "cert").write_text(program.solve(EXAMPLES / "one-link.net", "--workers", "1"), "latin-1")
     out, _ = run(EXAMPLES / "one-link.net", tmp_path / "cert", "--failures", program=program, status=1)
-    assert out == ("Not all demands fit after 1 of 1 single failure. The worst is that of L1 (A – B): some demand has no way at all; "
-                   "without failures it is 250.0 % to 250.0 % of every demand.\n")
+    assert out == (
+        "Not all demands fit after 1 of 1 single failure. The worst is that of L1 (A – B): some demand has no way at all; "
+        "without failures it is 250.0 % to 250.0 % of every demand.\n"
+    )
 
 
 def test_sweep_is_taken_where_the_program_has_it(program: Program, tmp_path: Path):
     fake = tmp_path / "mcf"
     lines = "".join(f"sweep {link} lower 0/1 0.000000 upper {at}/7 0.1\\n" for at, link in enumerate(("AB", "AC", "BC"), 1))
-    fake.write_text(f"#!/bin/sh\nif [ \"$1\" = sweep ]; then printf '{lines}'; exit 0; fi\nexec {program.path} \"$@\"\n")
+    fake.write_text(f'#!/bin/sh\nif [ "$1" = sweep ]; then printf \'{lines}\'; exit 0; fi\nexec {program.path} "$@"\n')
     fake.chmod(0o755)
-    out, _ = run(EXAMPLES / "triangle.net", EXAMPLES / "triangle.cert", "--failures", "--quick", "--csv", "-", program=Program(str(fake)), status=1)
+    out, _ = run(
+        EXAMPLES / "triangle.net",
+        EXAMPLES / "triangle.cert",
+        "--failures",
+        "--quick",
+        "--csv",
+        "-",
+        program=Program(str(fake)),
+        status=1,
+    )
     assert [row["kept_upper"] for row in table(out)] == ["0.142858", "0.285715", "0.428572"]
 
 
@@ -128,7 +170,9 @@ def test_exact_surveys_are_certified(program: Program):
     pytest.importorskip("scipy")
     if not list(Path("/usr/lib").glob("*/libClp.so*")):
         pytest.skip("coinor-libclp1 is missing: tools/setup")
-    out, _ = run(EXAMPLES / "triangle.net", EXAMPLES / "triangle.cert", "--failures", "--exact", "--csv", "-", program=program, status=1)
+    out, _ = run(
+        EXAMPLES / "triangle.net", EXAMPLES / "triangle.cert", "--failures", "--exact", "--csv", "-", program=program, status=1
+    )
     for row in table(out):
         assert Fraction(row["lower"]) <= CLOSED[row["link"]] <= Fraction(row["upper"])
         assert Fraction(row["upper"]) - Fraction(row["lower"]) <= Fraction(3, 10**6)
@@ -154,26 +198,39 @@ def test_bounds_are_joined_and_divided():
 def test_sentences_of_surveys():
     assert sentence(of_values("failure", CLOSED)) == (
         "not all demands fit after 2 of 3 single failures. The worst is that of AB (A – B): 50.0 % to 50.0 % of every demand; without failures it is "
-        "133.3 % to 133.4 % of every demand.")
+        "133.3 % to 133.4 % of every demand."
+    )
     assert sentence(of_values("failure", {"AB": Fraction(2)})).startswith("all demands fit after each of 1 single failure. ")
     assert "AB (A – B): at most 216.7 % of every demand with it" in sentence(of_values("double", DOUBLED, solver="none"))
     assert sentence(of_values("failure", CLOSED, Fraction(3, 2))).startswith("With all demands times 1.5: not all demands fit")
     base = Bounds(Fraction(4, 3), Fraction(7, 5))
     assert [growth for growth, _ in grown(base, [Fraction(1), Fraction(2)])] == [2, 1]
-    assert grown_sentence(Fraction(2), base.divided(Fraction(2))) == "With all demands times 2 they do not all fit: 66.6 % to 70.0 % of every demand."
+    assert (
+        grown_sentence(Fraction(2), base.divided(Fraction(2)))
+        == "With all demands times 2 they do not all fit: 66.6 % to 70.0 % of every demand."
+    )
 
 
 def test_the_table_rounds_lower_down_and_upper_up():
     rows = table(survey_table([of_values("failure", CLOSED)], [(Fraction(2), Bounds(Fraction(2, 3), Fraction(2, 3)))]))
     assert (rows[0]["change"], rows[0]["lower"], rows[0]["upper"], rows[0]["fits"]) == ("grow 2", "0.666666", "0.666667", "no")
-    assert (rows[2]["link"], rows[2]["lower"], rows[2]["upper"], rows[2]["capacity"]) == ("AC", "0.833333", "0.833334", "6.000000")
+    assert (rows[2]["link"], rows[2]["lower"], rows[2]["upper"], rows[2]["capacity"]) == (
+        "AC",
+        "0.833333",
+        "0.833334",
+        "6.000000",
+    )
 
 
 def test_thickness_is_how_much_a_change_matters():
     part = Part(of_values("failure", CLOSED))
     widths = {line.title.split()[0]: line.width for line in part.drawing().lines}
     assert widths == {"AB": round(2.5 + 11 * 0.625, 2), "AC": round(2.5 + 11 * 0.375, 2), "BC": round(2.5 + 11 * 0.0625, 2)}
-    assert [Part(of_values("double", DOUBLED)).change(case) for case in of_values("double", DOUBLED).cases] == [Fraction(5, 8), Fraction(3, 8), 0]
+    assert [Part(of_values("double", DOUBLED)).change(case) for case in of_values("double", DOUBLED).cases] == [
+        Fraction(5, 8),
+        Fraction(3, 8),
+        0,
+    ]
 
 
 def test_a_routing_has_no_ground():
@@ -185,7 +242,9 @@ def test_a_routing_has_no_ground():
 @pytest.mark.parametrize("width", [400, 1600])
 def test_pages_of_surveys_in_a_browser(tmp_path: Path, width: int):
     both = [of_values("failure", CLOSED), of_values("double", DOUBLED)]
-    page = survey_page("<script>window.top.hit=1</script>", triangle().scaled, both, [(Fraction(2), Bounds(Fraction(2, 3), Fraction(2, 3)))])
+    page = survey_page(
+        "<script>window.top.hit=1</script>", triangle().scaled, both, [(Fraction(2), Bounds(Fraction(2, 3), Fraction(2, 3)))]
+    )
     seen = browser.measured(page, width, tmp_path)
     assert seen["outside"] == [] and seen["lost"] == [] and seen["wide"] <= width
     assert seen["circles"] == 6 and sum(seen["strokes"].values()) == 6 and "none" not in seen["strokes"]
