@@ -4,6 +4,7 @@ from __future__ import annotations
 
 from dataclasses import replace
 
+from .files import stem
 from .model import Demand, Link, Matrix, Network, Node, Notes, Refused, Source
 from .words import Words, word_of
 
@@ -43,7 +44,7 @@ def together(sources: list[Source], base: list[Source], notes: Notes, many: bool
     if not many:
         matrices = _one(matrices, notes)
     names = Words("matrix", notes)
-    done = [Matrix(names.word(m.name, s.path) if many else "", _demands(s, m, ends, notes)) for s, m in matrices]
+    done = [Matrix(names.word(m.name, stem(s.path)) if many else "", _demands(s, m, ends, notes)) for s, m in matrices]
     return Network(nodes, links, done, structure.meta, structure.bits, structure.one_way)
 
 

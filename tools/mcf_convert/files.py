@@ -89,6 +89,11 @@ def _kind_of_xml(path: str, data: bytes) -> str:
     return kinds[root.group(1)]
 
 
+def stem(path: str) -> str:
+    """The name of a file without its folder and its last ending."""
+    return Path(path.removesuffix(".gz")).stem
+
+
 def write(path: str, text: str) -> None:
     """Writes a text, packed where the name ends with .gz; `-` is standard output."""
     data = text.encode("utf-8", "surrogateescape")

@@ -3,8 +3,8 @@
 from __future__ import annotations
 
 from fractions import Fraction
-from pathlib import Path
 
+from .files import stem
 from .model import Demand, Link, Matrix, Node, Notes, Refused, Source
 from .numbers import number
 
@@ -52,7 +52,7 @@ def read_demands(path: str, text: str, notes: Notes) -> Source:
     for at, line in more:
         notes.say("dropped", f"{path} line {at}: {line.strip()}")
     demands = [Demand(row[0], row[1], row[2], number(row[3], f"{path}: bw of demand {row[0]!r}")) for row in rows]
-    name = Path(path.removesuffix(".gz")).stem
+    name = stem(path)
     return Source(path, "demands", matrices=[Matrix(name, demands)], bits=KBIT, by_number=True)
 
 

@@ -3,10 +3,10 @@
 from __future__ import annotations
 
 from fractions import Fraction
-from pathlib import Path
 
 from lxml import etree
 
+from .files import stem
 from .model import Demand, Link, Matrix, Node, Notes, Refused, Source
 from .numbers import number, unit_of
 from .xml import attribute, child, children, local, root_of, where, words
@@ -26,7 +26,7 @@ def read(path: str, data: bytes, notes: Notes) -> Source:
     source.links = [_link(path, e, notes) for e in children(child(structure, "links"), "link")]
     demands = [_demand(path, e, notes) for e in children(child(root, "demands"), "demand")]
     if child(root, "demands") is not None:
-        source.matrices = [Matrix(Path(path.removesuffix(".gz")).stem, demands)]
+        source.matrices = [Matrix(stem(path), demands)]
     return source
 
 

@@ -6,8 +6,8 @@ import csv
 import io
 from dataclasses import dataclass
 from fractions import Fraction
-from pathlib import Path
 
+from .files import stem
 from .model import Demand, Link, Matrix, Network, Node, Notes, Refused, Source
 from .numbers import Form, number, plain, rate
 
@@ -166,7 +166,7 @@ def _demands(table: Table) -> Source:
         what = f"{table.path} line {at}: amount"
         value = rate(table.must(at, row, "amount"), what, table.form.unit, table.form.comma)
         unit = number(table.word(row, "unit", "1"), what, table.form.comma)
-        matrix = table.word(row, "matrix", Path(table.path.removesuffix(".gz")).stem)
+        matrix = table.word(row, "matrix", stem(table.path))
         found.setdefault(matrix, []).append(Demand(name, *ends, value, unit, table.word(row, "longest", "UNLIMITED")))
     source.matrices = [Matrix(name, demands) for name, demands in found.items()]
     return source
@@ -187,7 +187,7 @@ def _square(path: str, head: list[str], rows: list[tuple[int, list[str]]], form:
             value = rate(word or "0", f"{path} line {at}: {source} to {target}", form.unit, form.comma)
             if value:
                 demands.append(Demand("", source, target, value))
-    return Source(path, "demands", matrices=[Matrix(Path(path.removesuffix(".gz")).stem, demands)], bits=form.unit.bits)
+    return Source(path, "demands", matrices=[Matrix(stem(path), demands)], bits=form.unit.bits)
 
 
 def text(network: Network, what: str, notes: Notes) -> str:

@@ -256,6 +256,42 @@ def test_graphml_is_what_networkx_reads(tmp_path: Path):
     assert graph.nodes["Gdansk"]["Longitude"] == 18.6
 
 
+def test_lists_to_csv_and_back(tmp_path: Path):
+    convert("--net", "links.csv", "hours.csv", tmp_path / "day.list", "--from-unit", "Mbit")
+    convert(tmp_path / "day.list", tmp_path / "day.demands.csv")
+    back, said = convert(tmp_path / "day.demands.csv", "-", "--to", "list")
+    assert back == (tmp_path / "day.list").read_text() and not said
+
+
+def test_a_network_s_own_demands_become_a_list_of_its_name():
+    text, said = convert(EXAMPLES / "one-link.net", "-", "--to", "list")
+    assert text == "one-link (\n  D1 ( A B ) 1 4 UNLIMITED\n)\n"
+    assert said == ["dropped: 2 nodes and 1 links: a list has demands alone"]
+
+
+def test_other_demands_take_the_place_of_a_network_s_own(tmp_path: Path):
+    (tmp_path / "d.csv").write_text("from,to,traffic\nGdansk,Krakow,7\n")
+    text, said = convert(EXAMPLES / "polska.net", tmp_path / "d.csv", "-", "--to", "net", "--from-unit", "Mbit")
+    assert rows(text, "DEMANDS") == ["Gdansk-Krakow ( Gdansk Krakow ) 1 7 UNLIMITED"]
+    assert any("its own 66 demands" in line for line in said)
+
+
+@pytest.mark.parametrize("encoding", ["utf-8-sig", "utf-16"])
+def test_xml_with_a_byte_order_mark(tmp_path: Path, encoding: str):
+    text = (DATA / "network.xml").read_text("iso-8859-1").replace("ISO-8859-1", encoding.removesuffix("-sig"))
+    (tmp_path / "network.xml").write_bytes(text.encode(encoding))
+    marked, said = convert(tmp_path / "network.xml", "-", "--to", "net")
+    assert marked == convert("network.xml", "-", "--to", "net")[0]
+    assert "byte order mark" in said[0]
+
+
+def test_windows_tables_are_read_and_said(tmp_path: Path):
+    (tmp_path / "t.csv").write_bytes("source;target;capacity\r\nK\u00f6ln;Ulm;1,5\r\n".encode("cp1252"))
+    text, said = convert(tmp_path / "t.csv", "-", "--to", "net", "--decimal-comma")
+    assert rows(text, "LINKS") == ["K\u00f6ln-Ulm ( K\u00f6ln Ulm ) 1.5 0 0 0 ( )"]
+    assert said[0] == f"read: {tmp_path / 't.csv'}: no UTF-8, so as Windows-1252"
+
+
 def test_names_that_fall_together_stay_two():
     text, said = convert("twins.csv", "-", "--to", "net")
     assert rows(text, "NODES") == ["a_b", "a_b_2", "a_b_2_2"]
