@@ -86,7 +86,7 @@ def read(path: str, text: str, notes: Notes, form: Form) -> Source:
         return _demands(table)
     if ("node" in place or "id" in place) and "x" in place and "y" in place:
         _tell_unread(path, head, place, ("node", "id", "x", "y"), notes)
-        return Source(path, "nodes", nodes=[_node(table, at, row) for at, row in table.rows])
+        return _places_of_nodes(table)
     due = "source, target and capacity (links) or amount (demands), or node, x and y (places)"
     raise Refused(f"{path}: columns {due} are due; it has {', '.join(head)} (--columns names them)")
 
@@ -148,6 +148,17 @@ def _modules(table: Table, at: int, row: list[str]) -> tuple[tuple[Fraction, str
         raise Refused(f"{table.path} line {at}: modules are pairs of a capacity and a cost")
     where = f"{table.path} line {at}: modules"
     return tuple((number(a, where, table.form.comma), b) for a, b in zip(parts[::2], parts[1::2]))
+
+
+def _places_of_nodes(table: Table) -> Source:
+    """Nodes with their places, each once."""
+    nodes: dict[str, Node] = {}
+    for at, row in table.rows:
+        node = _node(table, at, row)
+        if node.key in nodes:
+            raise Refused(f"{table.path} line {at}: node {node.key!r} stands twice")
+        nodes[node.key] = node
+    return Source(table.path, "nodes", nodes=list(nodes.values()))
 
 
 def _node(table: Table, at: int, row: list[str]) -> Node:

@@ -18,8 +18,10 @@ from mcf_texts import Link, Network, Program, TextError, read_certificate, save_
 
 from .figures import Figures
 
+# The links of one script: with the longest names it stays below the 1 MiB that scripts may have.
+AT_ONCE = 1000
 SHOW = re.compile(r"show lower (\d+)/(\d+) \S+ upper (\d+)/(\d+) \S+")
-SWEEP = re.compile(r"sweep (\S+) lower (\d+)/(\d+) \S+ upper (\d+)/(\d+) \S+")
+SWEEP = re.compile(r"sweep (\S+) (?:(?:closed|open) phases \d+ )?lower (\d+)/(\d+) \S+ upper (\d+)/(\d+) \S+")
 
 
 @dataclass(frozen=True)
@@ -128,19 +130,33 @@ def _order(case: Case) -> tuple[Fraction, Fraction]:
 
 
 def _kept(ground: Ground, kind: str, factor: int) -> list[Bounds]:
-    """What the certificate is still worth in each case: by `sweep` where the program has it, else by one `whatif`."""
+    """What the certificate is still worth in each case: by `sweep` where the program has it, else by `whatif`."""
     if kind == "failure":
-        swept = ground.program.run("sweep", ground.net, ground.certificate)
-        if swept.status == 0:
-            by_link = {match[1]: _bounds(match.groups()[1:]) for match in SWEEP.finditer(swept.text)}
-            return [by_link[link.id] for link in ground.links]
+        swept = _swept(ground, "sweep", ground.net, ground.certificate)
+        if swept:
+            return swept
+    links = ground.links
+    parts = [links[at : at + AT_ONCE] for at in range(0, len(links), AT_ONCE)]
+    return [bounds for part in parts for bounds in _shown(ground, part, factor)]
+
+
+def _shown(ground: Ground, links: tuple[Link, ...], factor: int) -> list[Bounds]:
+    """What `whatif` shows of the certificate with each of these links changed."""
     with _room() as room:
-        save_text(room / "script", "".join(_steps(ground, link, factor) for link in ground.links))
+        save_text(room / "script", "".join(_steps(ground, link, factor) for link in links))
         text = ground.program.ask("whatif", ground.net, ground.certificate, str(room / "script"))
     found = [_bounds(match.groups()) for match in SHOW.finditer(text)]
-    if len(found) != len(ground.links):
-        raise TextError(f"mcf whatif wrote {len(found)} lines for {len(ground.links)} links")
+    if len(found) != len(links):
+        raise TextError(f"mcf whatif wrote {len(found)} lines for {len(links)} links")
     return found
+
+
+def _swept(ground: Ground, *words: str) -> list[Bounds] | None:
+    """The lines of `sweep` or `sweepsolve`; none where the program has no such command, or not this work."""
+    answer = ground.program.run(*words)
+    by_link = {match[1]: _bounds(match.groups()[1:]) for match in SWEEP.finditer(answer.text)}
+    complete = answer.status in (0, 1) and all(link.id in by_link for link in ground.links)
+    return [by_link[link.id] for link in ground.links] if complete else None
 
 
 def _steps(ground: Ground, link: Link, factor: int) -> str:
@@ -164,6 +180,9 @@ def _bounds(words: Iterable[str]) -> Bounds:
 def _routed(ground: Ground, factor: int, kept: list[Bounds], settings: Settings) -> Iterator[Bounds]:
     """The bounds of each case routed anew; where the old paths are as good already, nothing is solved."""
     gap = Fraction(getattr(ground.figures.text, "gap"), 10**6) if settings.solver == "solve" else Fraction(0)
+    if factor == 0 and settings.solver == "solve":
+        swept = _swept(ground, "sweepsolve", *_modes(ground), *settings.options, "--", ground.net)
+        kept = [old.best(new) for old, new in zip(kept, swept)] if swept else kept
     with ThreadPoolExecutor(settings.jobs) as pool:
         tasks = [None if old.within(gap) else pool.submit(_solved, ground, at, factor, settings) for at, old in enumerate(kept)]
         try:
@@ -179,13 +198,17 @@ def _solved(ground: Ground, at: int, factor: int, settings: Settings) -> Bounds:
     scaled = ground.figures.scaled
     with _room() as room:
         save_text(room / "net", write_network(changed(scaled.network, at, ground.installed(ground.links[at]) * factor)))
-        modes = ("--links", scaled.links, "--modules", scaled.modules)
         if settings.solver == "certify":
-            text = _certified(ground, room / "net", *modes, *settings.options)
+            text = _certified(ground, room / "net", *_modes(ground), *settings.options)
         else:
-            text = ground.program.solve(room / "net", *modes, "--workers", "1", *settings.options)
+            text = ground.program.solve(room / "net", *_modes(ground), "--workers", "1", *settings.options)
     found = read_certificate(text)
     return Bounds(Fraction(*found.lower), Fraction(*found.upper))
+
+
+def _modes(ground: Ground) -> tuple[str, ...]:
+    """The options by which links and modules are read as in the certificate."""
+    return "--links", ground.figures.scaled.links, "--modules", ground.figures.scaled.modules
 
 
 def _certified(ground: Ground, net: Path, *words: str) -> str:

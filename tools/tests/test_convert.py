@@ -312,6 +312,7 @@ def test_names_that_fall_together_stay_two():
         ("source,target,capacity\nA,B,99999999999999\n", "--unit Mbit or Gbit"),
         ("from,to,Gbps\nA,B,3\n", "it has from, to, Gbps (--columns names them)"),
         ('source,target,capacity\nA,"B,3\n', "line 2"),
+        ("node,x,y\nA,1,2\nA,1,2\n", "line 3: node 'A' stands twice"),
         ("", "no rows"),
     ],
 )

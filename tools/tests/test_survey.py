@@ -156,6 +156,24 @@ def test_sweep_is_taken_where_the_program_has_it(program: Program, tmp_path: Pat
     assert [row["kept_upper"] for row in table(out)] == ["0.142858", "0.285715", "0.428572"]
 
 
+def test_sweepsolve_saves_what_it_closes(program: Program, tmp_path: Path):
+    fake = tmp_path / "mcf"
+    lines = "sweep AB closed phases 3 lower 49/100 0.490000 upper 51/100 0.510000\\n"
+    lines += "sweep AC open phases 3 lower 1/100 0.010000 upper 99/100 0.990000\\nsweep BC closed phases 3 lower 122/100 1.22 upper 128/100 1.28\\n"
+    log = tmp_path / "log"
+    fake.write_text(
+        f"#!/bin/sh\nif [ \"$1\" = sweepsolve ]; then printf '{lines}'; exit 1; fi\n"
+        f'[ "$1" = solve ] && echo solve >> {log}\nexec {program.path} "$@"\n'
+    )
+    fake.chmod(0o755)
+    words = [EXAMPLES / "triangle.net", EXAMPLES / "triangle.cert", "--failures", "--csv", "-"]
+    out, _ = run(*words, program=Program(str(fake)), status=1)
+    rows = {row["link"]: (Fraction(row["lower"]), Fraction(row["upper"])) for row in table(out)}
+    assert log.read_text() == "solve\n"
+    assert rows["AB"][0] == Fraction("0.49") and rows["BC"] == (Fraction("1.22"), Fraction("1.28"))
+    assert rows["AC"][0] <= CLOSED["AC"] <= rows["AC"][1] and rows["AC"][0] > Fraction("0.7")
+
+
 def test_a_routing_and_an_invalid_certificate_are_told(program: Program, tmp_path: Path):
     _, said = run(EXAMPLES / "triangle.net", EXAMPLES / "triangle.routing", "--failures", program=program, status=2)
     assert said == f"survey: {EXAMPLES / 'triangle.routing'}: a routing has no bound, so a certificate is wanted\n"
