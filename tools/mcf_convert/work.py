@@ -7,6 +7,7 @@ from fractions import Fraction
 
 from . import assemble, files, graphml, native, repetita, sndlib, tables
 from .adjust import Changes, adjusted, in_unit, require_fit
+from .gravity import with_gravity
 from .model import Network, Notes, Refused, Source
 from .numbers import UNITS, Form, Unit
 
@@ -34,6 +35,7 @@ class Task:
     missing: str | None = None
     columns: dict[str, str] = field(default_factory=dict)
     comma: bool = False
+    gravity: Fraction = Fraction(0)
 
 
 def target_of(path: str) -> str:
@@ -62,6 +64,8 @@ def convert(task: Task, notes: Notes) -> None:
     base, sources = sources[: len(task.base)], sources[len(task.base) :]
     many = kind == "list" or (kind == "demands" and all(not s.links for s in sources))
     network = assemble.together(sources, base, notes, many)
+    if task.gravity:
+        network = with_gravity(network, task.gravity, notes)
     network = adjusted(network, Changes(task.scale, task.merge, task.merge_both, task.decimals), notes)
     if task.unit:
         network.meta["unit"] = META_UNITS[task.unit]
@@ -89,7 +93,7 @@ def _tell(network: Network, kind: str, notes: Notes) -> None:
     if kind == "net" and network.one_way:
         notes.say("note", "links are one way: solve with --links directed")
     if kind == "net" and not any(d.amount for m in network.matrices for d in m.demands):
-        notes.say("note", "no demands: give a file of demands behind the network's")
+        notes.say("note", "no demands: give a file of demands behind the network's, or have them made up by --gravity X")
 
 
 def _tell_meta(sources: list[Source], kind: str, notes: Notes) -> None:

@@ -110,7 +110,7 @@ def test_topology_zoo_has_places_labels_and_raw_speeds():
         "added: zoo.graphml line 55: edge from 2 to 3: no capacity, which becomes 2.4G",
     ]
     assert "dropped: zoo.graphml: attribute Country of 2 entries" in said
-    assert said[-1] == "note: no demands: give a file of demands behind the network's"
+    assert said[-1] == "note: no demands: give a file of demands behind the network's, or have them made up by --gravity X"
 
 
 def test_a_missing_capacity_is_refused_unless_one_is_given():
@@ -333,6 +333,16 @@ def test_columns_can_be_named(tmp_path: Path):
 def test_a_demand_to_no_node_is_refused(tmp_path: Path):
     (tmp_path / "d.csv").write_text("source,target,amount\nDen Haag,Paris,3\n")
     assert "'Paris' is no node" in refusal("links.csv", tmp_path / "d.csv", "-", "--to", "net", "--from-unit", "Mbit")
+
+
+def test_gravity_makes_demands_up_where_there_are_none(tmp_path: Path):
+    (tmp_path / "t.csv").write_text("source,target,capacity\nA,B,1\nB,C,3\nB,C,0\nD,D,0\n")
+    text, said = convert(tmp_path / "t.csv", "-", "--to", "net", "--gravity", "19")
+    assert rows(text, "DEMANDS") == ["A-B ( A B ) 1 4 UNLIMITED", "A-C ( A C ) 1 3 UNLIMITED", "B-C ( B C ) 1 12 UNLIMITED"]
+    assert said[-1] == "made up: 3 demands of 19 in all, by capacities at both ends"
+    assert "some file has" in refusal(EXAMPLES / "polska.net", "-", "--to", "net", "--gravity", "10")
+    text, _ = convert("small.graph", "-", "--to", "net", "--gravity", "100")
+    assert len(rows(text, "DEMANDS")) == 6
 
 
 def test_xml_with_entities_of_its_own_is_refused(tmp_path: Path):
