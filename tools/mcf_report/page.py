@@ -144,7 +144,7 @@ class Change:
     def change(self) -> str:
         """The same for people."""
         sign = "+" if self.difference > 0 else "−" if self.difference < 0 else "±"
-        return f"{sign}{shown.percent(abs(self.difference))}"
+        return sign + shown.percent(abs(self.difference)).removesuffix(" %")
 
     @property
     def capacity_before(self) -> str:
