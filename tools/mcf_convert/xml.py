@@ -13,7 +13,7 @@ def root_of(path: str, data: bytes) -> etree._Element:
     try:
         root = etree.fromstring(data, parser)
     except etree.XMLSyntaxError as fault:
-        raise Refused(f"{path} line {fault.lineno}: no XML: {fault.msg}") from None
+        raise Refused(f"{path} line {fault.lineno}: no XML: {fault.msg.splitlines()[0]}") from None
     inner = root.getroottree().docinfo.internalDTD
     if inner is not None and inner.entities():
         raise Refused(f"{path}: entities of its own are not read")

@@ -3,11 +3,15 @@
 from __future__ import annotations
 
 import gzip
+import random
 import subprocess
 from pathlib import Path
 
 import pytest
 
+from mcf_convert import work
+from mcf_convert.model import Notes, Refused
+from mcf_convert.work import Task
 from mcf_texts import Program
 
 ROOT = Path(__file__).resolve().parents[2]
@@ -357,6 +361,42 @@ def test_xml_with_entities_of_its_own_is_refused(tmp_path: Path):
 def test_files_of_nothing_known_are_refused_in_one_line(tmp_path: Path, data: bytes):
     (tmp_path / "x").write_bytes(data)
     refusal(tmp_path / "x", "-", "--to", "net")
+
+
+def damaged(data: bytes, seed: int) -> list[bytes]:
+    """Fronts of a file, and the file with a few bytes exchanged, left out or put in."""
+    drawn = random.Random(seed)
+    found = [data[:cut] for cut in range(0, len(data), max(1, len(data) // 40))]
+    for _ in range(40):
+        new = bytearray(data)
+        at = drawn.randrange(len(new))
+        new[at : at + drawn.choice((0, 1, 1))] = bytes(drawn.choices(b'()<>#,;"\n\r\t .-+eE0\xff\x00', k=drawn.choice((0, 1, 2))))
+        found.append(bytes(new))
+    return found
+
+
+@pytest.mark.parametrize("file", sorted(DATA.iterdir()), ids=lambda file: file.name)
+def test_damaged_files_are_read_or_refused_in_one_line(tmp_path: Path, file: Path):
+    answers = {True: 0, False: 0}
+    for data in damaged(file.read_bytes(), len(file.name)):
+        (tmp_path / file.name).write_bytes(data)
+        for kind in ("net", "list", "demands"):
+            task = Task(
+                [str(tmp_path / file.name)],
+                str(tmp_path / "out"),
+                written=kind,
+                missing="1G",
+                from_unit="Mbit",
+                decimals=3,
+                merge=True,
+            )
+            try:
+                work.convert(task, Notes(quiet=True))
+                answers[True] += 1
+            except Refused as why:
+                answers[False] += 1
+                assert "\n" not in str(why) and str(why)
+    assert answers[False] > 20
 
 
 def test_a_file_that_is_not_there():
