@@ -3,7 +3,7 @@
 from __future__ import annotations
 
 import math
-from collections import Counter, defaultdict
+from collections import defaultdict
 from collections.abc import Callable
 from dataclasses import dataclass
 from fractions import Fraction
@@ -85,16 +85,17 @@ def drawn(figures: Figures, places: Layout, line: Callable[[LinkFigures, str], L
 
 
 def _bends(figures: Figures) -> list[float]:
-    """How far each line bends to its right, so that lines between the same nodes lie side by side."""
+    """How far each line bends to its right: lines between the same nodes lie side by side, those of one way right of the others."""
     cells = figures.scaled.cells
-    pairs = Counter(frozenset((cell.tail, cell.head)) for cell in cells)
-    seen: dict[frozenset[int], int] = defaultdict(int)
-    bends = []
-    for cell in cells:
-        pair = frozenset((cell.tail, cell.head))
-        offset = seen[pair] - (pairs[pair] - 1) / 2
-        seen[pair] += 1
-        bends.append(offset * 14.0 * (1 if cell.tail <= cell.head else -1))
+    groups: dict[tuple[int, int], list[int]] = defaultdict(list)
+    for number, cell in enumerate(cells):
+        groups[min(cell.tail, cell.head), max(cell.tail, cell.head)].append(number)
+    bends = [0.0] * len(cells)
+    for group in groups.values():
+        group.sort(key=lambda number: (cells[number].tail <= cells[number].head, number))
+        for at, number in enumerate(group):
+            offset = (at - (len(group) - 1) / 2) * min(44.0, 200.0 / len(group))
+            bends[number] = offset if cells[number].tail <= cells[number].head else -offset
     return bends
 
 

@@ -55,7 +55,7 @@ class Side:
     @property
     def verdict(self) -> str:
         """The sentence."""
-        return sentences.verdict(self.figures)
+        return shown.joined(sentences.verdict(self.figures))
 
     @property
     def tone(self) -> str:
@@ -66,7 +66,7 @@ class Side:
     @property
     def growth(self) -> str:
         """What more capacity would do."""
-        return sentences.growth(self.figures)
+        return shown.joined(sentences.growth(self.figures))
 
     @property
     def cards(self) -> list[tuple[str, str]]:

@@ -40,6 +40,11 @@ def _small(value: Fraction) -> str:
     return f"0.{(value * 10 ** (places + 2)).__floor__():0{places}d} %"
 
 
+def joined(text: str) -> str:
+    """A sentence whose percents keep with their numbers where lines are broken."""
+    return text.replace(" %", "\u00a0%")
+
+
 def amount(value: Fraction) -> str:
     """A load or a capacity with at most three decimals."""
     thousandths = (value * 1000 + Fraction(1, 2)).__floor__()

@@ -48,7 +48,7 @@ class Part:
     def sentence(self) -> str:
         """What was found."""
         text = survey_words.sentence(self.survey)
-        return text[0].upper() + text[1:]
+        return shown.joined(text[0].upper() + text[1:])
 
     @property
     def tone(self) -> str:
@@ -109,7 +109,7 @@ def spread(bounds: Bounds) -> str:
 
 def survey_page(title: str, scaled: ScaledNetwork, surveys: list[Survey], growths: list[tuple[Fraction, Bounds]]) -> str:
     """The page of surveys on one network."""
-    grown = [survey_words.grown_sentence(growth, bounds) for growth, bounds in growths]
+    grown = [shown.joined(survey_words.grown_sentence(growth, bounds)) for growth, bounds in growths]
     words = {"yes": "yes", "no": "no", "open": "not decided"}
     values = {"surveyed": [Part(one) for one in surveys], "grown": grown, "about": about(scaled), "spread": spread}
     return render("survey.html", title=title, fits=lambda bounds: words[survey_words.fits(bounds)], **values)

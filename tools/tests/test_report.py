@@ -211,7 +211,13 @@ def test_doubling_a_link_is_told_of_both_of_its_ways():
         == "1 link makes up 100.0 % of the bound. With twice the capacity on L1 alone, no routing would carry more than 400.0 % of every demand."
     )
     lines = drawing.drawing(found, layout.layout(found.scaled)).lines
-    assert len({line.path for line in lines}) == 2
+    assert {line.title[:9] for line in lines} == {"L1: A → B", "L1: B → A"}
+    (x1, y1), (x2, y2) = layout.layout(found.scaled).places
+    for line in lines:
+        middle = [float(number) for number in line.path.split("Q")[1].split()[:2]]
+        way = 1 if "A → B" in line.title else -1
+        # right of its direction: y goes downwards, so the product of both is positive
+        assert way * ((x2 - x1) * (middle[1] - y1) - (y2 - y1) * (middle[0] - x1)) > 0
 
 
 def test_the_table_of_links(triangle: Figures):
@@ -452,7 +458,11 @@ def test_the_command_writes_page_and_tables(tmp_path: Path, program: Program):
     first = [(tmp_path / name).read_bytes() for name in ("x.html", "x.csv", "p.csv")]
     report(net, cert, *words, program=program)
     assert first == [(tmp_path / name).read_bytes() for name in ("x.html", "x.csv", "p.csv")]
-    assert sentence.strip().encode() in first[0] and b"<b>9,658 Mbit/s</b>" in first[0] and b"<th>Load, Mbit/s</th>" in first[0]
+    assert (
+        shown.joined(sentence.strip()).encode() in first[0]
+        and b"<b>9,658 Mbit/s</b>" in first[0]
+        and b"<th>Load, Mbit/s</th>" in first[0]
+    )
     assert len(first[1].splitlines()) == 19
     out, _ = report(net, cert, "--csv", "-", program=program)
     assert out.encode() == first[1]
