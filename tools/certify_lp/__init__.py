@@ -1,0 +1,1 @@
+"""Certificates from a linear program over paths, solved by CLP."""

@@ -41,18 +41,21 @@ def certificate_of(scaled: ScaledNetwork, like: Certificate, pairs: Pairs, arcs:
 
 def path_rows(scaled: ScaledNetwork, form: int, pairs: Pairs, pool: Pool, whole: Whole) -> list[Path]:
     """The rows of all paths with a weight, by commodity and then by the numbers of their cells."""
+    words = scaled.words(form)
+    return [Path(scaled.demand_id(number), weight, tuple(words[cell] for cell in walk))
+            for number, row in enumerate(shares_of_demands(scaled, pairs, pool, whole)) for walk, weight in sorted(row)]
+
+
+def shares_of_demands(scaled: ScaledNetwork, pairs: Pairs, pool: Pool, whole: Whole) -> list[list[tuple[Walk, int]]]:
+    """The weights of pairs' paths handed out to the commodities of each pair, in their order."""
     left: list[list[tuple[Walk, int]]] = [[] for _ in pairs.amount]
     for walk, pair, weight in zip(pool.walks, pool.pair, whole.weights):
         if weight:
             left[pair].append((walk, weight))
-    words = scaled.words(form)
     rows = []
-    for number, commodity in enumerate(scaled.commodities):
-        taken = _take(left[pairs.of_commodity[number]], whole.phases * commodity.amount)
-        turned = bool(pairs.turned[number])
-        name = scaled.demand_id(number)
-        for walk, weight in sorted((walk[::-1] if turned else walk, weight) for walk, weight in taken):
-            rows.append(Path(name, weight, tuple(words[cell] for cell in walk)))
+    for commodity, pair, turned in zip(scaled.commodities, pairs.of_commodity.tolist(), pairs.turned.tolist()):
+        taken = _take(left[pair], whole.phases * commodity.amount)
+        rows.append([(walk[::-1] if turned else walk, weight) for walk, weight in taken])
     return rows
 
 

@@ -23,14 +23,11 @@ _FUNCTIONS: dict[str, tuple[object, Sequence[object]]] = {
     "setMaximumSeconds": (None, (c_void_p, c_double)),
     "setPrimalTolerance": (None, (c_void_p, c_double)),
     "setDualTolerance": (None, (c_void_p, c_double)),
-    "setPerturbation": (None, (c_void_p, c_int)),
-    "scaling": (None, (c_void_p, c_int)),
     "copyinStatus": (None, (c_void_p, c_void_p)),
     "statusArray": (c_void_p, (c_void_p,)),
     "primal": (c_int, (c_void_p, c_int)),
-    "dual": (c_int, (c_void_p, c_int)),
+    "initialSolve": (c_int, (c_void_p,)),
     "status": (c_int, (c_void_p,)),
-    "numberIterations": (c_int, (c_void_p,)),
     "objectiveValue": (c_double, (c_void_p,)),
     "primalColumnSolution": (POINTER(c_double), (c_void_p,)),
     "dualRowSolution": (POINTER(c_double), (c_void_p,)),
@@ -52,7 +49,7 @@ def load_clp() -> ctypes.CDLL:
 
 
 class Model:
-    """A linear program: least cost, with bounds of columns and upper bounds of rows."""
+    """A linear program: least cost, with columns from 0 to upper bounds, and bounds of rows."""
 
     def __init__(self, library: ctypes.CDLL) -> None:
         """An empty program."""
@@ -70,12 +67,14 @@ class Model:
         """Gives the memory back."""
         self._clp.Clp_deleteModel(self._model)
 
-    def load(self, matrix: csc_matrix, cost: np.ndarray, upper: np.ndarray, row_upper: np.ndarray) -> None:
-        """The program: columns from 0 to `upper`, rows up to `row_upper`."""
+    def load(self, matrix: csc_matrix, cost: np.ndarray, upper: np.ndarray, row_upper: np.ndarray,
+             row_lower: np.ndarray | None = None) -> None:
+        """The program: columns from 0 to `upper`, rows up to `row_upper`, and from `row_lower` where that is given."""
         self._rows, self._columns = matrix.shape
         arrays = [np.ascontiguousarray(matrix.indptr, np.int32), np.ascontiguousarray(matrix.indices, np.int32),
                   np.ascontiguousarray(matrix.data, np.float64), np.zeros(self._columns), np.ascontiguousarray(upper, np.float64),
-                  np.ascontiguousarray(cost, np.float64), np.full(self._rows, -np.inf), np.ascontiguousarray(row_upper, np.float64)]
+                  np.ascontiguousarray(cost, np.float64), np.full(self._rows, -np.inf) if row_lower is None else np.ascontiguousarray(row_lower, np.float64),
+                  np.ascontiguousarray(row_upper, np.float64)]
         self._clp.Clp_loadProblem(self._model, self._columns, self._rows, *(array.ctypes.data for array in arrays))
 
     def set_tolerances(self, primal: float, dual: float) -> None:
@@ -100,16 +99,11 @@ class Model:
         self._clp.Clp_primal(self._model, 0)
         return self._clp.Clp_status(self._model) == 0
 
-    def dual(self, seconds: float) -> bool:
-        """Dual simplex, likewise."""
+    def solve_anew(self, seconds: float) -> bool:
+        """The method that CLP chooses, from nothing, likewise."""
         self._clp.Clp_setMaximumSeconds(self._model, max(seconds, 0.0))
-        self._clp.Clp_dual(self._model, 0)
+        self._clp.Clp_initialSolve(self._model)
         return self._clp.Clp_status(self._model) == 0
-
-    @property
-    def iterations(self) -> int:
-        """How many steps the last call took."""
-        return self._clp.Clp_numberIterations(self._model)
 
     @property
     def cost(self) -> float:

@@ -48,7 +48,7 @@ class Pool:
         return True
 
     def cells_by_walks(self, cells: int) -> csc_matrix:
-        """How often each path has each cell."""
+        """Which cells each path has, each once."""
         counts = np.fromiter(map(len, self.walks), _INDEX, len(self.walks))
         starts = np.concatenate([[0], np.cumsum(counts)])
         numbers = np.fromiter((cell for walk in self.walks for cell in walk), _INDEX, starts[-1])
@@ -57,11 +57,15 @@ class Pool:
 
 @dataclass
 class Optimum:
-    """Flows of the pool's paths, which carry every amount, with the best prices of cells so far and the bound that these give."""
+    """Flows of the pool's paths, which carry every amount, with the best prices of cells so far and the bound that these give.
+
+    `last_prices` are those of the flows.
+    """
 
     flows: np.ndarray
     congestion: float
     prices: np.ndarray
+    last_prices: np.ndarray
     bound: float
     rounds: int
     proved: bool
@@ -89,8 +93,11 @@ class PathProgram:
         self._active = np.zeros(len(capacities), bool)
         self._begun = False
 
-    def optimise(self, deadline: float, told: Callable[[Optimum], None]) -> Optimum:
-        """The optimum, or what is known at the deadline (of `time.monotonic`); tells what is known after each round."""
+    def optimise(self, deadline: float, told: Callable[[Optimum], None], grow: bool = True) -> Optimum:
+        """The optimum, or what is known at the deadline (of `time.monotonic`); tells what is known after each round.
+
+        Without `grow` it is the optimum over the paths of the pool alone; the bound is still that over all paths.
+        """
         best: Optimum | None = None
         for number in range(1, ROUNDS + 1):
             matrix = self._pool.cells_by_walks(len(self._capacity))
@@ -98,10 +105,10 @@ class PathProgram:
             found = self._judge(matrix, flows, prices, number)
             if best is not None and best.bound <= found.bound:
                 found.bound, found.prices = best.bound, best.prices
-            found.proved = done and (found.gap <= ENOUGH or not self._price(matrix, prices))
+            found.proved = done and (found.gap <= ENOUGH or not (grow and self._price(matrix, prices)))
             best = found
             told(best)
-            if found.proved or time.monotonic() >= deadline:
+            if found.proved or not grow or time.monotonic() >= deadline:
                 break
         assert best is not None
         return best
@@ -146,7 +153,7 @@ class PathProgram:
         counts = np.diff(matrix.indptr)
         cross = csc_matrix((matrix.data, (matrix.indices, np.repeat(pair, counts))), (len(self._capacity), len(self._amount)))
         cross.sum_duplicates()
-        most = cross.minimum(1) @ self._amount if matrix.data.max(initial=0) <= 1 else cross @ self._amount
+        most = (cross > 0) @ self._amount
         bound = np.inf if best is None else best.bound
         least = 0.0 if not np.isfinite(bound) else (1 - 1e-6) / bound
         self._active |= (self._capacity > 0) & (most > self._capacity * least)
@@ -186,7 +193,7 @@ class PathProgram:
         self._distance = self._found[0][self._row, self._pairs.target]
         distance = float(self._amount @ self._distance)
         bound = float(self._capacity @ prices) / distance if distance > 0 else np.inf
-        return Optimum(flows, congestion, prices, bound, number, False)
+        return Optimum(flows, congestion, prices, prices, bound, number, False)
 
     def _price(self, matrix: csc_matrix, prices: np.ndarray) -> int:
         """Adds a shortest path for each pair all of whose paths are longer; says how many are new."""

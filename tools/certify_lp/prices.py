@@ -5,6 +5,7 @@ from __future__ import annotations
 from dataclasses import dataclass
 from fractions import Fraction
 from math import lcm
+from typing import Callable
 
 import numpy as np
 
@@ -31,14 +32,12 @@ class Bound:
 
 
 class Bounds:
-    """Makes bounds of a network's prices."""
+    """Makes bounds of prices; `distances` gives the least length of a path of each pair, exactly, for whole lengths of cells."""
 
-    def __init__(self, pairs: Pairs, arcs: Arcs, capacities: list[int]) -> None:
+    def __init__(self, amounts: list[int], capacities: list[int], distances: Callable[[np.ndarray], np.ndarray]) -> None:
         """Nothing is tried yet."""
-        self._pairs, self._arcs, self._capacities = pairs, arcs, capacities
+        self._amounts, self._capacities, self._distances = amounts, capacities, distances
         self._has = np.array([capacity > 0 for capacity in capacities])
-        self._sources, self._row = np.unique(pairs.source, return_inverse=True)
-        self._amounts = [int(amount) for amount in pairs.amount]
         self.best: Bound | None = None
 
     def offer(self, prices: np.ndarray) -> Bound | None:
@@ -52,15 +51,19 @@ class Bounds:
 
     def _try(self, lengths: np.ndarray) -> None:
         """Keeps the bound of whole lengths where it is the best."""
-        distances, _ = self._arcs.distances(lengths, self._sources)
-        found = distances[self._row, self._pairs.target]
-        weighted = sum(amount * int(distance) for amount, distance in zip(self._amounts, found))
+        weighted = sum(amount * int(distance) for amount, distance in zip(self._amounts, self._distances(lengths)))
         if not weighted:
             return
         volume = sum(self._capacities[cell] * int(lengths[cell]) for cell in np.flatnonzero(lengths))
         bound = Bound(lengths, volume, weighted)
         if self.best is None or bound.volume * self.best.distance < self.best.volume * bound.distance:
             self.best = bound
+
+
+def over_all_paths(pairs: Pairs, arcs: Arcs) -> Callable[[np.ndarray], np.ndarray]:
+    """The distances of pairs over all paths of a network."""
+    sources, row = np.unique(pairs.source, return_inverse=True)
+    return lambda lengths: arcs.distances(lengths, sources)[0][row, pairs.target]
 
 
 def _candidates(prices: np.ndarray) -> list[np.ndarray]:

@@ -38,9 +38,10 @@ class Rounding:
     """Rounds flows of paths whose pairs' sums are whole amounts."""
 
     def __init__(self, matrix: csc_matrix, pair: np.ndarray, amounts: list[int], capacities: list[int], flows: np.ndarray) -> None:
-        """`matrix` says how often each path has each cell; all flows of a pair sum to its amount."""
+        """`matrix` says which cells each path has, each once; all flows of a pair sum to its amount."""
         self._matrix = matrix.tocsc()
         self._rows: csr_matrix = matrix.tocsr()
+        self._whole = self._rows.astype(np.int64)
         self._pair, self._amounts, self._capacities, self._flows = pair, amounts, capacities, flows
         self._capacity = np.array(capacities, np.float64)
         order = np.lexsort((np.arange(len(pair)), -flows, pair))
@@ -133,11 +134,8 @@ class Rounding:
         return Whole(phases, weights, capacity, load)
 
     def _cells(self, column: int) -> np.ndarray:
-        """The cells of a path, each as often as the path has it."""
-        start, end = self._matrix.indptr[column], self._matrix.indptr[column + 1]
-        cells = self._matrix.indices[start:end]
-        counts = self._matrix.data[start:end]
-        return cells if (counts == 1).all() else np.repeat(cells, counts.astype(int))
+        """The cells of a path."""
+        return self._matrix.indices[self._matrix.indptr[column]:self._matrix.indptr[column + 1]]
 
     def _move(self, cell: int, weights: list[int], full: Fullness) -> tuple[int, int] | None:
         """The two paths of a pair between which a unit moves off a cell, so that what fills up is least full, and less than the cell."""
@@ -157,13 +155,8 @@ class Rounding:
         return best
 
     def _loads(self, weights: list[int]) -> list[int]:
-        """The load of each cell, exactly."""
-        loads = [0] * len(self._capacities)
-        for column, weight in enumerate(weights):
-            if weight:
-                for cell in self._cells(column).tolist():
-                    loads[cell] += weight
-        return loads
+        """The load of each cell, exactly: no path has a cell twice, so no load is over phases times all amounts, at most 2^62."""
+        return (self._whole @ np.array(weights, np.int64)).tolist()
 
 
 class Fullness:

@@ -11,12 +11,12 @@ from pathlib import Path as File
 import numpy as np
 from tqdm import tqdm
 
-from mcf_texts import Certificate, Program, Routing, ScaledNetwork, TextError, save_text, scale, write_certificate
+from mcf_texts import Certificate, Program, Routing, ScaledNetwork, TextError, save_text, write_certificate
 
 from .build import certificate_of, in_form, with_gap
 from .clp import load_clp
 from .path_lp import Optimum, PathProgram, complete
-from .prices import Bound, Bounds
+from .prices import Bound, Bounds, over_all_paths
 from .problem import Arcs, Pairs, pairs_of
 from .rounding import Rounding
 from .start import Source, combined, first_certificate, given, lengths_of, longer_certificates, pool_of
@@ -52,6 +52,7 @@ class Begun:
     scaled: ScaledNetwork
     first: Certificate
     paths: Routing
+    elsewhere: bool
 
 
 def certify(program: Program, request: Request) -> Result:
@@ -73,10 +74,12 @@ def _begin(program: Program, request: Request, deadline: float) -> Begun:
     """The network and the start."""
     paths = given(program, request.net, request.start) if request.start else None
     source = Source(program, request.net, *_options(request, paths))
-    scaled = scale(program.network(request.net), source.links, source.modules)
+    scaled = source.scaled()
     with tqdm(desc="paths of a solve", disable=None, leave=False):
         first = paths if isinstance(paths, Certificate) else first_certificate(source, len(scaled.commodities), deadline)
-    return Begun(source, scaled, in_form(scaled, first, program.form), paths or first)
+    if paths is None:
+        return Begun(source, scaled, first, first, False)
+    return Begun(source, scaled, in_form(scaled, first, program.form), paths, True)
 
 
 def _options(request: Request, paths: Routing | None) -> tuple[str, str]:
@@ -97,12 +100,12 @@ def _optimum(begun: Begun, gap: int | None, deadline: float) -> Certificate:
     pairs, arcs = pairs_of(scaled), Arcs(scaled)
     capacities = [cell.capacity for cell in scaled.cells]
     capacity = np.array(capacities, np.float64)
-    pool = pool_of(scaled, pairs, begun.paths)
+    pool = pool_of(scaled, pairs, begun.paths, begun.elsewhere)
     complete(pool, arcs, pairs, 1 / np.maximum(capacity, 0.5))
     left = deadline - time.monotonic()
     optimum = _solved(PathProgram(library, pairs, arcs, capacity, pool), time.monotonic() + left * 0.6)
-    bound = _bound(Bounds(pairs, arcs, capacities), optimum, begun)
     amounts = [int(amount) for amount in pairs.amount]
+    bound = _bound(Bounds(amounts, capacities, over_all_paths(pairs, arcs)), optimum, begun)
     used = len(optimum.flows)
     matrix = pool.cells_by_walks(len(capacities))[:, :used]
     with tqdm(desc="whole numbers", disable=None, leave=False):

@@ -9,7 +9,8 @@ from pathlib import Path as File
 
 import numpy as np
 
-from mcf_texts import (Certificate, Program, Routing, ScaledNetwork, TextError, cells_of_path, load_text, read_any, read_certificate)
+from mcf_texts import (Certificate, Program, Routing, ScaledNetwork, TextError, cells_of_path, load_text, nodes_of_walk, read_any,
+                       read_certificate, scale)
 
 from .path_lp import Pool
 from .problem import Pairs, Walk
@@ -29,6 +30,15 @@ class Source:
     links: str
     modules: str
 
+    def scaled(self) -> ScaledNetwork:
+        """The network in whole units; TextError, with the line of `mcf solve`, where there is none."""
+        network = self.program.network(self.net)
+        try:
+            return scale(network, self.links, self.modules)
+        except TextError:
+            self.solve(1, DEFAULT_STEP, None)
+            raise
+
     def solve(self, phases: int, step: int, seconds: float | None) -> Certificate:
         """A certificate of `mcf solve` with one worker, so that one input gives one text."""
         words = ("--links", self.links, "--modules", self.modules, "--workers", "1", "--gap", "0", "--phases", str(phases),
@@ -38,7 +48,7 @@ class Source:
 
 def start_phases(commodities: int) -> int:
     """How many phases the start has: a few, and more in small networks, where they cost nothing."""
-    return max(12, min(100, 300_000 // commodities))
+    return max(12, min(100, 150_000 // commodities))
 
 
 def step_for(phases: int) -> int:
@@ -89,14 +99,30 @@ def combined(certificates: list[Certificate]) -> Certificate:
                    lower=paths.lower, lower_millionths=paths.lower_millionths, paths=paths.paths)
 
 
-def pool_of(scaled: ScaledNetwork, pairs: Pairs, text: Routing) -> Pool:
-    """The heaviest paths of each pair."""
+def simple(scaled: ScaledNetwork, start: int, cells: list[int]) -> list[int]:
+    """A walk's cells without those of its round trips, so that it meets each node once."""
+    kept: list[int] = []
+    nodes = nodes_of_walk(scaled, start, cells)
+    at = {start: 0}
+    for cell, node in zip(cells, nodes[1:]):
+        kept.append(cell)
+        if node in at:
+            del kept[at[node]:]
+            at = {other: place for other, place in at.items() if place <= len(kept)}
+        at[node] = len(kept)
+    return kept
+
+
+def pool_of(scaled: ScaledNetwork, pairs: Pairs, text: Routing, elsewhere: bool) -> Pool:
+    """The heaviest paths of each pair; those from elsewhere may be walks with round trips, which are left out."""
     weights: list[dict[Walk, int]] = [{} for _ in pairs.amount]
     number_of = scaled.commodity_of
     of_commodity, turned = pairs.of_commodity.tolist(), pairs.turned.tolist()
     for path in text.paths:
         commodity = number_of[path.demand]
         cells = cells_of_path(scaled, text.form, path)
+        if elsewhere:
+            cells = simple(scaled, scaled.commodities[commodity].source, cells)
         walk = tuple(reversed(cells) if turned[commodity] else cells)
         found = weights[of_commodity[commodity]]
         found[walk] = found.get(walk, 0) + path.weight

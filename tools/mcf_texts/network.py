@@ -79,7 +79,7 @@ class Demand:
     @property
     def amount(self) -> Fraction:
         """Routing unit times demand value, in the file's own unit."""
-        return fraction_of(self.unit) * fraction_of(self.value)
+        return fraction_of(self.value) if self.unit == "1" else fraction_of(self.unit) * fraction_of(self.value)
 
 
 @dataclass(frozen=True, slots=True)

@@ -4,6 +4,7 @@ from __future__ import annotations
 
 import re
 from fractions import Fraction
+from functools import lru_cache
 
 from .errors import TextError
 
@@ -14,6 +15,7 @@ _WHOLE = re.compile(r"0|[1-9][0-9]{0,38}")
 _DECIMAL = re.compile(r"(0|[1-9][0-9]{0,38})\.([0-9]{6})")
 
 
+@lru_cache(maxsize=65536)
 def fraction_of(word: str) -> Fraction:
     """The exact value of a number of a network file, as `.5`, `1000.00` or `2e-3`."""
     if not _NUMBER.fullmatch(word):

@@ -1,0 +1,278 @@
+"""Certificates of the linear program: exact on the examples and on odd networks, judged by both checkers, in bounded time."""
+
+from __future__ import annotations
+
+import subprocess
+from fractions import Fraction
+from pathlib import Path
+
+import numpy as np
+import pytest
+
+from certify_lp import clp, run
+from certify_lp.build import gap_of
+from certify_lp.path_lp import PathProgram, Pool, complete
+from certify_lp.prices import Bounds, over_all_paths
+from certify_lp.problem import Arcs, pairs_of
+from certify_lp.rounding import Rounding
+from certify_lp.run import Begun, Request, certify
+from certify_lp.start import simple
+from mcf_texts import (Certificate, Demand, Link, Network, Node, Program, Routing, ScaledNetwork, TextError, load_text,
+                       read_certificate, save_text, scale, write_certificate, write_network)
+from networks import arc_optimum, near, odd_network
+
+SIX = ("abilene", "polska", "nobel-us", "geant", "germany50", "ta2")
+
+
+def asked(net: Path, **options: object) -> Request:
+    """A request with defaults."""
+    given: dict[str, object] = {"links": None, "modules": None, "gap": None, "seconds": 120.0, "start": None}
+    return Request(str(net), **{**given, **options})  # type: ignore[arg-type]
+
+
+def bounds(certificate: Certificate) -> tuple[Fraction, Fraction]:
+    """Lower and upper."""
+    return Fraction(*certificate.lower), Fraction(*certificate.upper)
+
+
+def twice(root: Path, net: Path, text: str, room: Path) -> str:
+    """What the second checker says of a certificate."""
+    save_text(room / "cert", text)
+    done = subprocess.run([str(root / "tools/check_twice"), str(net), str(room / "cert")], capture_output=True, text=True, check=False)
+    return done.stdout.strip()
+
+
+def command(root: Path, program: Program, *words: str) -> subprocess.CompletedProcess[str]:
+    """A run of the tool itself."""
+    done = [str(root / "tools/certify"), "--mcf", program.path, *words]
+    return subprocess.run(done, capture_output=True, text=True, encoding="latin-1", check=False)
+
+
+def line_network(*capacities: str, amount: str = "1") -> Network:
+    """Two nodes, parallel links and one demand."""
+    links = tuple(Link(f"L{i}", "A", "B", capacity) for i, capacity in enumerate(capacities))
+    return Network((Node("A"), Node("B")), links, (Demand("D", "A", "B", "1", amount),))
+
+
+@pytest.mark.parametrize("name", ["triangle", *SIX])
+def test_examples_are_exact(program: Program, root: Path, tmp_path: Path, name: str) -> None:
+    net = root / f"examples/{name}.net"
+    result = certify(program, asked(net))
+    assert result.trouble is None and result.closed
+    certificate = read_certificate(result.text)
+    lower, upper = bounds(certificate)
+    assert lower == upper, "the optimum itself, on both sides"
+    assert certificate.gap == 0 and certificate.form == program.form
+    assert near(upper, arc_optimum(scale(program.network(net)))) if name not in ("germany50", "ta2") else lower > 0
+    assert result.line == twice(root, net, result.text, tmp_path)
+
+
+@pytest.mark.parametrize("seed", range(18))
+def test_odd_networks(program: Program, root: Path, tmp_path: Path, seed: int) -> None:
+    net = tmp_path / "net"
+    network = odd_network(seed)
+    save_text(net, write_network(network))
+    for links, modules in (("undirected", "largest"), ("directed", "none")):
+        result = certify(program, asked(net, links=links, modules=modules))
+        assert result.trouble is None and result.closed
+        assert result.line == twice(root, net, result.text, tmp_path)
+        certificate = read_certificate(result.text)
+        lower, upper = bounds(certificate)
+        assert certificate.gap <= 1
+        if upper:
+            assert near(lower, arc_optimum(scale(network, links, modules)))
+        else:
+            assert certificate.phases == 0
+
+
+def test_same_input_gives_the_same_text(program: Program, root: Path) -> None:
+    first, second = (certify(program, asked(root / "examples/nobel-us.net")).text for _ in range(2))
+    assert first == second
+
+
+def test_rows_stand_in_the_order_of_solve(program: Program, root: Path) -> None:
+    certificate = read_certificate(certify(program, asked(root / "examples/polska.net")).text)
+    scaled = scale(program.network(root / "examples/polska.net"))
+    cell_of = scaled.cell_of(certificate.form)
+    keys = [(scaled.commodity_of[path.demand], [cell_of[word] for word in path.cells]) for path in certificate.paths]
+    assert keys == sorted(keys) and len({str(key) for key in keys}) == len(keys)
+    assert [row.cell for row in certificate.lengths] == list(scaled.words(certificate.form))
+    places = [scaled.node_of[row.node] for row in certificate.potentials]
+    assert places == sorted(places)
+
+
+def test_gap_that_is_asked_for_stands_in_the_text(program: Program, root: Path) -> None:
+    result = certify(program, asked(root / "examples/polska.net", gap=1))
+    assert result.closed and read_certificate(result.text).gap == 1
+    open_one = certify(program, asked(root / "examples/polska.net", gap=0))
+    assert open_one.closed, "the optimum is met exactly"
+
+
+def test_begins_from_a_certificate_and_from_a_routing(program: Program, root: Path, tmp_path: Path) -> None:
+    net = root / "examples/triangle.net"
+    from_cert = certify(program, asked(net, start=str(root / "examples/triangle.cert")))
+    assert bounds(read_certificate(from_cert.text)) == (Fraction(4, 3), Fraction(4, 3))
+    from_routing = certify(program, asked(net, start=str(root / "examples/triangle.routing")))
+    certificate = read_certificate(from_routing.text)
+    assert certificate.modules == "none", "the routing's own"
+    assert bounds(certificate) == (Fraction(4, 3), Fraction(4, 3))
+    with pytest.raises(TextError, match="links undirected and modules none"):
+        certify(program, asked(net, modules="sum", start=str(root / "examples/triangle.routing")))
+    bad = tmp_path / "bad"
+    save_text(bad, load_text(root / "examples/triangle.cert").replace("368", "369"))
+    with pytest.raises(TextError, match="invalid C2"):
+        certify(program, asked(net, start=str(bad)))
+
+
+def test_walks_with_round_trips_are_cut_short() -> None:
+    scaled = scale(Network(tuple(map(Node, "ABC")), (Link("L", "A", "B", "1"), Link("M", "B", "C", "1"), Link("O", "B", "B", "1")),
+                           (Demand("D", "A", "C", "1", "1"),)))
+    assert simple(scaled, 0, [0, 1]) == [0, 1]
+    assert simple(scaled, 0, [0, 0, 0, 1]) == [0, 1]
+    assert simple(scaled, 0, [0, 2, 2, 1, 1, 1]) == [0, 1]
+    assert simple(scaled, 1, [0, 0, 1]) == [1]
+
+
+def test_a_demand_without_a_way_gives_the_cut(program: Program, root: Path) -> None:
+    result = certify(program, asked(root / "examples/polska.net", links="directed"))
+    assert result.closed and bounds(read_certificate(result.text)) == (0, 0)
+
+
+def test_without_clp_the_certificate_is_that_of_solve(program: Program, root: Path, monkeypatch: pytest.MonkeyPatch) -> None:
+    monkeypatch.setattr(clp, "LIBRARIES", ("libNoSuchClp.so.1",))
+    result = certify(program, asked(root / "examples/polska.net"))
+    assert result.trouble is not None and "CLP is missing" in result.trouble
+    assert result.line.startswith("valid closed")
+    lower, upper = bounds(read_certificate(result.text))
+    assert Fraction(0) < upper / lower - 1 < Fraction(1, 20)
+
+
+def test_an_answer_that_check_refuses_is_not_handed_out(program: Program, root: Path, monkeypatch: pytest.MonkeyPatch) -> None:
+    make = run.certificate_of
+
+    def wrong(*words: object) -> Certificate:
+        certificate = make(*words)  # type: ignore[arg-type]
+        certificate.paths[0] = certificate.paths[1]
+        return certificate
+
+    monkeypatch.setattr(run, "certificate_of", wrong)
+    result = certify(program, asked(root / "examples/nobel-us.net"))
+    assert result.trouble is not None and "invalid C2" in result.trouble
+    assert result.line.startswith("valid closed")
+
+
+@pytest.mark.parametrize("seconds", [0.001, 0.3])
+def test_too_little_time_still_gives_a_valid_certificate(program: Program, root: Path, tmp_path: Path, seconds: float) -> None:
+    net = tmp_path / "net"
+    save_text(net, program.ask("gen", "5", "60", "150", "900"))
+    result = certify(program, asked(net, seconds=seconds))
+    assert result.line.startswith("valid ")
+    assert result.line == twice(root, net, result.text, tmp_path)
+
+
+def test_drawn_network_of_middle_size(program: Program, root: Path, tmp_path: Path) -> None:
+    net = tmp_path / "net"
+    save_text(net, program.ask("gen", "7", "50", "200", "2000"))
+    for links in ("undirected", "directed"):
+        result = certify(program, asked(net, links=links))
+        assert result.closed and read_certificate(result.text).gap <= 1
+        assert result.line == twice(root, net, result.text, tmp_path)
+
+
+def unlimited(scaled: ScaledNetwork, form: int) -> Begun:
+    """A start without any paths."""
+    routing = Routing(form, scaled.links, scaled.modules, 0, 0, 1)
+    return Begun(None, scaled, Certificate(form, scaled.links, scaled.modules, 0, 0, 1, counts=scaled.counts(0)), routing, True)  # type: ignore[arg-type]
+
+
+@pytest.mark.parametrize("seed", range(12))
+def test_bidirected_links_in_form_2(root: Path, tmp_path: Path, seed: int) -> None:
+    network = odd_network(100 + seed)
+    scaled = scale(network, "bidirected", "sum")
+    net = tmp_path / "net"
+    save_text(net, write_network(network))
+    try:
+        certificate = run._optimum(unlimited(scaled, 2), None, np.inf)
+    except TextError as error:
+        assert "no way" in str(error)
+        return
+    text = write_certificate(certificate)
+    assert twice(root, net, text, tmp_path).startswith("valid closed bidirected sum")
+    assert certificate.gap <= 1 and near(Fraction(*certificate.lower), arc_optimum(scaled))
+
+
+def test_capacity_of_two_to_the_44_beside_one() -> None:
+    network = line_network("17592186044416", "1", amount="3")
+    certificate = run._optimum(unlimited(scale(network), 1), None, np.inf)
+    lower, upper = bounds(certificate)
+    assert upper == Fraction(17592186044417, 3) and upper / lower - 1 < Fraction(1, 10**13), "no phases split off a part in 2^44"
+
+
+def test_an_optimum_that_no_number_of_phases_meets() -> None:
+    network = line_network("65547", amount="1")
+    certificate = run._optimum(unlimited(scale(network), 1), None, np.inf)
+    assert Fraction(*certificate.lower) == Fraction(*certificate.upper) == 65547
+    split = Network((Node("A"), Node("B"), Node("C")), (Link("L0", "A", "B", "65546"), Link("L1", "A", "C", "1"), Link("L2", "C", "B", "1")),
+                    (Demand("D", "A", "B", "1", "1"),))
+    certificate = run._optimum(unlimited(scale(split), 1), None, np.inf)
+    assert bounds(certificate) == (65546, 65547), "one unit of at most 65,536 is too much for the small link, and none is what is left"
+    assert gap_of(certificate) == 16
+
+
+def test_bound_is_exact_for_prices_with_noise() -> None:
+    scaled = scale(line_network("3", "5", "11"))
+    pairs, arcs = pairs_of(scaled), Arcs(scaled)
+    found = Bounds([1], [3, 5, 11], over_all_paths(pairs, arcs)).offer(np.array([0.2500000001, 0.25, 0.2499999999]))
+    assert found is not None and found.value == 19
+
+
+def test_opposite_demands_share_a_pair_where_links_are_undirected() -> None:
+    network = Network((Node("A"), Node("B")), (Link("L", "A", "B", "9"),),
+                      (Demand("D", "A", "B", "1", "2"), Demand("E", "B", "A", "1", "3"), Demand("F", "A", "B", "1", "4")))
+    both, one = pairs_of(scale(network)), pairs_of(scale(network, "bidirected"))
+    assert both.amount.tolist() == [9] and both.turned.tolist() == [False, True, False]
+    assert one.amount.tolist() == [6, 3] and one.of_commodity.tolist() == [0, 1, 0]
+
+
+def test_rounding_keeps_sums_and_repairs() -> None:
+    scaled = scale(Network(tuple(map(Node, "ABC")), (Link("AB", "A", "B", "7"), Link("AC", "A", "C", "3"), Link("CB", "C", "B", "2")),
+                           (Demand("D", "A", "B", "1", "5"), Demand("E", "A", "C", "1", "1"))))
+    pairs, arcs = pairs_of(scaled), Arcs(scaled)
+    capacities = [7, 3, 2]
+    pool = Pool(2)
+    complete(pool, arcs, pairs, np.array([1.0, 9.0, 9.0]))
+    library = clp.load_clp()
+    optimum = PathProgram(library, pairs, arcs, np.array(capacities, float), pool).optimise(np.inf, lambda found: None)
+    bound = Bounds([5, 1], capacities, over_all_paths(pairs, arcs)).offer(optimum.prices)
+    assert bound is not None and optimum.proved and near(bound.value, 1 / optimum.congestion)
+    matrix = pool.cells_by_walks(3)
+    whole = Rounding(matrix, np.array(pool.pair), [5, 1], capacities, optimum.flows).best(bound.value, bound.value, np.inf)
+    sums = np.bincount(pool.pair, whole.weights)
+    assert sums.tolist() == [5 * whole.phases, whole.phases]
+    assert bound.value * Fraction(999_999, 1_000_000) <= whole.lower <= bound.value
+
+
+def test_command_writes_the_file_and_says_the_line(program: Program, root: Path, tmp_path: Path) -> None:
+    out = tmp_path / "out"
+    done = command(root, program, str(root / "examples/triangle.net"), "--gap", "0.000001", "--output", str(out))
+    assert (done.returncode, done.stdout) == (0, "")
+    assert done.stderr.count("\n") == 1 and "valid closed undirected largest lower" in done.stderr
+    assert program.check(root / "examples/triangle.net", out).line in done.stderr
+    plain = command(root, program, str(root / "examples/triangle.net"))
+    assert plain.returncode == 0 and plain.stdout.startswith("mcf-certificate ") and plain.stderr == ""
+
+
+@pytest.mark.parametrize("words,said", [
+    (("/nonexistent/net",), "read fault"), (("examples/triangle.cert",), "refused net N1 line 1"),
+    (("examples/triangle.net", "--from", "/nonexistent/cert"), "read fault"),
+    (("examples/triangle.net", "--output", "/nonexistent/folder/file"), "No such file"),
+])
+def test_trouble_is_one_line(program: Program, root: Path, words: tuple[str, ...], said: str) -> None:
+    done = command(root, program, *(str(root / word) if word.startswith("examples") else word for word in words))
+    assert done.returncode == 2 and done.stdout == ""
+    assert done.stderr.count("\n") == 1 and said in done.stderr
+
+
+def test_wrong_words_are_usage(program: Program, root: Path) -> None:
+    for words in (("x", "--gap", "-1"), ("x", "--gap", "0.0000001"), ("x", "--links", "both"), ("x", "--seconds", "soon"), ()):
+        assert command(root, program, *words).returncode == 2
