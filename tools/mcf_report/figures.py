@@ -3,7 +3,7 @@
 from __future__ import annotations
 
 from collections import deque
-from dataclasses import dataclass
+from dataclasses import dataclass, replace
 from fractions import Fraction
 from functools import cached_property
 
@@ -76,6 +76,13 @@ class Figures:
 
     scaled: ScaledNetwork
     text: Routing
+    known: Fraction | None = None
+
+    def beside(self, other: Figures) -> Figures:
+        """The same, where a routing takes over the bound of a certificate of the same network."""
+        mine, its = self.scaled, other.scaled
+        same = (mine.cells, mine.commodities, mine.decimals) == (its.cells, its.commodities, its.decimals)
+        return replace(self, known=other.upper) if same and not self.is_certificate else self
 
     @property
     def is_certificate(self) -> bool:
@@ -90,7 +97,7 @@ class Figures:
     @cached_property
     def upper(self) -> Fraction | None:
         """What no routing exceeds, where it is known."""
-        return upper(self.scaled, self.text) if isinstance(self.text, Certificate) else None
+        return upper(self.scaled, self.text) if isinstance(self.text, Certificate) else self.known
 
     @cached_property
     def links(self) -> tuple[LinkFigures, ...]:

@@ -13,8 +13,8 @@ def verdict(figures: Figures) -> str:
     low, high = figures.lower, figures.upper
     if low == 0:
         return _nothing(figures)
-    if high is None:
-        return _routing(low)
+    if high is None or not figures.is_certificate:
+        return _routing(low, high)
     if low == high:
         return _exact(low)
     if low >= 1:
@@ -40,12 +40,15 @@ def _exact(low: Fraction) -> str:
     return f"Not every demand fits: {_carried(low, 'each')}, and no routing carries more: this is the exact optimum."
 
 
-def _routing(low: Fraction) -> str:
-    """Where there are paths alone."""
+def _routing(low: Fraction, high: Fraction | None) -> str:
+    """Where there are paths alone, and perhaps a bound from elsewhere."""
     front = (
         f"Every demand fits{_spare(low)} on these paths" if low >= 1 else f"These paths carry {percent_down(low)} of every demand"
     )
-    return f"{front}; whether other paths carry more is not known, since a routing has no bound."
+    if high is None:
+        return f"{front}; whether other paths carry more is not known, since a routing has no bound."
+    most = f"gives more than {percent_up(high - 1)} to spare" if low >= 1 else f"carries more than {percent_up(high)}"
+    return f"{front}; no routing {most}."
 
 
 def _nothing(figures: Figures) -> str:

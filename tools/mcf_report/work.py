@@ -42,7 +42,7 @@ def write_report(program: Program, files: Files, title: str, words: argparse.Nam
     """Writes the page and the tables that are asked for."""
     first = judged(program, files.net, files.certificate)
     second = judged(program, files.net2 or files.net, files.second) if files.second else None
-    both = [first, second] if second else [first]
+    both = _beside(first, second) if second else [first]
     if words.html:
         units = [unit_of_file(files.net), unit_of_file(files.net2 or files.net)]
         sides = sides_of([(figures, f"mcf check: {said}", unit) for (figures, said), unit in zip(both, units)], words.rows)
@@ -54,6 +54,11 @@ def write_report(program: Program, files: Files, title: str, words: argparse.Nam
     if "-" not in (words.html, words.csv, words.paths):
         for front, (figures, _) in zip(("Before: ", "After: ") if second else ("",), both):
             print(front + verdict(figures))
+
+
+def _beside(first: tuple[Figures, str], second: tuple[Figures, str]) -> list[tuple[Figures, str]]:
+    """Both, where a routing takes over the bound of the other one if that is a certificate of the same network."""
+    return [(first[0].beside(second[0]), first[1]), (second[0].beside(first[0]), second[1])]
 
 
 def unit_of_file(net: str) -> str:

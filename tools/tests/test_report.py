@@ -133,6 +133,17 @@ def test_a_routing_has_no_bound(by_hand: Figures):
     assert "Share of the bound</th>" not in page_of(by_hand)
 
 
+def test_a_routing_takes_over_the_bound_beside_it(triangle: Figures, by_hand: Figures):
+    found = by_hand.beside(triangle)
+    assert found.upper == triangle.upper and triangle.beside(by_hand) is triangle
+    assert (
+        sentences.verdict(found)
+        == "Every demand fits with 33.3 % to spare on these paths; no routing gives more than 35.2 % to spare."
+    )
+    other = figures(TRIANGLE.replace("BC ( B C ) 6", "BC ( B C ) 7"), load_text(EXAMPLES / "triangle.routing"))
+    assert other.beside(triangle).upper is None
+
+
 @pytest.mark.parametrize(
     ("low", "high", "sentence"),
     [
