@@ -2,7 +2,9 @@
 
 from __future__ import annotations
 
+from collections import Counter
 from dataclasses import replace
+from fractions import Fraction
 
 from .files import stem
 from .model import Demand, Link, Matrix, Network, Node, Notes, Refused, Source
@@ -53,9 +55,7 @@ def _structure(sources: list[Source]) -> Source:
     linked = [source for source in sources if source.links]
     first = linked[0] if linked else next((source for source in sources if source.nodes), Source("", "none"))
     for other in linked[1:]:
-        if [(a.name, a.source, a.target, a.capacity) for a in other.links] != [
-            (a.name, a.source, a.target, a.capacity) for a in first.links
-        ]:
+        if _ends_and_sizes(other) != _ends_and_sizes(first):
             raise Refused(f"{first.path} and {other.path} have different links: one network is due")
     places = {n.name: n.place for source in sources if source is not first for n in source.nodes if n.place}
     nodes = [replace(n, place=places.get(n.name)) if n.place is None else n for n in first.nodes]
@@ -65,12 +65,16 @@ def _structure(sources: list[Source]) -> Source:
     return replace(first, nodes=nodes)
 
 
+def _ends_and_sizes(source: Source) -> list[tuple[str, str, str, Fraction | None]]:
+    """What makes the links of two files the same."""
+    return [(link.name, link.source, link.target, link.capacity) for link in source.links]
+
+
 def _named(source: Source, notes: Notes) -> tuple[list[Node], list[Link], dict[str, str]]:
     """Nodes and links under their words, and the word of each key."""
-    for what, keys in (("node", [n.key for n in source.nodes]),):
-        double = next((k for k in keys if keys.count(k) > 1), None) if len(set(keys)) < len(keys) else None
-        if double is not None:
-            raise Refused(f"{source.path}: {what} {double!r} stands twice")
+    double, times = Counter(node.key for node in source.nodes).most_common(1)[0] if source.nodes else ("", 0)
+    if times > 1:
+        raise Refused(f"{source.path}: node {double!r} stands twice")
     node_words, link_words = Words("node", notes, source.native), Words("link", notes, source.native)
     words = {node.key: node_words.word(node.name, node.key) for node in source.nodes}
     nodes = [replace(n, name=words[n.key], key=words[n.key], place=_place(n.place)) for n in source.nodes]

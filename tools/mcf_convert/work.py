@@ -60,7 +60,7 @@ def target_of(path: str) -> str:
 def convert(task: Task, notes: Notes) -> None:
     """Reads the files, and writes the one."""
     kind = task.written or target_of(task.target)
-    sources = _in_one_unit([read(path, task, notes) for path in [*task.base, *task.sources]], task)
+    sources = _in_one_unit([read(path, task, notes) for path in [*task.base, *task.sources]], task, notes)
     base, sources = sources[: len(task.base)], sources[len(task.base) :]
     many = kind == "list" or (kind == "demands" and all(not s.links for s in sources))
     network = assemble.together(sources, base, notes, many)
@@ -75,15 +75,24 @@ def convert(task: Task, notes: Notes) -> None:
     _tell_meta(sources, kind, notes)
 
 
-def _in_one_unit(sources: list[Source], task: Task) -> list[Source]:
-    """All numbers in the unit that is asked for, or else in that of the links where all files say theirs."""
+def _in_one_unit(sources: list[Source], task: Task, notes: Notes) -> list[Source]:
+    """All numbers in the unit that is asked for, or else in that of the links, where their file says it."""
     given = Fraction(1000) ** UNITS[task.from_unit] if task.from_unit else None
     sources = [replace(s, bits=given) if s.bits is None and given else s for s in sources]
     if task.unit:
         asked = Fraction(1000) ** UNITS[task.unit]
         return [in_unit(s, asked) if s.links or s.matrices else s for s in sources]
     wanted = next((s.bits for s in sources if s.links), None)
-    return [in_unit(s, wanted) if wanted and s.bits else s for s in sources]
+    return [_as_links_are(s, wanted, notes) if wanted else s for s in sources]
+
+
+def _as_links_are(source: Source, wanted: Fraction, notes: Notes) -> Source:
+    """What a file has in the unit of the links; a list of matrices is made for a network, and is in its unit."""
+    if source.kind == "list" or not (source.links or source.matrices):
+        return source
+    if source.bits not in (None, wanted):
+        notes.say("note", f"{source.path}: its numbers are written in the unit of the links")
+    return in_unit(source, wanted)
 
 
 def _tell(network: Network, kind: str, notes: Notes) -> None:

@@ -193,6 +193,14 @@ def test_merge_both_adds_the_two_directions():
     ]
 
 
+def test_demands_are_written_in_the_unit_of_the_links(tmp_path: Path):
+    (tmp_path / "d.csv").write_text("from,to,traffic\nGdansk,Krakow,7\n")
+    assert "d.csv does not say its unit: --from-unit" in refusal(EXAMPLES / "polska.net", tmp_path / "d.csv", "-", "--to", "net")
+    text, said = convert(EXAMPLES / "polska.net", tmp_path / "d.csv", "-", "--to", "net", "--from-unit", "Gbit")
+    assert rows(text, "DEMANDS") == ["Gdansk-Krakow ( Gdansk Krakow ) 1 7000 UNLIMITED"]
+    assert f"note: {tmp_path / 'd.csv'}: its numbers are written in the unit of the links" in said
+
+
 def test_units_are_never_guessed():
     assert "10G has a unit: --unit says in which all are written" in refusal("links.csv", "-", "--to", "net")
     assert "line 3: capacity: 500 has no unit: --from-unit" in refusal("mixed.csv", "-", "--to", "net", "--unit", "Mbit")
