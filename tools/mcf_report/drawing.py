@@ -85,7 +85,7 @@ def drawn(figures: Figures, places: Layout, line: Callable[[LinkFigures, str], L
 
 
 def _bends(figures: Figures) -> list[float]:
-    """How far each line bends to its right: lines between the same nodes lie side by side, those of one way right of the others."""
+    """How far each line bends to its right: those between the same nodes lie side by side, each way right of the other."""
     cells = figures.scaled.cells
     groups: dict[tuple[int, int], list[int]] = defaultdict(list)
     for number, cell in enumerate(cells):

@@ -56,8 +56,8 @@ def _nothing(figures: Figures) -> str:
     lost = figures.without_way
     if not lost:
         return "These paths carry nothing of some demand."
-    some = counted(len(lost), "demand has", "demands have")
-    return f"{some} no way over links with capacity, the greatest of them {name(lost[0].demand)}: no part of every demand can be carried."
+    some, greatest = counted(len(lost), "demand has", "demands have"), name(lost[0].demand)
+    return f"{some} no way over links with capacity, the greatest of them {greatest}: no part of every demand can be carried."
 
 
 def growth(figures: Figures) -> str:
