@@ -1,0 +1,1 @@
+"""Networks and demands from files of other formats, and into them."""

@@ -1,0 +1,32 @@
+"""Made-up demands for networks that come without any: those of the gravity model."""
+
+from __future__ import annotations
+
+from dataclasses import replace
+from fractions import Fraction
+from itertools import combinations, permutations
+
+from .model import MAX_DECIMALS, MAX_DEMANDS, Demand, Matrix, Network, Notes, Refused
+from .numbers import plain, rounded
+
+
+def with_gravity(network: Network, total: Fraction, notes: Notes) -> Network:
+    """The network with demands between all nodes, in proportion to the capacities at both ends, and of that total.
+
+    Where links are one way each two nodes have a demand in each way, else one for both. Amounts are rounded to millionths.
+    """
+    if any(matrix.demands for matrix in network.matrices):
+        raise Refused("--gravity makes demands up where no file has any, and some file has")
+    weights = {node.name: Fraction(0) for node in network.nodes}
+    for link in network.links:
+        size = (link.capacity or Fraction(0)) + max((size for size, _ in link.modules), default=Fraction(0))
+        for end in {link.source, link.target}:
+            weights[end] += size
+    ends = [name for name, weight in weights.items() if weight]
+    pairs = list(permutations(ends, 2) if network.one_way else combinations(ends, 2))
+    if len(pairs) > MAX_DEMANDS:
+        raise Refused(f"--gravity makes {len(pairs)} demands between {len(ends)} nodes: at most {MAX_DEMANDS} are taken")
+    whole = sum((weights[a] * weights[b] for a, b in pairs), Fraction(0))
+    demands = [Demand(f"{a}-{b}", a, b, rounded(total * weights[a] * weights[b] / whole, MAX_DECIMALS)) for a, b in pairs]
+    notes.say("made up", f"{len(demands)} demands of {plain(total)} in all, by capacities at both ends")
+    return replace(network, matrices=[Matrix("gravity", demands)])

@@ -1,0 +1,63 @@
+"""REPETITA's graphs and demands: https://github.com/svissicchio/Repetita has the format."""
+
+from __future__ import annotations
+
+from fractions import Fraction
+
+from .files import stem
+from .model import Demand, Link, Matrix, Node, Notes, Refused, Source
+from .numbers import number
+
+KBIT = Fraction(1000)
+
+
+def numbered(text: str) -> list[tuple[int, str]]:
+    """The lines that are not blank, with their numbers."""
+    return [(at, line) for at, line in enumerate(text.splitlines(), 1) if line.strip()]
+
+
+def rows_of(path: str, lines: list[tuple[int, str]], title: str, width: int) -> tuple[list[list[str]], list[tuple[int, str]]]:
+    """The rows of the section at the front, as many as its title says, behind a line of column names; and the rest."""
+    head = lines[0][1].split() if lines else []
+    if len(head) != 2 or head[0] != title or not head[1].isdecimal():
+        raise Refused(f"{path} line {lines[0][0] if lines else 1}: {title} and a number are due")
+    count = int(head[1])
+    rows = [(at, line.split()) for at, line in lines[2 : 2 + count]]
+    wrong = next((at for at, row in rows if len(row) != width), None)
+    if wrong is not None or len(rows) < count:
+        raise Refused(f"{path} line {wrong or lines[-1][0]}: {title} has rows of {width} words, {count} of them")
+    return [row for _, row in rows], lines[2 + count :]
+
+
+def read_graph(path: str, text: str, notes: Notes) -> Source:
+    """Nodes and edges, each edge one way; the weight becomes the routing cost."""
+    nodes, rest = rows_of(path, numbered(text), "NODES", 3)
+    edges, more = rows_of(path, rest, "EDGES", 6)
+    for at, line in more:
+        notes.say("dropped", f"{path} line {at}: {line.strip()}")
+    source = Source(path, "graph", bits=KBIT, one_way=True)
+    source.nodes = [Node(str(at), row[0], (row[1], row[2])) for at, row in enumerate(nodes)]
+    for row in edges:
+        ends = _end(path, row[1], len(nodes)), _end(path, row[2], len(nodes))
+        source.links.append(Link(row[0], *ends, number(row[4], f"{path}: bw of edge {row[0]!r}"), ("0", row[3], "0")))
+    delays = sum(1 for row in edges if row[5] not in ("0", "0.0"))
+    if delays:
+        notes.say("dropped", f"{path}: delay of {delays} edges")
+    return source
+
+
+def read_demands(path: str, text: str, notes: Notes) -> Source:
+    """Demands between nodes that are given by their numbers in a graph."""
+    rows, more = rows_of(path, numbered(text), "DEMANDS", 4)
+    for at, line in more:
+        notes.say("dropped", f"{path} line {at}: {line.strip()}")
+    demands = [Demand(row[0], row[1], row[2], number(row[3], f"{path}: bw of demand {row[0]!r}")) for row in rows]
+    name = stem(path)
+    return Source(path, "demands", matrices=[Matrix(name, demands)], bits=KBIT, by_number=True)
+
+
+def _end(path: str, word: str, nodes: int) -> str:
+    """The number of a node as its key."""
+    if not word.isdecimal() or int(word) >= nodes:
+        raise Refused(f"{path}: {word!r} is no number of a node, of which there are {nodes}")
+    return str(int(word))

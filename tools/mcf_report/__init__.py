@@ -1,0 +1,1 @@
+"""What certificates and routings say, for people: figures, pictures, pages and tables."""

@@ -1,0 +1,84 @@
+"""The verdict in sentences for people."""
+
+from __future__ import annotations
+
+from fractions import Fraction
+
+from .figures import Figures
+from .shown import counted, name, percent, percent_down, percent_up
+
+
+def verdict(figures: Figures) -> str:
+    """What holds, in a sentence: lower fractions are rounded down, upper ones up."""
+    low, high = figures.lower, figures.upper
+    if low == 0:
+        return _nothing(figures)
+    if high is None or not figures.is_certificate:
+        return _routing(low, high)
+    if low == high:
+        return _exact(low)
+    if low >= 1:
+        return f"Every demand fits{_spare(low)}; no routing gives more than {percent_up(high - 1)} to spare."
+    if high < 1:
+        return f"Not every demand fits: {_carried(low, 'each')}, and no routing carries more than {percent_up(high)}."
+    closer = "A smaller gap or more phases bring both closer."
+    return f"Not decided: {_carried(low)}, and no routing carries more than {percent_up(high)}. {closer}"
+
+
+def _carried(low: Fraction, what: str = "every demand") -> str:
+    return f"these paths carry {percent_down(low)} of {what}"
+
+
+def _spare(low: Fraction) -> str:
+    return " with nothing to spare" if low == 1 else f" with {percent_down(low - 1)} to spare"
+
+
+def _exact(low: Fraction) -> str:
+    """Where both fractions are the same."""
+    if low >= 1:
+        return f"Every demand fits{_spare(low)}, and no routing gives more: this is the exact optimum."
+    return f"Not every demand fits: {_carried(low, 'each')}, and no routing carries more: this is the exact optimum."
+
+
+def _routing(low: Fraction, high: Fraction | None) -> str:
+    """Where there are paths alone, and perhaps a bound from elsewhere."""
+    front = (
+        f"Every demand fits{_spare(low)} on these paths" if low >= 1 else f"These paths carry {percent_down(low)} of every demand"
+    )
+    if high is None:
+        return f"{front}; whether other paths carry more is not known, since a routing has no bound."
+    most = f"gives more than {percent_up(high - 1)} to spare" if low >= 1 else f"carries more than {percent_up(high)}"
+    return f"{front}; no routing {most}."
+
+
+def _nothing(figures: Figures) -> str:
+    """Where the fraction is 0."""
+    lost = figures.without_way
+    if not lost:
+        return "These paths carry nothing of some demand."
+    some, greatest = counted(len(lost), "demand has", "demands have"), name(lost[0].demand)
+    return f"{some} no way over links with capacity, the greatest of them {greatest}: no part of every demand can be carried."
+
+
+def growth(figures: Figures) -> str:
+    """What the bottleneck says: which links make up the bound, and how far doubling the first of them can lift it."""
+    shares: dict[str, Fraction] = {}
+    for row in figures.bottleneck:
+        shares[row.link] = shares.get(row.link, Fraction(0)) + (row.share or 0)
+    if not shares or figures.upper is None:
+        return ""
+    ordered = sorted(shares.items(), key=lambda pair: -pair[1])
+    count, together = 0, Fraction(0)
+    while together < Fraction(9, 10):
+        together += ordered[count][1]
+        count += 1
+    first, share = ordered[0]
+    weight = f"{counted(count, 'link makes', 'links make')} up {percent(together)} of the bound"
+    most = percent_up(figures.upper * (1 + share))
+    return f"{weight}. With twice the capacity on {name(first)} alone, no routing would carry more than {most} of every demand."
+
+
+def peak(figures: Figures) -> str:
+    """The maximum link utilisation, where all demands are carried."""
+    row = figures.most_utilised
+    return percent(row.utilisation or Fraction(0)) if row else "0.0 %"
