@@ -148,17 +148,17 @@ check_of alone files again solve check text first before after second answer s r
 -- ---- both
 
 pub checks : Alone → (files again : Holding) (solve check : Request) (text : List ℕ) (first second : Ended) (before after : SinkView)
-    → IsSolvedRun files solve text first → IsCheckedRun files again solve check text before after second → ChecksAs first before after second
+    → IsSolvedRun files solve text first → IsCheckedRun files again solve check text before after second → ChecksAs files solve first before after second
 checks alone files again solve check text first second before after solved run = by (solved_by files solve text first solved) run.runs.1 run.runs.2
   where
     answer : Answer
     answer = run.runs.0
 
-    said : (s : IsSolve files solve text first) → IsGiven before after second answer → Memories answer ⊎ (answer ≡ judged_answer (valid_of s.net s.solved.proof)) → ChecksAs first before after second
-    said s given (inl memory) = record { net = s.net; solved = s.solved; found = s.found; told = inr (subst (λ (a : Answer). IsGiven before after second a) memory given) }
-    said s given (inr valid) = record { net = s.net; solved = s.solved; found = s.found; told = inl (subst (λ (a : Answer). IsGiven before after second a) valid given) }
+    said : (s : IsSolve files solve text first) → IsGiven before after second answer → Memories answer ⊎ (answer ≡ judged_answer (valid_of s.net s.solved.proof)) → ChecksAs files solve first before after second
+    said s given (inl memory) = record { rows = s.rows; net_file = s.net_file; net = s.net; solved = s.solved; done = s.done; found = s.found; told = inr (subst (λ (a : Answer). IsGiven before after second a) memory given) }
+    said s given (inr valid) = record { rows = s.rows; net_file = s.net_file; net = s.net; solved = s.solved; done = s.done; found = s.found; told = inl (subst (λ (a : Answer). IsGiven before after second a) valid given) }
 
-    by : IsSolve files solve text first → IsAnswer run.words run.old run.new answer → Writes before after second answer → ChecksAs first before after second
+    by : IsSolve files solve text first → IsAnswer run.words run.old run.new answer → Writes before after second answer → ChecksAs files solve first before after second
     by s from (inr cut) = absurd (run.calm.output cut.rose)
     by s (inl (memory, same)) (inl given) = said s given (inl memory)
     by s (inr of) (inl given) =

@@ -33,7 +33,7 @@ use Rattle.run_laws.specs.Started.{Starts, StartsItsFiles, files_of, files_in}
 -- so many of the files were started, and no fault was counted unless the answer says so
 record Went (files : List (List ℕ)) (old new : ShelfView) (answer : Answer) : Type 0 where
   pub starts : Starts files old new
-  pub calm : (4 ≤ answer.status) ⊎ (new.faults ≡ old.faults)
+  pub calm : (answer.status ≡ 4) ⊎ (new.faults ≡ old.faults)
 
 -- nothing more was started
 stays : (files : List (List ℕ)) (old new : ShelfView) (answer : Answer) → new ≡ old → Went files old new answer
@@ -59,16 +59,13 @@ goes_on name files old new answer went = record {
   calm = went.calm;
 }
 
-status_is : (answer other : Answer) → answer ≡ other → 4 ≤ other.status → 4 ≤ answer.status
-status_is answer other e low = subst (λ (a : Answer). 4 ≤ a.status) (sym e) low
-
 file_went : (limit : ℕ) (paper : Paper) (name : List ℕ) (files : List (List ℕ)) (OfText : List ℕ → ShelfView → ShelfView → Answer → Type 0) (old new : ShelfView) (answer : Answer)
     → ((text : List ℕ) → OfText text (with_file old name) new answer → Went files (with_file old name) new answer) → OfFile limit paper name OfText old new answer → Went (name ∷ files) old new answer
 file_went limit paper name files OfText old new answer f (inl (inl (memory, inl same))) = stays (name ∷ files) old new answer same
 file_went limit paper name files OfText old new answer f (inl (inl (memory, inr same))) = goes_on name files old new answer (stays files (with_file old name) new answer same)
 file_went limit paper name files OfText old new answer f (inl (inr (inl (fault, failed)))) = record {
   starts = record { holds = failed.holds; later = failed.later; count = 1; names = failed.names };
-  calm = inl (status_is answer (answer_of outcomes.ReadFault) fault (omega arith));
+  calm = inl (ap (λ (a : Answer). a.status) fault);
 }
 file_went limit paper name files OfText old new answer f (inl (inr (inr (refused, longer, same)))) = goes_on name files old new answer (stays files (with_file old name) new answer same)
 file_went limit paper name files OfText old new answer f (inr (text, is, of)) = goes_on name files old new answer (f text of)
@@ -118,12 +115,12 @@ request_went (Some request) old new answer of = command_went request.command req
 pub started : (words : List (List ℕ)) (old new : ShelfView) (before after : SinkView) (ended : Ended) → RunEnds words old new before after ended → StartsItsFiles words old new before after ended
 started words old new before after ended (answer, is, writes) = by (or_went (files_in (request_of words)) (OfRequest (request_of words)) old new answer (λ of. request_went (request_of words) old new answer of) is) writes
   where
-    kept : ended.status ≡ answer.status → (4 ≤ answer.status) ⊎ (new.faults ≡ old.faults) → (4 ≤ ended.status) ⊎ (new.faults ≡ old.faults)
-    kept e (inl high) = inl (omega arith)
-    kept e (inr same) = inr same
+    kept : ended.status ≡ answer.status → (answer.status ≡ 4) ⊎ (new.faults ≡ old.faults) → (ended.status ≡ 4) ⊎ ((ended.status ≡ 5) ⊎ (new.faults ≡ old.faults))
+    kept e (inl four) = inl (e ∙ four)
+    kept e (inr same) = inr (inr same)
 
     by : Went (files_in (request_of words)) old new answer → Writes before after ended answer → StartsItsFiles words old new before after ended
     by went (inl given) = record { starts = went.starts; shelf = kept (ap (λ (x : Ended). x.status) given.ends) went.calm; output = inr given.faults }
     by went (inr cut) =
         let five : ended.status ≡ 5 = ap (λ (x : Ended). x.status) cut.ends in
-        record { starts = went.starts; shelf = inl (omega arith); output = inl (omega arith) }
+        record { starts = went.starts; shelf = inr (inl five); output = inl five }

@@ -30,8 +30,8 @@ pub record Starts (files : List (List ℕ)) (old new : ShelfView) : Type 0 where
   pub count : ℕ
   pub names : new.names ≡ old.names ++ take count files
 
--- The run started files of its words alone. Unless it ended with 4, 5 or 6, neither shelf nor output has counted a fault.
+-- The run started files of its words alone. Unless it ended with 4 or 5, the shelf has counted no fault, and unless with 5, the output none.
 pub record StartsItsFiles (words : List (List ℕ)) (old new : ShelfView) (before after : SinkView) (ended : Ended) : Type 0 where
   pub starts : Starts (files_in (request_of words)) old new
-  pub shelf : (4 ≤ ended.status) ⊎ (new.faults ≡ old.faults)
-  pub output : (4 ≤ ended.status) ⊎ (after.faults ≡ before.faults)
+  pub shelf : (ended.status ≡ 4) ⊎ ((ended.status ≡ 5) ⊎ (new.faults ≡ old.faults))
+  pub output : (ended.status ≡ 5) ⊎ (after.faults ≡ before.faults)

@@ -17,8 +17,8 @@ pub fn only_accepted_runs_are()
     ensures { OnlyAcceptedRunsAre }
 {}
 
-/// A run starts the files of its words alone, in their order, each at most once; and where it ends with a status below 4,
-/// nothing has failed on the way.
+/// A run starts the files of its words alone, in their order, each at most once. Unless it ends with 4 or 5, no file has failed
+/// on the way, and unless with 5, the output has not.
 pub fn runs_start_their_files()
     ensures { RunsStartTheirFiles }
 {}
