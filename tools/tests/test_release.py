@@ -61,7 +61,8 @@ def test_version_stands_in_one_file(root: Path) -> None:
     version = version_of(root)
     files = files_of(root, STANDS_IN)
     assert files["docs/mcf.1"][1].decode().startswith(f'.TH MCF 1 "2026" "mcf {version}" "User commands"\n')
-    listed = [name for name, (_, data) in files.items() if version.encode() in data and not name.startswith("examples/")]
+    word = re.compile(rb"(?<![\w.])" + re.escape(version.encode()) + rb"(?![\w.])")
+    listed = [name for name, (_, data) in files.items() if word.search(data) and not name.startswith("examples/")]
     assert sorted(listed) == ["VERSION", "docs/mcf.1"]
     assert version not in (root / "README.md").read_text() + (root / "docs/mcf.1").read_text()
 
