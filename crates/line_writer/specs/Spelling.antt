@@ -15,6 +15,10 @@ six_digits n = (48 + n / 100000 % 10) ∷ (48 + n / 10000 % 10) ∷ (48 + n / 10
 abbrev pub decimal_word : ℕ → ℕ → List ℕ
 decimal_word whole micro = decimal whole ++ 46 ∷ six_digits micro
 
+-- a number of millionths, as a whole number, a point and six digits
+abbrev pub millionths_word : ℕ → List ℕ
+millionths_word n = decimal_word (n / 1000000) (n % 1000000)
+
 -- words, a space before each of them
 abbrev pub behind : List (List ℕ) → List ℕ
 behind words = flat_map (λ w. 32 ∷ w) words

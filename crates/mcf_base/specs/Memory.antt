@@ -1,6 +1,6 @@
 -- Files and output in memory, which fail where they are told to.
 use Rattle.std.specs.Prelude.{◌≡◌, ◌⊎◌, ℕ, ◌+◌, ◌-◌, ◌^◌, min, List, length, Option, Some, None, Contains}
-use Rattle.mcf_base.specs.Faults.{Faults}
+use Rattle.mcf_base.specs.Faults.{Faults, WriteFaults}
 use Rattle.mcf_base.specs.Shelf.{File, ShelfView, first_named}
 
 -- the number of the call that comes next: it stands still at its type's end
@@ -39,14 +39,14 @@ pub record CountsCall (before now : MemoryFiles) : Type 0 where
   pub calls : now.calls ≡ next_call before.calls
 
 -- what was written, how many bytes there is room for yet, how many a write takes at most, the numbers of the writes
--- that fail, and how many writes and faults there were
+-- that fail, how many writes there were, and the faults
 pub record MemoryOutput : Type 0 where
   pub written : List ℕ
   pub room : ℕ
   pub most : ℕ
   pub failing : List ℕ
   pub calls : ℕ
-  pub faults : ℕ
+  pub faults : WriteFaults
 
 -- the next write fails: its number is one of those that fail, or no room is left
 abbrev pub IsWriteFailing : MemoryOutput → Type 0

@@ -55,6 +55,15 @@ pub const MAX_LENGTH: u64 = 1 << 62;
 /// The most cells of a path.
 pub const MAX_PATH_CELLS: usize = 511;
 
+/// The most links that a limit on a demand's paths may allow. (A limit of as many links as nodes less one, or more, is none.)
+pub const MAX_HOPS: u8 = 64;
+
+/// The most bytes of a list of demand matrices: 64 MiB.
+pub const MAX_LIST_BYTES: usize = 64 << 20;
+
+/// The most matrices of a list.
+pub const MAX_MATRICES: u32 = 64;
+
 /// The gap where none is asked, in millionths: 5 %.
 pub const DEFAULT_GAP: u64 = 50_000;
 

@@ -4,5 +4,8 @@
 mod modes;
 mod options;
 
-pub use modes::{LinkMode, ModuleMode, link_mode_of, link_word, module_mode_of, module_word};
+pub use modes::{
+    LinkMode, ModuleMode, Sign, link_mode_of, link_word, module_mode_of, module_word,
+    old_link_mode_of, old_link_word,
+};
 pub use options::NetOptions;

@@ -8,7 +8,7 @@ use Rattle.std.proofs.lemmas.Bool.{ltb-false, ltb-true}
 use Rattle.mcf_limits.specs.declared.TheConstants.{MAX_WORD_BYTES}
 use Rattle.sndlib_lex.specs.Tokens.{Lexeme}
 use Rattle.sndlib_grammar.specs.declared.refusal.NetKind.{NetKind}
-use Rattle.sndlib_grammar.specs.declared.refusal.NetKind.TheVariants.{NoHeader, LongWord, Syntax, TooMany, Duplicate, UnknownNode, BadNumber, TooFine, TooLarge, NoDemand}
+use Rattle.sndlib_grammar.specs.declared.refusal.NetKind.TheVariants.{NoHeader, LongWord, Syntax, TooMany, Duplicate, UnknownNode, BadNumber, TooFine, TooLarge, NoDemand, HopTooFar}
 use Rattle.sndlib_grammar.specs.declared.refusal.NetKind.TheVariants as netkinds
 use Rattle.sndlib_grammar.specs.declared.refusal.NetRefusal.{NetRefusal}
 use Rattle.sndlib_grammar.specs.declared.mode.Part.TheVariants as parts
@@ -126,6 +126,7 @@ stands tokens end BadNumber line h = absurd h
 stands tokens end TooFine line h = absurd h
 stands tokens end TooLarge line h = absurd h
 stands tokens end NoDemand line h = absurd h
+stands tokens end HopTooFar line h = absurd h
 
 -- entries of the tokens are those that reading comes to
 entries_read : (tokens : List Lexeme) (end : ℕ) (found : Entries) → AreEntriesOf tokens found → scan end (Between parts.Nodes) at_start tokens ≡ Ok found

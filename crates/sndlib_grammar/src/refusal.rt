@@ -13,6 +13,8 @@ pub enum NetKind {
     TooFine,
     TooLarge,
     NoDemand,
+    /// The longest path of a commodity is a limit, and allows more links than the search by layers takes.
+    HopTooFar,
 }
 
 /// A refusal, and the line where it stands.
