@@ -2,6 +2,7 @@
 #![tactic(auto)]
 
 mod head;
+mod laws;
 mod opening;
 mod papers;
 mod place;
@@ -10,6 +11,7 @@ mod rows;
 pub use cert_lines::{CertEnd, CertKind, CertRefusal};
 pub use cert_names::Form;
 pub use head::{next_figures, next_modes, next_opening, next_value, next_values};
+pub use laws::old_form_has_no_bidirected_links;
 pub use opening::{CertHead, Kind, Opening, cert_head, header, modes_head};
 pub use papers::{Paper, read_cert};
 pub use place::{Place, closing, fixed, refused, split};
