@@ -21,6 +21,33 @@ const UNUSUAL: &[u8] =
 const UNUSUAL_SIGNED: &[u8] =
     b"mcf-certificate 2\nverdict open\nlinks directed\nmodules largest\nnet nodes 2 cells 2 commodities 1 decimals 0 skipped 0 left 0 hops 0\ngap 0.050000\nphases 1\nscale 7 10\nlower 7/10 0.700000\nupper 20266198323167226/19301141260159260 1.050001\npath D1 4 +L2\npath D1 0 +L1\npath D1 6 +L2\nlength +L2 1930114126015926\nlength +L1 2251799813685248\npotential A 0 1930114126015926\nend\n";
 
+// What a row shows, a certificate of one link, the status, and the text.
+type OfOneLink = (&'static str, &'static [u8], u8, &'static [u8]);
+
+const ON_ONE_LINK: &[OfOneLink] = &[
+    ("links_of_one_way", CERTIFICATE, 0, SIGNED),
+    ("form_2_byte_for_byte", SIGNED, 0, SIGNED),
+    ("invalid_is_not_written", INVALID, 1, b"invalid C10\n"),
+    (
+        "routing_is_no_certificate",
+        ROUTING,
+        3,
+        b"refused cert K1 line 1\n",
+    ),
+    (
+        "routing_of_form_2_is_no_certificate",
+        SIGNED_ROUTING,
+        3,
+        b"refused cert K1 line 1\n",
+    ),
+    (
+        "header_of_a_routing_alone",
+        b"mcf-routing 2",
+        3,
+        b"refused cert K1 line 1\n",
+    ),
+];
+
 // What a row shows, the network, the certificate, the status, and the text.
 type Row = (
     &'static str,
@@ -31,8 +58,6 @@ type Row = (
 );
 
 const ROWS: &[Row] = &[
-    ("links_of_one_way", ONE_LINK, CERTIFICATE, 0, SIGNED),
-    ("form_2_byte_for_byte", ONE_LINK, SIGNED, 0, SIGNED),
     ("links_both_ways", NO_CAPACITY, CUT, 0, CUT_SIGNED),
     (
         "form_2_of_links_both_ways",
@@ -64,37 +89,9 @@ const ROWS: &[Row] = &[
         UNUSUAL_SIGNED,
     ),
     (
-        "invalid_is_not_written",
-        ONE_LINK,
-        INVALID,
-        1,
-        b"invalid C10\n",
-    ),
-    (
-        "routing_is_no_certificate",
-        ONE_LINK,
-        ROUTING,
-        3,
-        b"refused cert K1 line 1\n",
-    ),
-    (
-        "routing_of_form_2_is_no_certificate",
-        ONE_LINK,
-        SIGNED_ROUTING,
-        3,
-        b"refused cert K1 line 1\n",
-    ),
-    (
         "routing_of_links_of_two_cells",
         BOTH_WAYS,
         EACH_WAY_ROUTED,
-        3,
-        b"refused cert K1 line 1\n",
-    ),
-    (
-        "header_of_a_routing_alone",
-        ONE_LINK,
-        b"mcf-routing 2",
         3,
         b"refused cert K1 line 1\n",
     ),
@@ -113,6 +110,15 @@ const ROWS: &[Row] = &[
         b"refused net N1 line 1\n",
     ),
 ];
+
+#[test]
+fn upgraded_on_one_link(rt: HostRuntime) -> Result<(), Fail> {
+    for (shows, cert, status, text) in ON_ONE_LINK {
+        let files: [File<'_>; 2] = [("net", ONE_LINK), ("cert", cert)];
+        expect(&rt, rt.alloc(), shows, UPGRADE, &files, *status, text)?;
+    }
+    Ok(())
+}
 
 #[test]
 fn upgraded(rt: HostRuntime) -> Result<(), Fail> {

@@ -169,34 +169,32 @@ const ROWS: &[Row] = &[
         0,
         b"show lower 10/4 2.500000 upper 45035996273704960/18014398509481984 2.500000\n",
     ),
+];
+
+// What a row shows, a script on a certificate of a link of two cells, the status, and the text.
+type Script = (&'static str, &'static [u8], u8, &'static [u8]);
+
+const ON_TWO_CELLS: &[Script] = &[
     (
         "both_cells_are_closed",
-        BOTH_WAYS,
-        BOTH_WAYS_SOLVED,
         b"close L1 show",
         0,
         b"show lower 0/5 0.000000 upper 0/45035996273704960 0.000000\n",
     ),
     (
         "both_cells_are_set",
-        BOTH_WAYS,
-        BOTH_WAYS_SOLVED,
         b"set L1 3 show",
         0,
         b"show lower 3/5 0.600000 upper 27021597764222976/45035996273704960 0.600000\n",
     ),
     (
         "both_cells_at_the_limit",
-        BOTH_WAYS,
-        BOTH_WAYS_SOLVED,
         b"add L1 17592186044406 show",
         0,
         b"show lower 17592186044416/5 3518437208883.200000 upper 158456325028528675187087900672/45035996273704960 3518437208883.200000\n",
     ),
     (
         "a_cell_is_no_link",
-        BOTH_WAYS,
-        BOTH_WAYS_SOLVED,
         b"close +L1",
         3,
         b"refused script S2 line 1\n",
@@ -207,6 +205,20 @@ const ROWS: &[Row] = &[
 fn scripts(rt: HostRuntime) -> Result<(), Fail> {
     for (shows, net, cert, script, status, text) in ROWS {
         let files: [File<'_>; 3] = [("net", net), ("cert", cert), ("script", script)];
+        expect(&rt, rt.alloc(), shows, WHAT_IF, &files, *status, text)?;
+    }
+    Ok(())
+}
+
+// An edit is one of the link, and so of both its cells.
+#[test]
+fn scripts_on_two_cells(rt: HostRuntime) -> Result<(), Fail> {
+    for (shows, script, status, text) in ON_TWO_CELLS {
+        let files: [File<'_>; 3] = [
+            ("net", BOTH_WAYS),
+            ("cert", BOTH_WAYS_SOLVED),
+            ("script", script),
+        ];
         expect(&rt, rt.alloc(), shows, WHAT_IF, &files, *status, text)?;
     }
     Ok(())
