@@ -1,6 +1,6 @@
 //! What holds of both forms, proved for all lines.
 
-ghost use Rattle.std.specs.Prelude.{◌≡◌, ¬, Ok, Err, codes};
+ghost use Rattle.std.specs.Prelude.{◌≡◌, Ok, Err, codes};
 ghost use Rattle.text_lines.specs.Lines.{Line};
 ghost use Rattle.net_options.specs.Modes.{old_link_word};
 ghost use Rattle.net_options.specs.declared.modes.LinkMode.TheVariants.{Bidirected};
