@@ -1,14 +1,26 @@
 -- Words of nodes, cells and commodities, looked up in the rows of a network text.
-use Rattle.std.proofs.Common.{◌≡◌, ℕ, ◌+◌, ◌≤◌, ◌<◌, List, [], ◌∷◌, length, get_or, map, Option, Some, None, Ok, true, false, Bool, arith, refl, ap, sym, subst, ◌∙◌, ◌==◌, if◌then◌else◌, nat_lt, inl, inr}
+use Rattle.std.proofs.Common.{◌≡◌, ℕ, ◌+◌, ◌≤◌, ◌<◌, List, [], ◌∷◌, ◌++◌, length, get_or, map, take, drop, Option, Some, None, Ok, true, false, Bool, arith, refl, ap, sym, subst, ◌∙◌, ◌==◌, if◌then◌else◌, nat_lt, inl, inr}
 use Rattle.std.specs.Prelude.{position, not}
 use Rattle.std.specs.List.{prefix_len, position_or_len}
 use Rattle.std.specs.Str.{bytes_eq}
-use Rattle.std.proofs.lemmas.List.{length-map, get_or-map}
+use Rattle.std.proofs.lemmas.List.{length-map, get_or-map, take-append-drop}
 use Rattle.std.proofs.lemmas.List.Quantifiers.{position-Some}
-use Rattle.sndlib_grammar.specs.Rows.{NetRows, NetDemand, AreNetRows, no_demand, names_of_demands}
+use Rattle.sndlib_grammar.specs.Rows.{NetRows, NetDemand, AreNetRows, no_demand, no_link, link_at, names_of_nodes, names_of_links, names_of_demands}
 use Rattle.unit_scale.specs.Scaling.{ScaledNet, scaled_with, unless_refused, refusal, kept_from}
 use Rattle.unit_scale.specs.Sizes.{decimals_of, sizes, is_left_out}
-use Rattle.cert_names.specs.Sheet.{IsOf, IsWithin, demand_word, place_of, sheet_of}
+use Rattle.cert_names.specs.declared.form.Form.{Form}
+use Rattle.cert_names.specs.declared.form.Form.TheVariants.{First, Second}
+use Rattle.cert_names.specs.Sheet.{Sheet, IsOf, IsWithin, cell_word, cell_sign, cell_id, sign_size, sign_mark, counts_of, demand_word, place_of, sheet_of, old_sheet_of, sheets_of, sheet_for}
+use Rattle.cert_names.proofs.SignedWords.{words_counted, word_at}
+use Rattle.cell_dir.specs.Names.{cells_of, name_of}
+use Rattle.cell_dir.proofs.Cells.{link_below}
+use Rattle.cell_dir.proofs.Named.{cells_counted}
+use Rattle.mcf_limits.specs.declared.TheConstants.{MAX_CELLS, MAX_LINKS}
+use Rattle.net_options.specs.Modes.{module_word}
+use Rattle.net_options.specs.declared.modes.LinkMode.{LinkMode}
+use Rattle.net_options.specs.declared.modes.LinkMode.TheVariants.{Directed, Undirected, Bidirected}
+use Rattle.net_options.specs.declared.modes.Sign.{Sign}
+use Rattle.net_options.specs.declared.modes.Sign.TheVariants.{Along, Against, Both}
 use Rattle.std.specs.List.{AllByRecursion}
 use Rattle.std.specs.Prelude.{Result, Err}
 use Rattle.std.proofs.lemmas.Bool.{false_from_ne_true, cases_lt}
@@ -144,10 +156,53 @@ commodity_none rows net h w e =
     let no : (r : ℕ) → r < length rows.demands → bytes_eq w (demand_word rows r) ≡ false = λ r lt. subst (λ v. bytes_eq w v ≡ false) (name_at rows r lt) (none_passes (bytes_eq w) (names_of_demands rows) e r (omega arith)) in
     sym (position_same (bytes_eq w) (λ (k : ℕ). false) (demand_word rows) net.kept (along no net.kept (are_demands rows net h)) ∙ never net.kept)
 
+-- ---- both sheets
+
+-- in either form the words of nodes and commodities, the mode of modules and the counts are the same
+pub module_mode_is : (rows : NetRows) (net : ScaledNet) (form : Form)
+    → module_word net.options.modules ≡ (sheet_for (sheets_of rows net) form).module_mode
+module_mode_is rows net First = refl
+module_mode_is rows net Second = refl
+
+pub nodes_are : (rows : NetRows) (net : ScaledNet) (form : Form)
+    → names_of_nodes rows ≡ (sheet_for (sheets_of rows net) form).nodes
+nodes_are rows net First = refl
+nodes_are rows net Second = refl
+
+pub commodities_are : (rows : NetRows) (net : ScaledNet) (form : Form)
+    → map (demand_word rows) net.kept ≡ (sheet_for (sheets_of rows net) form).commodities
+commodities_are rows net First = refl
+commodities_are rows net Second = refl
+
+pub counts_are : (rows : NetRows) (net : ScaledNet) (form : Form)
+    → counts_of rows net ≡ (sheet_for (sheets_of rows net) form).counts
+counts_are rows net First = refl
+counts_are rows net Second = refl
+
+pub cells_are : (rows : NetRows) (net : ScaledNet) → length (sheet_of rows net).cells ≡ cells_of net.options.links (length rows.links)
+cells_are rows net =
+    words_counted net.options.links (names_of_links rows)
+    ∙ ap (cells_of net.options.links) (length-map rows.links (λ l. l.id))
+
+-- the words of cells in form 2 are as many as the cells of the network
+pub cells_are_counted : (rows : NetRows) (net : ScaledNet) → IsOf rows net → length (sheet_of rows net).cells ≡ length net.net.cells
+cells_are_counted rows net h =
+    let s = decimals_of (sizes h.options.modules rows) in
+    let is = accepted (scaled_with h.options s rows) net (refusal h.options.modules s rows) h.scaled in
+    cells_are rows net
+    ∙ ap (λ (n : ScaledNet). cells_of n.options.links (length rows.links)) (sym is)
+    ∙ sym (cells_counted h.options s rows)
+    ∙ ap (λ (n : ScaledNet). length n.net.cells) is
+
 -- ---- no more words than there may be
 
-pub within : (rows : NetRows) (net : ScaledNet) → IsOf rows net → IsWithin (sheet_of rows net)
-within rows net h =
+few_cells : (mode : LinkMode) (links : ℕ) → links ≤ MAX_LINKS → cells_of mode links ≤ MAX_CELLS
+few_cells Directed links h = omega arith
+few_cells Undirected links h = omega arith
+few_cells Bidirected links h = omega arith
+
+pub within : (rows : NetRows) (net : ScaledNet) (form : Form) → IsOf rows net → IsWithin (sheet_for (sheets_of rows net) form)
+within rows net First h =
     let nodes = length-map rows.nodes (λ n. n.id) in
     let links = length-map rows.links (λ l. l.id) in
     let kept = length-map net.kept (demand_word rows) in
@@ -156,3 +211,55 @@ within rows net h =
     let link_count = h.well.link_count in
     let demand_count = h.well.demand_count in
     record { nodes_fit = omega arith; cells_fit = omega arith; commodities_fit = omega arith }
+within rows net Second h =
+    let nodes = length-map rows.nodes (λ n. n.id) in
+    let kept = length-map net.kept (demand_word rows) in
+    let fewer = few rows net h in
+    let node_count = h.well.node_count in
+    let demand_count = h.well.demand_count in
+    let cells = few_cells net.options.links (length rows.links) h.well.link_count in
+    record {
+      nodes_fit = omega arith;
+      cells_fit = subst (λ n. n ≤ MAX_CELLS) (sym (cells_are rows net)) cells;
+      commodities_fit = omega arith;
+    }
+
+-- ---- the word of a cell in form 2
+
+id_at : (rows : NetRows) (l : ℕ) → l < length rows.links → get_or (names_of_links rows) l [] ≡ (link_at rows l).id
+id_at rows l lt = get_or-map (λ l. l.id) rows.links l no_link [] lt
+
+pub link_of_cell : (rows : NetRows) (net : ScaledNet) (c : ℕ) → c < length (sheet_of rows net).cells → (name_of net.options.links c).link < length rows.links
+link_of_cell rows net c lt = link_below net.options.links (length rows.links) c (subst (λ n. c < n) (cells_are rows net) lt)
+
+signed_word : (rows : NetRows) (net : ScaledNet) (c : ℕ) → c < length (sheet_of rows net).cells
+    → cell_word (sheet_of rows net) c ≡ sign_mark (name_of net.options.links c).sign ++ (link_at rows (name_of net.options.links c).link).id
+signed_word rows net c lt =
+    word_at net.options.links (names_of_links rows) c lt
+    ∙ ap (λ (id : List ℕ). sign_mark (name_of net.options.links c).sign ++ id) (id_at rows (name_of net.options.links c).link (link_of_cell rows net c lt))
+
+first_is : (sign : Sign) (id : List ℕ) → take 1 (sign_mark sign ++ id) ≡ sign_mark sign
+first_is Along id = refl
+first_is Against id = refl
+first_is Both id = refl
+
+rest_is : (sign : Sign) (id : List ℕ) → drop 1 (sign_mark sign ++ id) ≡ id
+rest_is Along id = refl
+rest_is Against id = refl
+rest_is Both id = refl
+
+pub sign_is : (rows : NetRows) (net : ScaledNet) (c : ℕ) → c < length (sheet_of rows net).cells
+    → sign_mark (name_of net.options.links c).sign ≡ cell_sign (sheet_of rows net) c
+sign_is rows net c lt = sym (ap (take 1) (signed_word rows net c lt) ∙ first_is (name_of net.options.links c).sign _)
+
+pub id_is : (rows : NetRows) (net : ScaledNet) (c : ℕ) → c < length (sheet_of rows net).cells
+    → (link_at rows (name_of net.options.links c).link).id ≡ cell_id (sheet_of rows net) c
+id_is rows net c lt = sym (ap (drop 1) (signed_word rows net c lt) ∙ rest_is (name_of net.options.links c).sign _)
+
+-- and in form 1
+pub old_id_is : (rows : NetRows) (net : ScaledNet) (c : ℕ) → c < length rows.links → (link_at rows c).id ≡ cell_id (old_sheet_of rows net) c
+old_id_is rows net c lt = sym (id_at rows c lt)
+
+-- a cell's word is its sign and its id
+pub whole_word : (sheet : Sheet) (c : ℕ) → cell_sign sheet c ++ cell_id sheet c ≡ cell_word sheet c
+whole_word sheet c = take-append-drop (sign_size sheet) (cell_word sheet c)

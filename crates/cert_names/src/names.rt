@@ -1,48 +1,67 @@
 //! The words of nodes, cells and commodities, as the rows of a network text have them.
 
-use net_options::{link_word, module_word};
+use crate::form::Form;
+use crate::signed::{named_cell, sign_of_cell};
+use cell_dir::name_of;
+use net_options::{link_word, module_word, old_link_word};
 use sndlib_read::RawNet;
 use std::marker::Model;
 use unit_scale::Scaled;
 
-/// What a certificate's text cites of a network: a view of its rows and of its network in units, which takes no memory.
+/// What a certificate's text cites of a network in one form: a view of its rows and of its network in units, which takes
+/// no memory. In form 1 there are no words for bidirected links: such names serve reading alone.
 #[derive(Drop)]
 pub struct Names<'a> {
     rows: &'a RawNet<'a>,
     net: &'a Scaled,
+    form: Form,
 }
 
 impl<'a> Model for Names<'a> {
-    ghost use Rattle.cert_names.specs.Sheet.{Sheet, sheet_of, IsOf};
+    ghost use Rattle.cert_names.specs.Sheet.{Sheet, sheets_of, sheet_for, IsOf};
 
     ghost Value = { Sheet };
 
-    ghost view = { λ s. sheet_of s.rows.now s.net.now };
+    ghost view = { λ s. sheet_for (sheets_of s.rows.now s.net.now) s.form };
 
     ghost invariant = { λ s. IsOf s.rows.now s.net.now };
 }
 
 impl<'a> Names<'a> {
-    ghost use Rattle.std.specs.Prelude.{◌≡◌, ◌<◌, length};
-    ghost use Rattle.cert_names.specs.Sheet.{node_word, cell_word, commodity_word, place_of, sheet_of, IsOf, IsWithin};
+    ghost use Rattle.std.specs.Prelude.{◌≡◌, ◌<◌, ◌++◌, length};
+    ghost use Rattle.cert_names.specs.Sheet.{node_word, cell_word, cell_sign, cell_id};
+    ghost use Rattle.cert_names.specs.Sheet.{commodity_word, place_of, sheets_of, sheet_for, IsOf, IsWithin};
 
-    /// The words of these rows and of their network in units.
-    pub fn new(rows: &'a RawNet<'a>, net: &'a Scaled) -> Self
+    /// The words of these rows and of their network in units, in this form.
+    pub fn new(rows: &'a RawNet<'a>, net: &'a Scaled, form: Form) -> Self
         requires { IsOf rows.now net.now }
-        ensures { result ≡ sheet_of rows.now net.now }
+        ensures { result ≡ sheet_for (sheets_of rows.now net.now) form }
     {
-        Names { rows, net }
+        Names { rows, net, form }
     }
 
-    /// How links are read, as line 3 or 2 says it.
-    pub fn link_mode(&self) -> &'a [u8]
+    /// The number of the form, as the first line says it.
+    pub fn form(&self) -> &'static [u8]
+        ensures { result.now ≡ self.now.form }
+    {
+        match self.form {
+            Form::First => b"1",
+            Form::Second => b"2",
+        }
+    }
+
+    /// How links are read, as line 3 or 2 says it. For bidirected links in form 1 it is empty, which no line says.
+    pub fn link_mode(&self) -> &'static [u8]
         ensures { result.now ≡ self.now.link_mode }
     {
-        link_word(self.net.options().links)
+        match self.form {
+            Form::First => old_link_word(self.net.options().links),
+            Form::Second => link_word(self.net.options().links),
+        }
     }
 
     /// How modules are read, as line 4 or 3 says it.
-    pub fn module_mode(&self) -> &'a [u8]
+    pub fn module_mode(&self) -> &'static [u8]
         ensures { result.now ≡ self.now.module_mode }
     {
         module_word(self.net.options().modules)
@@ -62,7 +81,7 @@ impl<'a> Names<'a> {
     {
         [
             self.rows.nodes() as u32,
-            self.rows.links() as u32,
+            self.net.net().cells().len() as u32,
             self.net.commodities(),
             self.net.decimals() as u32,
             self.rows.skipped(),
@@ -82,7 +101,10 @@ impl<'a> Names<'a> {
     pub fn cell_named(&self, word: &[u8]) -> Option<u16>
         ensures { result ≡ place_of self.now.cells word.now }
     {
-        self.rows.link_named(word)
+        match self.form {
+            Form::First => self.rows.link_named(word),
+            Form::Second => named_cell(self.rows, self.net.options().links, word),
+        }
     }
 
     /// The commodity of that word, and `None` exactly where none has it.
@@ -103,12 +125,27 @@ impl<'a> Names<'a> {
         self.rows.node_id(v)
     }
 
-    /// The word of a cell.
-    pub fn cell_word(&self, c: u16) -> &'a [u8]
+    /// What the word of a cell begins with, before the id of its link: nothing in form 1, a sign in form 2.
+    pub fn cell_sign(&self, c: u16) -> &'static [u8]
         requires { c < length self.now.cells }
-        ensures { result.now ≡ cell_word self.now c }
+        ensures { result.now ≡ cell_sign self.now c }
     {
-        self.rows.link(c).id
+        match self.form {
+            Form::First => b"",
+            Form::Second => sign_of_cell(self.net.options().links, c),
+        }
+    }
+
+    /// The id of a cell's link, with which its word ends.
+    pub fn cell_id(&self, c: u16) -> &'a [u8]
+        requires { c < length self.now.cells }
+        ensures id { result.now ≡ cell_id self.now c }
+        ensures word { cell_sign self.now c ++ result.now ≡ cell_word self.now c }
+    {
+        match self.form {
+            Form::First => self.rows.link(c).id,
+            Form::Second => self.rows.link(name_of(self.net.options().links, c).link).id,
+        }
     }
 
     /// The word of a commodity.

@@ -1,18 +1,21 @@
 -- The whole certificate and the whole routing, read.
-use Rattle.std.specs.Prelude.{ℕ, Bool, true, false, List, [], ◌∷◌, Option, Some, None, Result, Ok, Err, codes, if◌then◌else◌}
+use Rattle.std.specs.Prelude.{ℕ, Bool, List, [], ◌∷◌, Option, Some, None, Result, Ok, Err, codes, if◌then◌else◌}
 use Rattle.text_lines.specs.Lines.{Line}
 use Rattle.flow_paths.specs.DualRows.{DualRows}
-use Rattle.flow_paths.specs.declared.certificate.Routing.{Routing}
+use Rattle.flow_paths.specs.declared.certificate.Routing.{Routing as RoutingIs}
 use Rattle.flow_paths.specs.declared.certificate.Printed.{Printed}
 use Rattle.flow_paths.specs.declared.certificate.Proof.{Proof}
 use Rattle.gap_fraction.specs.declared.fraction.TheConstants.{MAX_PART}
 use Rattle.mcf_limits.specs.declared.TheConstants.{MAX_LENGTH}
 use Rattle.cert_names.specs.Sheet.{Sheet}
+use Rattle.cert_names.specs.declared.form.Form.TheVariants.{First, Second}
 use Rattle.cert_lines.specs.declared.refusal.CertRefusal.{CertRefusal}
 use Rattle.cert_lines.specs.declared.refusal.CertKind.TheVariants.{NoHeader, Syntax}
 use Rattle.cert_lines.specs.Forms.{◌>>=◌, is_fixed}
 use Rattle.cert_lines.specs.HeadLines.{verdict_line, counts_line, gap_line, phases_line, scale_line, value_line}
 use Rattle.cert_lines.specs.Rows.{path_row, length_row, potential_row}
+use Rattle.cert_text.specs.declared.opening.Kind.TheVariants.{Certificate, Routing}
+use Rattle.cert_text.specs.declared.opening.Opening.{Opening}
 use Rattle.cert_text.specs.Reading.{Place, has_more, next_line, mode_line, rows_at, closing}
 
 -- the lines that say how links and modules are read
@@ -53,7 +56,7 @@ dual_at sheet place = do
   Ok (record { lengths = lengths.0; potentials = potentials.0 }, potentials.1)
 
 -- what follows the header of a routing
-unfoldable pub routing_at : Sheet → Place → Result Routing CertRefusal
+unfoldable pub routing_at : Sheet → Place → Result RoutingIs CertRefusal
 routing_at sheet place = do
   modes ← modes_at sheet place
   scale ← scale_at modes
@@ -79,16 +82,22 @@ proof_at sheet place = do
     dual = dual.0;
   })
 
--- whether the line is that of a certificate, or that of a routing
-abbrev pub form_of : Line → Option Bool
-form_of line = if is_fixed (codes "mcf-certificate 1") line then Some true else if is_fixed (codes "mcf-routing 1") line then Some false else None
+-- what the line says as a first line, where it is one of the four
+abbrev pub form_of : Line → Option Opening
+form_of line =
+    if is_fixed (codes "mcf-certificate 1") line then Some (record { kind = Certificate; form = First })
+    else (if is_fixed (codes "mcf-certificate 2") line then Some (record { kind = Certificate; form = Second })
+    else (if is_fixed (codes "mcf-routing 1") line then Some (record { kind = Routing; form = First })
+    else (if is_fixed (codes "mcf-routing 2") line then Some (record { kind = Routing; form = Second })
+    else None)))
 
 -- a line that is not known has no header; a known one wants its line feed
-abbrev pub header_of : Option Bool → List Line → Result (Bool × Place) CertRefusal
+abbrev pub header_of : Option Opening → List Line → Result (Opening × Place) CertRefusal
 header_of None lines = Err (record { line = 1; kind = NoHeader })
-header_of (Some full) lines = if has_more lines then Ok (full, record { at = 2; rest = lines }) else Err (record { line = 1; kind = Syntax })
+header_of (Some opening) lines =
+    if has_more lines then Ok (opening, record { at = 2; rest = lines }) else Err (record { line = 1; kind = Syntax })
 
--- the first line: whether it is that of a certificate, and not of a routing
-unfoldable pub header : List Line → Result (Bool × Place) CertRefusal
+-- the first line: whether it is that of a certificate or of a routing, and of which form
+unfoldable pub header : List Line → Result (Opening × Place) CertRefusal
 header [] = Err (record { line = 1; kind = NoHeader })
 header (line ∷ lines) = header_of (form_of line) lines

@@ -2,11 +2,17 @@
 #![tactic(auto)]
 
 mod head;
+mod laws;
 mod opening;
 mod papers;
 mod place;
 mod rows;
 
 pub use cert_lines::{CertEnd, CertKind, CertRefusal};
-pub use opening::{CertHead, cert_head};
+pub use cert_names::Form;
+pub use head::{next_figures, next_modes, next_opening, next_value, next_values};
+pub use laws::old_form_has_no_bidirected_links;
+pub use opening::{CertHead, Kind, Opening, cert_head, header, modes_head};
 pub use papers::{Paper, read_cert};
+pub use place::{Place, closing, fixed, refused, split};
+pub use rows::{next_lengths, next_paths, next_potentials};

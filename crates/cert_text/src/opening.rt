@@ -1,4 +1,4 @@
-//! The form of a text and its modes, from its first lines.
+//! The kind of a text, its form and its modes, from its first lines.
 
 ghost use Rattle.std.specs.Prelude.{◌≡◌, ◌≤◌, ◌+◌, ◌^◌, ◌<◌, IfOk, length};
 ghost use Rattle.text_lines.specs.Lines.{words_of, lines_of};
@@ -6,55 +6,92 @@ ghost use Rattle.cert_lines.specs.Forms.{seen};
 ghost use Rattle.cert_text.specs.Views.{place_view, HasRoom};
 ghost use Rattle.cert_text.specs.Reading.{next_line};
 ghost use Rattle.cert_text.specs.Papers.{header};
-ghost use Rattle.cert_text.specs.Whole.{link_mode_line, module_mode_line, behind_verdict, head_in};
+ghost use Rattle.cert_text.specs.Whole.{mode_in, link_mode_line, module_mode_line, behind_verdict, modes_head, head_in};
 
 use crate::place::{Place, split};
 use cert_lines::{CertKind, CertRefusal, is_fixed, one_behind, verdict_line};
+use cert_names::Form;
 use mcf_limits::MAX_CERT_BYTES;
-use net_options::{LinkMode, ModuleMode, link_mode_of, module_mode_of};
+use net_options::{LinkMode, ModuleMode, NetOptions, link_mode_of, module_mode_of, old_link_mode_of};
 
-/// The form of a text, and how links and modules are read.
+/// What a text is of: a certificate, or a routing alone.
+#[derive(Clone, Copy, Debug, PartialEq, Eq)]
+pub enum Kind {
+    Certificate,
+    Routing,
+}
+
+/// What a first line says.
+#[derive(Clone, Copy, Debug, PartialEq, Eq)]
+pub struct Opening {
+    pub kind: Kind,
+    pub form: Form,
+}
+
+/// The kind of a text, its form, and how links and modules are read.
 #[derive(Clone, Copy, Debug, PartialEq, Eq)]
 pub struct CertHead {
-    /// A certificate, and not a routing alone.
-    pub full: bool,
+    pub kind: Kind,
+    pub form: Form,
     pub links: LinkMode,
     pub modules: ModuleMode,
 }
 
-const CERTIFICATE: &[u8] = b"mcf-certificate 1";
+const OLD_CERTIFICATE: &[u8] = b"mcf-certificate 1";
 
-const ROUTING: &[u8] = b"mcf-routing 1";
+const CERTIFICATE: &[u8] = b"mcf-certificate 2";
+
+const OLD_ROUTING: &[u8] = b"mcf-routing 1";
+
+const ROUTING: &[u8] = b"mcf-routing 2";
 
 const LINKS: &[u8] = b"links";
 
 const MODULES: &[u8] = b"modules";
 
-// Whether the line is that of a certificate, or that of a routing.
-fn form_of(line: &[u8]) -> Option<bool>
+// What the line says as a first line, where it is one of the four.
+fn form_of(line: &[u8]) -> Option<Opening>
     ensures { result ≡ form_of (words_of line.now) }
 {
+    if is_fixed(OLD_CERTIFICATE, line) {
+        return Some(Opening {
+            kind: Kind::Certificate,
+            form: Form::First,
+        });
+    }
     if is_fixed(CERTIFICATE, line) {
-        return Some(true);
+        return Some(Opening {
+            kind: Kind::Certificate,
+            form: Form::Second,
+        });
+    }
+    if is_fixed(OLD_ROUTING, line) {
+        return Some(Opening {
+            kind: Kind::Routing,
+            form: Form::First,
+        });
     }
     if is_fixed(ROUTING, line) {
-        return Some(false);
+        return Some(Opening {
+            kind: Kind::Routing,
+            form: Form::Second,
+        });
     }
     None
 }
 
 ghost use Rattle.cert_text.specs.Papers.{form_of};
 
-/// Whether the text is one of a certificate, and not of a routing, and the place behind its first line.
+/// What the first line of the text says, and the place behind it.
 #[tactic(auto, using(crate::proofs::LineSteps::has_line), unfolding(crate::specs::Papers::header))]
-pub fn header(text: &[u8]) -> Result<(bool, Place<'_>), CertRefusal>
+pub fn header(text: &[u8]) -> Result<(Opening, Place<'_>), CertRefusal>
     requires { length text.now ≤ MAX_CERT_BYTES }
     ensures exact { seen (λ x. (x.0, place_view x.1)) result ≡ header (lines_of text.now) }
     ensures room { IfOk result (λ x. HasRoom x.1) }
 {
     match split(Place { at: 1, rest: text }) {
         Some((line, after)) => match form_of(line) {
-            Some(full) => Ok((full, after)),
+            Some(opening) => Ok((opening, after)),
             None => Err(CertRefusal {
                 line: 1,
                 kind: CertKind::NoHeader,
@@ -73,15 +110,25 @@ pub fn header(text: &[u8]) -> Result<(bool, Place<'_>), CertRefusal>
     }
 }
 
+// The mode of which this is the word in that form.
+fn mode_in(form: Form, word: &[u8]) -> Option<LinkMode>
+    ensures { result ≡ mode_in form word.now }
+{
+    match form {
+        Form::First => old_link_mode_of(word),
+        Form::Second => link_mode_of(word),
+    }
+}
+
 #[tactic(auto, unfolding(crate::specs::Whole::link_mode_line))]
-fn link_mode_line(line: &[u8]) -> Result<LinkMode, CertKind>
-    ensures { result ≡ link_mode_line (words_of line.now) }
+fn link_mode_line(form: Form, line: &[u8]) -> Result<LinkMode, CertKind>
+    ensures { result ≡ link_mode_line form (words_of line.now) }
 {
     let word = match one_behind(LINKS, line) {
         Some(word) => word,
         None => return Err(CertKind::Syntax),
     };
-    match link_mode_of(word) {
+    match mode_in(form, word) {
         Some(mode) => Ok(mode),
         None => Err(CertKind::Syntax),
     }
@@ -103,9 +150,9 @@ fn module_mode_line(line: &[u8]) -> Result<ModuleMode, CertKind>
 
 // How links are read, and the place behind that line.
 #[tactic(auto, using(crate::proofs::LineSteps::has_line), unfolding(crate::specs::Reading::next_line))]
-fn next_links(place: Place<'_>) -> Result<(LinkMode, Place<'_>), CertRefusal>
+fn next_links(form: Form, place: Place<'_>) -> Result<(LinkMode, Place<'_>), CertRefusal>
     requires { HasRoom place }
-    ensures exact { seen (λ x. (x.0, place_view x.1)) result ≡ next_line link_mode_line (place_view place.entry) }
+    ensures exact { seen (λ x. (x.0, place_view x.1)) result ≡ next_line (link_mode_line form) (place_view place.entry) }
     ensures room { IfOk result (λ x. HasRoom x.1) }
 {
     let (line, after) = match split(place) {
@@ -117,7 +164,7 @@ fn next_links(place: Place<'_>) -> Result<(LinkMode, Place<'_>), CertRefusal>
             });
         }
     };
-    match link_mode_line(line) {
+    match link_mode_line(form, line) {
         Ok(mode) => Ok((mode, after)),
         Err(kind) => Err(CertRefusal {
             line: place.at,
@@ -152,13 +199,14 @@ fn next_modules(place: Place<'_>) -> Result<(ModuleMode, Place<'_>), CertRefusal
 
 // The place behind the verdict, where there is one.
 #[tactic(auto, using(crate::proofs::LineSteps::has_line), unfolding(crate::specs::Reading::next_line, crate::specs::Whole::behind_verdict))]
-fn behind_verdict(full: bool, place: Place<'_>) -> Result<Place<'_>, CertRefusal>
+fn behind_verdict(kind: Kind, place: Place<'_>) -> Result<Place<'_>, CertRefusal>
     requires { HasRoom place }
-    ensures exact { seen place_view result ≡ behind_verdict full (place_view place.entry) }
+    ensures exact { seen place_view result ≡ behind_verdict kind (place_view place.entry) }
     ensures room { IfOk result HasRoom }
 {
-    if !full {
-        return Ok(place);
+    match kind {
+        Kind::Routing => return Ok(place),
+        Kind::Certificate => {}
     }
     let (line, after) = match split(place) {
         Some(parts) => parts,
@@ -178,30 +226,44 @@ fn behind_verdict(full: bool, place: Place<'_>) -> Result<Place<'_>, CertRefusal
     }
 }
 
-/// The form of a text and its modes, from lines 1 to 4 of a certificate or 1 to 3 of a routing: else the first of these
-/// lines that has a fault.
+/// How links and modules are read, from the lines behind a first line that says this: the verdict, where there is one,
+/// and the two lines of the modes. Else the first of these lines that has a fault.
+#[tactic(auto, unfolding(crate::specs::Whole::modes_head))]
+pub fn modes_head(opening: Opening, place: Place<'_>) -> Result<NetOptions, CertRefusal>
+    requires { HasRoom place }
+    ensures { result ≡ modes_head opening (place_view place.entry) }
+{
+    let place = match behind_verdict(opening.kind, place) {
+        Ok(place) => place,
+        Err(refusal) => return Err(refusal),
+    };
+    let (links, place) = match next_links(opening.form, place) {
+        Ok(read) => read,
+        Err(refusal) => return Err(refusal),
+    };
+    match next_modules(place) {
+        Ok((modules, _)) => Ok(NetOptions { links, modules }),
+        Err(refusal) => Err(refusal),
+    }
+}
+
+/// The kind of a text, its form and its modes, from lines 1 to 4 of a certificate or 1 to 3 of a routing: else the first
+/// of these lines that has a fault.
 #[tactic(auto, unfolding(crate::specs::Whole::head_in))]
 pub fn cert_head(text: &[u8]) -> Result<CertHead, CertRefusal>
     requires { length text.now ≤ MAX_CERT_BYTES }
     ensures { result ≡ head_in (lines_of text.now) }
 {
-    let (full, place) = match header(text) {
+    let (opening, place) = match header(text) {
         Ok(first) => first,
         Err(refusal) => return Err(refusal),
     };
-    let place = match behind_verdict(full, place) {
-        Ok(place) => place,
-        Err(refusal) => return Err(refusal),
-    };
-    let (links, place) = match next_links(place) {
-        Ok(read) => read,
-        Err(refusal) => return Err(refusal),
-    };
-    match next_modules(place) {
-        Ok((modules, _)) => Ok(CertHead {
-            full,
-            links,
-            modules,
+    match modes_head(opening, place) {
+        Ok(modes) => Ok(CertHead {
+            kind: opening.kind,
+            form: opening.form,
+            links: modes.links,
+            modules: modes.modules,
         }),
         Err(refusal) => Err(refusal),
     }

@@ -5,17 +5,20 @@ ghost use Rattle.text_lines.specs.Lines.{lines_of};
 ghost use Rattle.cert_text.specs.Views.{place_view, HasRoom};
 ghost use Rattle.cert_text.specs.Reading.{Gives};
 ghost use Rattle.cert_text.specs.Papers.{dual_at, routing_at, proof_at};
-ghost use Rattle.cert_text.specs.Whole.{paper_in};
+ghost use Rattle.cert_names.specs.Sheet.{IsOf, sheets_of};
+ghost use Rattle.cert_text.specs.Whole.{paper_at, paper_in};
 
 use crate::head::{next_figures, next_modes, next_opening, next_values};
-use crate::opening::header;
+use crate::opening::{Kind, header};
 use crate::place::{Place, closing};
 use crate::rows::{next_lengths, next_paths, next_potentials};
 use cert_lines::CertEnd;
 use cert_names::Names;
 use flow_paths::{Dual, PathStore, Proof, Routing};
 use mcf_limits::{MAX_CERT_BYTES, MAX_PATH_CELLS};
+use sndlib_read::RawNet;
 use std::alloc::Global;
+use unit_scale::Scaled;
 
 /// What a text is of: a routing alone, or a whole certificate.
 #[derive(Drop)]
@@ -145,24 +148,46 @@ fn proof_of(alloc: Global, names: &Names<'_>, place: Place<'_>) -> Result<Proof,
     }
 }
 
-/// The certificate or the routing that the text spells, or the first line with a fault.
-#[tactic(auto, unfolding(crate::specs::Whole::paper_in, crate::specs::Whole::paper_at))]
-pub fn read_cert(alloc: Global, names: &Names<'_>, text: &[u8]) -> Result<Paper, CertEnd>
-    requires { length text.now ≤ MAX_CERT_BYTES }
-    ensures { Gives (λ x. x) result (paper_in names.now (lines_of text.now)) }
+// What follows a header of that kind.
+#[tactic(auto, unfolding(crate::specs::Whole::paper_at))]
+fn paper_of(
+    alloc: Global,
+    names: &Names<'_>,
+    kind: Kind,
+    place: Place<'_>,
+) -> Result<Paper, CertEnd>
+    requires { HasRoom place }
+    ensures { Gives (λ x. x) result (paper_at names.now kind (place_view place.entry)) }
 {
-    let (full, place) = match header(text) {
+    match kind {
+        Kind::Certificate => match proof_of(alloc, names, place) {
+            Ok(proof) => Ok(Paper::Full(proof)),
+            Err(end) => Err(end),
+        },
+        Kind::Routing => match routing_of(alloc, names, place) {
+            Ok(routing) => Ok(Paper::Routing(routing)),
+            Err(end) => Err(end),
+        },
+    }
+}
+
+/// The certificate or the routing that the text spells of these rows and their network in units, in the form that its
+/// first line says, or the first line with a fault.
+#[tactic(auto, unfolding(crate::specs::Whole::paper_in))]
+pub fn read_cert<'a>(
+    alloc: Global,
+    rows: &'a RawNet<'a>,
+    net: &'a Scaled,
+    text: &[u8],
+) -> Result<Paper, CertEnd>
+    requires net { IsOf rows.now net.now }
+    requires size { length text.now ≤ MAX_CERT_BYTES }
+    ensures { Gives (λ x. x) result (paper_in (sheets_of rows.now net.now) (lines_of text.now)) }
+{
+    let (opening, place) = match header(text) {
         Ok(first) => first,
         Err(refusal) => return Err(CertEnd::Refused(refusal)),
     };
-    if full {
-        return match proof_of(alloc, names, place) {
-            Ok(proof) => Ok(Paper::Full(proof)),
-            Err(end) => Err(end),
-        };
-    }
-    match routing_of(alloc, names, place) {
-        Ok(routing) => Ok(Paper::Routing(routing)),
-        Err(end) => Err(end),
-    }
+    let names = Names::new(rows, net, opening.form);
+    paper_of(alloc, &names, opening.kind, place)
 }

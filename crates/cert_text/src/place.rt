@@ -16,6 +16,7 @@ pub struct Place<'a> {
     pub rest: &'a [u8],
 }
 
+/// The refusal of that line.
 pub fn refused(line: u32, kind: CertKind) -> CertEnd
     ensures { result ≡ Refused (record { line = line; kind = kind }) }
 {

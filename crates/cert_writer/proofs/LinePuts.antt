@@ -67,3 +67,18 @@ pub row_put : {E : Type 0} (a b c d : SinkView) (u v w z : List ℕ) (r : Result
     → Puts c d w z r (10 ∷ []) → Puts a d u z r (spelled (first ∷ (front ++ more)))
 row_put {E} a b c d u v w z r first front more h k l =
     subst (λ (t : List ℕ). Puts a d u z r t) (row_is first front more) (puts_then a c d u w z tt r ((first ++ behind front) ++ behind more) (10 ∷ []) (puts_then a b c u v w tt (ended (Unit {0}) E tt) (first ++ behind front) (behind more) h k) l)
+
+-- a word that is put in two parts, behind a space
+pub joined_stops : {E : Type 0} (a b : SinkView) (u v : List ℕ) (e : E) (sign id word : List ℕ) → sign ++ id ≡ word
+    → Puts a b u v (failed (Unit {0}) E e) (32 ∷ sign) → Puts a b u v (failed (Unit {0}) E e) (32 ∷ word)
+joined_stops {E} a b u v e sign id word same h =
+    subst (λ (l : List ℕ). Puts a b u v (failed (Unit {0}) E e) (32 ∷ l)) same (puts_stop a b u v v e (32 ∷ sign) id h)
+
+pub joined_put : {E : Type 0} (a b c : SinkView) (u v w : List ℕ) (r : Result (Unit {0}) E) (sign id word : List ℕ) → sign ++ id ≡ word
+    → Puts a b u v (ended (Unit {0}) E tt) (32 ∷ sign) → Puts b c v w r id → Puts a c u w r (32 ∷ word)
+joined_put {E} a b c u v w r sign id word same h k =
+    subst (λ (l : List ℕ). Puts a c u w r (32 ∷ l)) same (puts_then a b c u v w tt r (32 ∷ sign) id h k)
+
+-- one word behind a space
+pub word_alone : {E : Type 0} (a b : SinkView) (u v : List ℕ) (r : Result (Unit {0}) E) (word : List ℕ) → Puts a b u v r (32 ∷ word) → Puts a b u v r (behind (word ∷ []))
+word_alone a b u v r word h = subst (λ (l : List ℕ). Puts a b u v r l) (sym (append-nil (32 ∷ word))) h

@@ -11,7 +11,8 @@ use Rattle.cert_lines.specs.Spelling.{verdict_words, links_words, modules_words,
 
 -- the form, the verdict and the modes
 abbrev pub opening_lines : Sheet → Proof → List Line
-opening_lines sheet p = (codes "mcf-certificate" ∷ codes "1" ∷ []) ∷ verdict_words p.closed ∷ links_words sheet ∷ modules_words sheet ∷ []
+opening_lines sheet p =
+    (codes "mcf-certificate" ∷ sheet.form ∷ []) ∷ verdict_words p.closed ∷ links_words sheet ∷ modules_words sheet ∷ []
 
 -- the gap, phases, scale and the two fractions
 abbrev pub figure_lines : Proof → List Line
@@ -51,7 +52,9 @@ certificate_lines sheet p = opening_lines sheet p ++ from_counts sheet p
 
 -- the lines of a routing
 abbrev pub routing_lines : Sheet → Routing → List Line
-routing_lines sheet r = (codes "mcf-routing" ∷ codes "1" ∷ []) ∷ links_words sheet ∷ modules_words sheet ∷ phases_words r.phases ∷ scale_words (r.scale_cap, r.scale_load) ∷ (path_lines sheet r ++ end_line ∷ [])
+routing_lines sheet r =
+    (codes "mcf-routing" ∷ sheet.form ∷ []) ∷ links_words sheet ∷ modules_words sheet
+    ∷ phases_words r.phases ∷ scale_words (r.scale_cap, r.scale_load) ∷ (path_lines sheet r ++ end_line ∷ [])
 
 -- the text of a certificate
 abbrev pub certificate_text : Sheet → Proof → List ℕ

@@ -20,23 +20,28 @@ fn verdict_word(closed: bool) -> &'static [u8]
     if closed { b"closed" } else { b"open" }
 }
 
-// Puts the form.
-fn put_form<K: Sink>(buffer: &mut Buffer, out: &mut K) -> Result<(), WriteFault>
-    ensures { Puts (K.seen out.old) (K.seen out.new) buffer.old buffer.new result (text_of ((codes "mcf-certificate" ∷ codes "1" ∷ []) ∷ [])) }
+// Puts the first line.
+fn put_form<'a, K: Sink>(
+    buffer: &mut Buffer,
+    out: &mut K,
+    form: &'a [u8],
+) -> Result<(), WriteFault>
+    ensures { Puts (K.seen out.old) (K.seen out.new) buffer.old buffer.new result (text_of ((codes "mcf-certificate" ∷ form.now ∷ []) ∷ [])) }
 {
-    let form: [&[u8]; 2] = [b"mcf-certificate", b"1"];
-    put_lines(buffer, out, &[&form])
+    let first: [&'a [u8]; 2] = [b"mcf-certificate", form];
+    put_lines(buffer, out, &[&first])
 }
 
-// Puts the verdict and the modes.
-fn put_modes<'a, K: Sink>(
+/// Puts the lines of the verdict and of how links and modules are read.
+pub fn put_modes<'a, K: Sink>(
     buffer: &mut Buffer,
     out: &mut K,
     verdict: &'a [u8],
     links: &'a [u8],
     modules: &'a [u8],
 ) -> Result<(), WriteFault>
-    ensures { Puts (K.seen out.old) (K.seen out.new) buffer.old buffer.new result (text_of ((codes "verdict" ∷ verdict.now ∷ []) ∷ (codes "links" ∷ links.now ∷ []) ∷ (codes "modules" ∷ modules.now ∷ []) ∷ [])) }
+    ensures { Puts (K.seen out.old) (K.seen out.new) buffer.old buffer.new result
+        (text_of ((codes "verdict" ∷ verdict.now ∷ []) ∷ (codes "links" ∷ links.now ∷ []) ∷ (codes "modules" ∷ modules.now ∷ []) ∷ [])) }
 {
     let verdict_line: [&'a [u8]; 2] = [b"verdict", verdict];
     let links_line: [&'a [u8]; 2] = [b"links", links];
@@ -53,7 +58,7 @@ fn put_opening<K: Sink>(
 ) -> Result<(), WriteFault>
     ensures { Puts (K.seen out.old) (K.seen out.new) buffer.old buffer.new result (text_of (opening_lines names.now proof.now)) }
 {
-    match put_form(buffer, out) {
+    match put_form(buffer, out, names.form()) {
         Ok(()) => {}
         Err(fault) => return Err(fault),
     }
@@ -70,8 +75,8 @@ fn count_word(names: &Names<'_>, i: usize) -> Word
     Word::number(counts[i] as u128)
 }
 
-// Puts the counts.
-fn put_counts<K: Sink>(
+/// Puts the line of the counts.
+pub fn put_counts<K: Sink>(
     buffer: &mut Buffer,
     out: &mut K,
     names: &Names<'_>,
@@ -105,8 +110,12 @@ fn put_counts<K: Sink>(
     put_lines(buffer, out, &[&words])
 }
 
-// Puts the gap, phases, scale and the two fractions.
-fn put_figures<K: Sink>(buffer: &mut Buffer, out: &mut K, proof: &Proof) -> Result<(), WriteFault>
+/// Puts the lines of the gap, the phases, the scale and the two fractions.
+pub fn put_figures<K: Sink>(
+    buffer: &mut Buffer,
+    out: &mut K,
+    proof: &Proof,
+) -> Result<(), WriteFault>
     requires lower { proof.now.lower.micro < 1000000 }
     requires upper { proof.now.upper.micro < 1000000 }
     ensures { Puts (K.seen out.old) (K.seen out.new) buffer.old buffer.new result (text_of (figure_lines proof.now)) }
@@ -137,8 +146,8 @@ fn put_figures<K: Sink>(buffer: &mut Buffer, out: &mut K, proof: &Proof) -> Resu
     )
 }
 
-// Puts the last line.
-fn put_end<K: Sink>(buffer: &mut Buffer, out: &mut K) -> Result<(), WriteFault>
+/// Puts the last line.
+pub fn put_end<K: Sink>(buffer: &mut Buffer, out: &mut K) -> Result<(), WriteFault>
     ensures { Puts (K.seen out.old) (K.seen out.new) buffer.old buffer.new result (text_of (end_line ∷ [])) }
 {
     let end: [&[u8]; 1] = [b"end"];
@@ -265,7 +274,8 @@ fn put_whole<K: Sink>(
     buffer.flush(out)
 }
 
-/// Appends the text of the certificate. After a fault some front of it was appended. It takes no memory.
+/// Appends the text of the certificate, in the form of the names. After a fault some front of it was appended. It takes
+/// no memory.
 pub fn write_cert<K: Sink>(names: &Names<'_>, proof: &Proof, out: &mut K) -> Result<(), WriteFault>
     requires { FitsProof names.now proof.now }
     ensures { Wrote (K.seen out.old) (K.seen out.new) result (certificate_text names.now proof.now) }

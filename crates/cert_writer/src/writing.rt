@@ -58,6 +58,41 @@ fn put_front<K: Sink>(
     buffer.put_words(out, words)
 }
 
+// Puts a space and the word of the cell: its sign, where it has one, and the id of its link.
+fn put_cell<K: Sink>(
+    buffer: &mut Buffer,
+    out: &mut K,
+    names: &Names<'_>,
+    cell: u16,
+) -> Result<(), WriteFault>
+    requires { cell < length names.now.cells }
+    ensures { Puts (K.seen out.old) (K.seen out.new) buffer.old buffer.new result (32 ∷ cell_word names.now cell) }
+{
+    match buffer.put_word(out, names.cell_sign(cell)) {
+        Ok(()) => {}
+        Err(fault) => return Err(fault),
+    }
+    buffer.put(out, names.cell_id(cell))
+}
+
+// Puts the first word and the word of the cell behind it, and no line feed.
+fn put_cell_front<K: Sink>(
+    buffer: &mut Buffer,
+    out: &mut K,
+    first: &[u8],
+    names: &Names<'_>,
+    cell: u16,
+) -> Result<(), WriteFault>
+    requires { cell < length names.now.cells }
+    ensures { Puts (K.seen out.old) (K.seen out.new) buffer.old buffer.new result (first.now ++ behind (cell_word names.now cell ∷ [])) }
+{
+    match buffer.put(out, first) {
+        Ok(()) => {}
+        Err(fault) => return Err(fault),
+    }
+    put_cell(buffer, out, names, cell)
+}
+
 // Puts the words of the cells, a space before each.
 fn put_cells<K: Sink>(
     buffer: &mut Buffer,
@@ -69,7 +104,7 @@ fn put_cells<K: Sink>(
     ensures { Puts (K.seen out.old) (K.seen out.new) buffer.old buffer.new result (behind (map (cell_word names.now) cells.now)) }
 {
     for cell in cells {
-        match buffer.put_word(out, names.cell_word(*cell)) {
+        match put_cell(buffer, out, names, *cell) {
             Ok(()) => {}
             Err(fault) => return Err(fault),
         }
@@ -159,8 +194,15 @@ fn put_length<K: Sink>(
     ensures { Puts (K.seen out.old) (K.seen out.new) buffer.old buffer.new result (spelled (length_words names.now (length_at dual.now.lengths row))) }
 {
     let (cell, value) = dual.length(row);
-    let number = Word::number(value as u128);
-    buffer.put_line(out, LENGTH, &[names.cell_word(cell), number.bytes()])
+    match put_cell_front(buffer, out, LENGTH, names, cell) {
+        Ok(()) => {}
+        Err(fault) => return Err(fault),
+    }
+    match put_numbers(buffer, out, &[value]) {
+        Ok(()) => {}
+        Err(fault) => return Err(fault),
+    }
+    buffer.put(out, b"\n")
 }
 
 /// Puts the path rows.

@@ -1,11 +1,12 @@
 -- The network of rows that are not refused is within the limits.
 use Rattle.std.proofs.Common.{◌≡◌, ◌≢◌, ◌⊎◌, inl, inr, ℕ, ◌+◌, ◌-◌, ◌*◌, ◌/◌, ◌%◌, ◌^◌, ◌≤◌, ◌<◌, List, [], ◌∷◌, ◌++◌, map, Option, Some, None, true, false, Bool, arith, refl, ap, sym, subst, ◌∙◌, ◌==◌, ◌&&◌, ◌||◌, if◌then◌else◌, length, All, zero, suc, nat_lt, get_or}
 use Rattle.std.specs.List.{list_all, filter_map, flat_map, sum_by}
-use Rattle.mcf_limits.specs.declared.TheConstants.{MAX_TOTAL, MAX_UNITS}
+use Rattle.mcf_limits.specs.declared.TheConstants.{MAX_TOTAL, MAX_UNITS, MAX_LINKS, MAX_CELLS}
 use Rattle.std.proofs.lemmas.List.Sums.{sum_by-cons}
 use Rattle.std.proofs.lemmas.List.Folds.{list_all-append}
 use Rattle.std.proofs.lemmas.List.Elements.{All-cons, All-nil}
-use Rattle.std.proofs.Math.Nat.{mod-add-div'}
+use Rattle.std.proofs.lemmas.List.{length-append, length-map}
+use Rattle.std.proofs.Math.Nat.{mod-add-div', mul-suc}
 use Rattle.std.proofs.lemmas.Bool.{cases_lt}
 use Rattle.std.proofs.lemmas.Bool.Decides.{nat_tests}
 use Rattle.flow_model.specs.declared.net.Cell.{Cell}
@@ -15,9 +16,12 @@ use Rattle.sndlib_grammar.specs.Rows.{NetLink, NetDemand, NetRows, AreNetRows, I
 use Rattle.unit_scale.specs.ScaledFacts.{AreKeptRows}
 use Rattle.net_options.specs.declared.options.NetOptions.{NetOptions}
 use Rattle.unit_scale.specs.Sizes.{serves, AreDecimals, sizes, capacity, counted, amount, in_units, is_left_out}
-use Rattle.unit_scale.specs.Scaling.{first_line, first_large, is_large_link, is_large_demand, counted_units, kept_from, link_cells, cells_of_link, commodity_of, net_of}
+use Rattle.unit_scale.specs.Scaling.{first_line, first_large, is_large_link, is_large_demand, counted_units, kept_from, cell_going, link_cells, capacity_in, cells_of_link, commodity_of, net_of}
 use Rattle.net_options.specs.declared.modes.LinkMode.{LinkMode}
-use Rattle.net_options.specs.declared.modes.LinkMode.TheVariants.{Directed, Undirected}
+use Rattle.net_options.specs.declared.modes.LinkMode.TheVariants.{Directed, Undirected, Bidirected}
+use Rattle.net_options.specs.declared.modes.Sign.{Sign}
+use Rattle.net_options.specs.declared.modes.Sign.TheVariants.{Along, Against, Both}
+use Rattle.net_options.specs.Modes.{signs}
 
 bool_is : (b : Bool) → (b ≡ true) ⊎ (b ≡ false)
 bool_is true = inl refl
@@ -47,18 +51,43 @@ first_none : (b : Bool) (line : ℕ) (o : Option ℕ) → (if b then Some line e
 first_none true line o e = cc
 first_none false line o e = (refl, e)
 
+-- the cell that goes some way over a link with ends among the nodes
+cell_ok : (nodes source target cap : ℕ) → source < nodes → target < nodes → cap ≤ MAX_UNITS → (sign : Sign)
+    → IsCell nodes (cell_going source target cap sign)
+cell_ok nodes source target cap a b c Along = record { tail = a; head = b; cap = c }
+cell_ok nodes source target cap a b c Against = record { tail = b; head = a; cap = c }
+cell_ok nodes source target cap a b c Both = record { tail = a; head = b; cap = c }
+
 -- the cells of a link in front of others
-link_ok : (nodes : ℕ) (mode : LinkMode) (source target cap : ℕ) → source < nodes → target < nodes → cap ≤ MAX_UNITS → (cs : List Cell) → All (IsCell nodes) cs → All (IsCell nodes) (link_cells mode source target cap ++ cs)
-link_ok nodes Directed source target cap a b c cs h = All-cons (IsCell nodes) (record { tail = source; head = target; both = false; cap = cap }) cs (record { tail = a; head = b; cap = c }) h
-link_ok nodes Undirected source target cap a b c cs h = All-cons (IsCell nodes) (record { tail = source; head = target; both = true; cap = cap }) cs (record { tail = a; head = b; cap = c }) h
+going_ok : (nodes source target cap : ℕ) → source < nodes → target < nodes → cap ≤ MAX_UNITS → (ways : List Sign) (cs : List Cell)
+    → All (IsCell nodes) cs → All (IsCell nodes) (map (cell_going source target cap) ways ++ cs)
+going_ok nodes source target cap a b c [] cs h = h
+going_ok nodes source target cap a b c (sign ∷ ways) cs h =
+    All-cons (IsCell nodes) (cell_going source target cap sign) (map (cell_going source target cap) ways ++ cs)
+    (cell_ok nodes source target cap a b c sign) (going_ok nodes source target cap a b c ways cs h)
 
-one_cell : (mode : LinkMode) (source target cap : ℕ) (cs : List Cell) → length (link_cells mode source target cap ++ cs) ≡ suc (length cs)
-one_cell Directed source target cap cs = refl
-one_cell Undirected source target cap cs = refl
+-- a link has as many cells as there are ways to go over it
+pub link_count : (mode : LinkMode) (source target cap : ℕ) → length (link_cells mode source target cap) ≡ length (signs mode)
+link_count mode source target cap = length-map (signs mode) (cell_going source target cap)
 
-cell_count : (o : NetOptions) (s : ℕ) (ls : List NetLink) → length (flat_map (cells_of_link o s) ls) ≡ length ls
-cell_count o s [] = refl
-cell_count o s (l ∷ ls) = one_cell o.links l.source l.target (in_units s (capacity o.modules l)) (flat_map (cells_of_link o s) ls) ∙ ap suc (cell_count o s ls)
+one_link : (n k : ℕ) → n + n * k ≡ n * suc k
+one_link n k = omega arith ∙ sym (mul-suc n k)
+
+-- and so have all links together
+pub cell_count : (o : NetOptions) (s : ℕ) (ls : List NetLink)
+    → length (flat_map (cells_of_link o s) ls) ≡ length (signs o.links) * length ls
+cell_count o s [] = omega arith
+cell_count o s (l ∷ ls) =
+    let here : length (cells_of_link o s l) ≡ length (signs o.links) = link_count o.links l.source l.target (capacity_in o s l) in
+    let next : length (signs o.links) + length (signs o.links) * length ls ≡ length (signs o.links) * length (l ∷ ls) =
+    one_link (length (signs o.links)) (length ls) in
+    omega (arith, length-append (cells_of_link o s l) (flat_map (cells_of_link o s) ls), here, next, cell_count o s ls)
+
+-- so few links have cells within the limit
+cells_fit : (mode : LinkMode) (links : ℕ) → links ≤ MAX_LINKS → length (signs mode) * links ≤ MAX_CELLS
+cells_fit Directed links h = omega arith
+cells_fit Undirected links h = omega arith
+cells_fit Bidirected links h = omega arith
 
 cells_ok : (nodes : ℕ) (o : NetOptions) (s : ℕ) (ls : List NetLink) → All (IsNetLink nodes) ls → first_line (is_large_link o.modules s) (λ l. l.line) ls ≡ None → All (IsCell nodes) (flat_map (cells_of_link o s) ls)
 cells_ok nodes o s [] a e = All-nil (IsCell nodes)
@@ -66,7 +95,7 @@ cells_ok nodes o s (l ∷ ls) a e =
     let f = first_none (is_large_link o.modules s l) l.line (first_line (is_large_link o.modules s) (λ l. l.line) ls) e in
     let n = or_no _ _ f.0 in
     let h = head_of (IsNetLink nodes) l ls a in
-    link_ok nodes o.links l.source l.target (in_units s (capacity o.modules l)) h.source h.target (not_over MAX_UNITS (in_units s (capacity o.modules l)) n.1) (flat_map (cells_of_link o s) ls) (cells_ok nodes o s ls (rest_of (IsNetLink nodes) l ls a) f.1)
+    going_ok nodes l.source l.target (capacity_in o s l) h.source h.target (not_over MAX_UNITS (capacity_in o s l) n.1) (signs o.links) (flat_map (cells_of_link o s) ls) (cells_ok nodes o s ls (rest_of (IsNetLink nodes) l ls a) f.1)
 
 none_units : (r q u n : ℕ) → r ≡ 0 → r + q * u ≡ n → q ≤ 0 → n ≡ 0
 none_units r q u n z d h = let e : q ≡ 0 = omega arith in rw e at (sym d) ∙ omega arith
@@ -131,7 +160,7 @@ network_ok rows o s a d n m some =
     let v = and_all _ _ (sym (list_all-append (serves s) (map (capacity o.modules) rows.links) (map counted rows.demands)) ∙ d.serve) in
     record {
       nodes = a.node_count;
-      cell_count = omega (arith, a.link_count, cell_count o s rows.links);
+      cell_count = omega (arith, cells_fit o.links (length rows.links) a.link_count, cell_count o s rows.links);
       commodity_count = omega (arith, a.demand_count, count_ok s rows.demands);
       some = some;
       cells = cells_ok (length rows.nodes) o s rows.links a.links n;

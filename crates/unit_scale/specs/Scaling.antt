@@ -1,5 +1,5 @@
 -- The network that rows stand for, or why there is none.
-use Rattle.std.specs.Prelude.{◌≡◌, ℕ, ◌+◌, Bool, false, true, List, [], ◌∷◌, length, count_by, Option, Some, None, Result, Ok, Err, ◌||◌, if◌then◌else◌, nat_lt}
+use Rattle.std.specs.Prelude.{◌≡◌, ℕ, ◌+◌, Bool, false, true, List, [], ◌∷◌, length, map, count_by, Option, Some, None, Result, Ok, Err, ◌||◌, if◌then◌else◌, nat_lt}
 use Rattle.std.specs.Option.{is_some, option_map}
 use Rattle.std.specs.List.{list_all, list_any, filter_map, flat_map}
 use Rattle.flow_model.specs.declared.net.Cell.{Cell}
@@ -16,24 +16,40 @@ use Rattle.unit_scale.specs.Sizes.{AreDecimals, decimals_of, sizes, in_units, ca
 use Rattle.net_options.specs.declared.options.NetOptions.{NetOptions}
 use Rattle.net_options.specs.declared.modes.ModuleMode.{ModuleMode}
 use Rattle.net_options.specs.declared.modes.LinkMode.{LinkMode}
-use Rattle.net_options.specs.declared.modes.LinkMode.TheVariants.{Directed, Undirected}
+use Rattle.net_options.specs.declared.modes.Sign.{Sign}
+use Rattle.net_options.specs.declared.modes.Sign.TheVariants.{Along, Against, Both}
+use Rattle.net_options.specs.Modes.{signs}
 
 -- ---- the network, with this number of decimals
 
--- the cells of a link with these ends and this capacity
+-- the cell of this capacity that goes that way over a link with these ends
+abbrev pub cell_going : ℕ → ℕ → ℕ → Sign → Cell
+cell_going source target cap Along = record { tail = source; head = target; both = false; cap = cap }
+cell_going source target cap Against = record { tail = target; head = source; both = false; cap = cap }
+cell_going source target cap Both = record { tail = source; head = target; both = true; cap = cap }
+
+-- the cells of a link with these ends, each with the whole capacity
 abbrev pub link_cells : LinkMode → ℕ → ℕ → ℕ → List Cell
-link_cells Directed source target cap = record { tail = source; head = target; both = false; cap = cap } ∷ []
-link_cells Undirected source target cap = record { tail = source; head = target; both = true; cap = cap } ∷ []
+link_cells mode source target cap = map (cell_going source target cap) (signs mode)
+
+-- the capacity of a link, with this many decimals
+abbrev pub capacity_in : NetOptions → ℕ → NetLink → ℕ
+capacity_in o s l = in_units s (capacity o.modules l)
 
 -- the cells of a link, with this many decimals
 abbrev pub cells_of_link : NetOptions → ℕ → NetLink → List Cell
-cells_of_link o s l = link_cells o.links l.source l.target (in_units s (capacity o.modules l))
+cells_of_link o s l = link_cells o.links l.source l.target (capacity_in o s l)
 
 abbrev pub commodity_of : ℕ → NetDemand → Option Commodity
 commodity_of s d = if is_left_out d then None else Some (record { from = d.source; to = d.target; amount = in_units s (amount d) })
 
+-- the network of the rows, with this many decimals
 abbrev pub net_of : NetOptions → ℕ → NetRows → Network
-net_of o s rows = record { nodes = length rows.nodes; cells = flat_map (cells_of_link o s) rows.links; commodities = filter_map (commodity_of s) rows.demands }
+net_of o s rows = record {
+  nodes = length rows.nodes;
+  cells = flat_map (cells_of_link o s) rows.links;
+  commodities = filter_map (commodity_of s) rows.demands;
+}
 
 -- the numbers of the demands that are not left out, the first of which has the number n
 abbrev pub kept_from : ℕ → List NetDemand → List ℕ

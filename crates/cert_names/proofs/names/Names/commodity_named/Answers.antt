@@ -1,14 +1,19 @@
-use Rattle.std.proofs.Common.{ap, sym, ◌∙◌}
+use Rattle.std.proofs.Common.{List, ℕ, ap, sym, ◌∙◌}
 use Rattle.cert_names.specs.Sheet.{Sheet, place_of}
-use Rattle.cert_names.proofs.Looked.{commodity_found, commodity_none}
+use Rattle.cert_names.proofs.Looked.{commodities_are, commodity_found, commodity_none}
 use Rattle.cert_names.proofs.names.Names.commodity_named.Goals as goal
 
 pub returns-in-Some : goal.returns-in-Some
 returns-in-Some c =
-    let found = commodity_found c.self.inside.rows.now c.self.inside.net.now c.self.invariant c.args.word.now c.in-Some.demand (sym c.demand_named.ensures ∙ c.in-Some.is) in
-    c.commodity_of.ensures ∙ found ∙ ap (λ (s : Sheet). place_of s.commodities c.args.word.now) c.self.view_is
+    let at = c.self.inside in
+    let found = commodity_found at.rows.now at.net.now c.self.invariant c.args.word.now c.in-Some.demand (sym c.demand_named.ensures ∙ c.in-Some.is) in
+    c.commodity_of.ensures ∙ found
+    ∙ ap (λ (ws : List (List ℕ)). place_of ws c.args.word.now) (commodities_are at.rows.now at.net.now at.form)
+    ∙ ap (λ (s : Sheet). place_of s.commodities c.args.word.now) c.self.view_is
 
 pub returns-in-None : goal.returns-in-None
 returns-in-None c =
-    commodity_none c.self.inside.rows.now c.self.inside.net.now c.self.invariant c.args.word.now (sym c.demand_named.ensures ∙ c.in-None.is)
+    let at = c.self.inside in
+    commodity_none at.rows.now at.net.now c.self.invariant c.args.word.now (sym c.demand_named.ensures ∙ c.in-None.is)
+    ∙ ap (λ (ws : List (List ℕ)). place_of ws c.args.word.now) (commodities_are at.rows.now at.net.now at.form)
     ∙ ap (λ (s : Sheet). place_of s.commodities c.args.word.now) c.self.view_is

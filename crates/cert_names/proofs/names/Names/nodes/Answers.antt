@@ -4,4 +4,6 @@ use Rattle.cert_names.proofs.Looked.{within}
 use Rattle.cert_names.proofs.names.Names.nodes.Goals as goal
 
 pub returns-clause-within : goal.returns-clause-within
-returns-clause-within c = subst IsWithin c.self.view_is (within c.self.inside.rows.now c.self.inside.net.now c.self.invariant)
+returns-clause-within c =
+    let at = c.self.inside in
+    subst IsWithin c.self.view_is (within at.rows.now at.net.now at.form c.self.invariant)

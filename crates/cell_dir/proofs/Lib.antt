@@ -1,0 +1,5 @@
+pub mod Parts
+pub mod Cells
+pub mod Links
+pub mod Named
+mod Examples

@@ -1,0 +1,18 @@
+use Rattle.std.proofs.Common.{◌≡◌, ◌∷◌, [], sym, ap}
+use Rattle.std.specs.Prelude.{codes}
+use Rattle.std.specs.Fmt.{decimal}
+use Rattle.cert_names.specs.Sheet.{cell_word}
+use Rattle.flow_paths.specs.DualRows.{length_at}
+use Rattle.cert_writer.proofs.LinePuts.{row_front_stops, row_more_stops, row_put}
+use Rattle.cert_writer.proofs.writing.put_length.Goals as goal
+
+pub returns-in-Err : goal.returns-in-Err
+returns-in-Err g c =
+    let row = length_at c.args.dual.now.lengths c.args.row in
+    row_front_stops _ _ _ _ c.in-Err.fault (codes "length") (cell_word c.args.names.now row.cell ∷ []) (decimal row.value ∷ []) ?
+
+pub returns-in-Err-put_numbers : goal.returns-in-Err-put_numbers
+returns-in-Err-put_numbers g c = ?
+
+pub returns : goal.returns
+returns g c = ?
