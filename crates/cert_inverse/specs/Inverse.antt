@@ -1,4 +1,5 @@
--- The texts of certificates and routings in both forms, and what they must cite so that they are read as what was written.
+-- The texts of certificates and routings in both forms, and what they must cite so that they are
+-- read as what was written.
 use Rattle.std.specs.Prelude.{◌≡◌, ℕ, ◌+◌, ◌≤◌, List, [], ◌∷◌, length, Option, None, Result, Ok, Err, codes}
 use Rattle.std.specs.Option.{option_map}
 use Rattle.std.specs.List.{AllByRecursion}
@@ -57,7 +58,8 @@ pub record AreCounts (counts : List ℕ) : Type 0 where
   pub seven : length counts ≡ 7
   pub within : AllByRecursion (λ n. n ≤ MAX_COUNT) counts
 
--- what a text cites can be told apart in it: words that are distinct and clean, and seven counts within their limit
+-- what a text cites can be told apart in it: words that are distinct and clean, and seven counts
+-- within their limit
 pub record IsCitable (sheet : Sheet) : Type 0 where
   pub clear : IsClear sheet
   pub counts : AreCounts sheet.counts
@@ -70,7 +72,8 @@ pub record AreCitable (sheets : Sheets) : Type 0 where
 
 -- ---- what a text is of
 
--- the text is that of this certificate or routing in this form, which has a word for how links are read, and its limits are kept
+-- the text is that of this certificate or routing in this form, which has a word for how links are
+-- read, and its limits are kept
 pub record IsPaperText (sheets : Sheets) (form : Form) (text : List ℕ) (paper : Paper) : Type 0 where
   pub worded : HasLinkWord (sheet_for sheets form)
   pub fits : FitsPaper (sheet_for sheets form) paper
@@ -93,7 +96,12 @@ kind_of (Full p) = kinds.Certificate
 
 -- what the first lines of its text say: the kind, the form and the options
 abbrev pub head_of : Form → NetOptions → Paper → CertHead
-head_of form options paper = record { kind = kind_of paper; form = form; links = options.links; modules = options.modules }
+head_of form options paper = record {
+  kind = kind_of paper;
+  form = form;
+  links = options.links;
+  modules = options.modules;
+}
 
 -- what reading the first lines answers where it refuses nothing
 abbrev pub read_head : CertHead → Result CertHead CertRefusal
@@ -101,7 +109,8 @@ read_head head = Ok head
 
 -- ---- what is answered
 
--- the answer is the certificate or routing of which this is the text, and a refusal where it is the text of none; want of memory says nothing
+-- the answer is the certificate or routing of which this is the text, and a refusal where it is the
+-- text of none; want of memory says nothing
 abbrev pub IsReading : Sheets → List ℕ → Result Paper CertEnd → Type 0
 IsReading sheets text (Ok paper) = IsTextOf sheets text paper
 IsReading sheets text (Err (Refused refusal)) = (paper : Paper) → ¬ (IsTextOf sheets text paper)

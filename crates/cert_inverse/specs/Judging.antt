@@ -22,7 +22,8 @@ valid_of net p = Valid net.options p.closed (lower_of p.routing) (upper_of net.n
 abbrev pub feasible_of : ScaledNet → Routing → Judged
 feasible_of net r = Feasible net.options (lower_of r)
 
--- the text is that of a valid certificate for the network of the rows, in one of the forms; it can be written in form 2, and this is said of it
+-- the text is that of a valid certificate for the network of the rows, in one of the forms; it can
+-- be written in form 2, and this is said of it
 pub record IsValidText (rows : NetRows) (text : List ℕ) (judged : Judged) : Type 0 where
   pub net : ScaledNet
   pub proof : Proof
@@ -34,7 +35,8 @@ pub record IsValidText (rows : NetRows) (text : List ℕ) (judged : Judged) : Ty
   pub certified : IsCertified net.net proof
   pub said : judged ≡ valid_of net proof
 
--- the text is that of a routing that is feasible for the network of the rows, in one of the forms; it can be written in form 2, and this is said of it
+-- the text is that of a routing that is feasible for the network of the rows, in one of the forms;
+-- it can be written in form 2, and this is said of it
 pub record IsFeasibleText (rows : NetRows) (text : List ℕ) (judged : Judged) : Type 0 where
   pub net : ScaledNet
   pub routing : Routing

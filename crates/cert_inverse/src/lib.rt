@@ -1,5 +1,5 @@
-//! Texts of certificates and routings both ways: what is written is read and judged as the same, and what is read was
-//! written so.
+//! Texts of certificates and routings both ways: what is written is read and judged as the same,
+//! and what is read was written so.
 #![tactic(auto)]
 
 mod judging;

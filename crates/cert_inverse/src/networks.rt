@@ -11,12 +11,15 @@ ghost use Rattle.cert_inverse.specs.Inverse.{AreCitable, IsCitable};
 use sndlib_read::RawNet;
 use unit_scale::Scaled;
 
-/// What texts cite of a network that is scaled can be told apart in them, where the skipped sections can be counted: in form
-/// 2 always, and in form 1 where links are not bidirected.
+/// What texts cite of a network that is scaled can be told apart in them, where the skipped
+/// sections can be counted: in form 2 always, and in form 1 where links are not bidirected.
 pub fn networks_are_citable()
-    ensures new { (rows : NetRows) (net : ScaledNet) → IsOf rows net → rows.skipped ≤ MAX_COUNT → IsCitable (sheet_of rows net) }
-    ensures old { (rows : NetRows) (net : ScaledNet) → IsOf rows net → rows.skipped ≤ MAX_COUNT → net.options.links ≢ Bidirected → IsCitable (old_sheet_of rows net) }
-    ensures both { (rows : NetRows) (net : ScaledNet) → IsOf rows net → rows.skipped ≤ MAX_COUNT → AreCitable (sheets_of rows net) }
+    ensures new { (rows : NetRows) (net : ScaledNet) → IsOf rows net → rows.skipped ≤ MAX_COUNT
+        → IsCitable (sheet_of rows net) }
+    ensures old { (rows : NetRows) (net : ScaledNet) → IsOf rows net → rows.skipped ≤ MAX_COUNT
+        → net.options.links ≢ Bidirected → IsCitable (old_sheet_of rows net) }
+    ensures both { (rows : NetRows) (net : ScaledNet) → IsOf rows net → rows.skipped ≤ MAX_COUNT
+        → AreCitable (sheets_of rows net) }
 {}
 
 /// The same of a network text that was read, of which the skipped sections are counted.

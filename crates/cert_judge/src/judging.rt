@@ -73,7 +73,8 @@ fn on_paper(
     requires rows { AreNetRows rows.now }
     requires net { scaled_of rows.now options ≡ Ok net.now }
     requires text { length text.now ≤ MAX_CERT_BYTES }
-    ensures { IfOk result (OnPaper options net.now.net (paper_in (sheets_of rows.now net.now) (lines_of text.now))) }
+    ensures { IfOk result (OnPaper options net.now.net
+        (paper_in (sheets_of rows.now net.now) (lines_of text.now))) }
 {
     papers_fit();
     match read_cert(alloc, rows, net, text) {
@@ -84,8 +85,8 @@ fn on_paper(
     }
 }
 
-/// What is said of a certificate's or a routing's text on the rows of a network: the first refusal, the first condition that
-/// fails, or that it stands.
+/// What is said of a certificate's or a routing's text on the rows of a network: the first refusal,
+/// the first condition that fails, or that it stands.
 pub fn judge(alloc: Global, rows: &RawNet<'_>, text: &[u8]) -> Result<Judged, AllocError>
     requires rows { AreNetRows rows.now }
     requires text { length text.now ≤ MAX_CERT_BYTES }
