@@ -13,4 +13,4 @@ sign_marked b = if b == 43 then Some Along else (if b == 45 then Some Against el
 abbrev pub marked_cell : LinkMode → ℕ → Option ℕ → Option ℕ
 marked_cell mode mark link =
     option_and_then (λ sign. option_and_then (λ l. cell_of mode (record { link = l; sign = sign })) link)
-        (sign_marked mark)
+    (sign_marked mark)

@@ -158,7 +158,11 @@ fn next_scale<'a>(place: Place<'a>) -> Result<((u64, u64), Place<'a>), CertEnd>
 
 /// A fraction whose parts are up to that limit, and its decimals, behind that keyword.
 #[tactic(auto, using(crate::proofs::LineSteps::has_line), unfolding(crate::specs::Reading::next_line))]
-pub fn next_value<'a>(key: &[u8], most: u128, place: Place<'a>) -> Result<(Printed, Place<'a>), CertEnd>
+pub fn next_value<'a>(
+    key: &[u8],
+    most: u128,
+    place: Place<'a>,
+) -> Result<(Printed, Place<'a>), CertEnd>
     requires place { HasRoom place }
     requires most { most ≤ MAX_PART }
     ensures exact { Gives (λ x. (x.0, place_view x.1)) result (next_line (value_line key.now most) (place_view place.entry)) }

@@ -12,7 +12,9 @@ use crate::place::{Place, split};
 use cert_lines::{CertKind, CertRefusal, is_fixed, one_behind, verdict_line};
 use cert_names::Form;
 use mcf_limits::MAX_CERT_BYTES;
-use net_options::{LinkMode, ModuleMode, NetOptions, link_mode_of, module_mode_of, old_link_mode_of};
+use net_options::{
+    LinkMode, ModuleMode, NetOptions, link_mode_of, module_mode_of, old_link_mode_of,
+};
 
 /// What a text is of: a certificate, or a routing alone.
 #[derive(Clone, Copy, Debug, PartialEq, Eq)]

@@ -21,11 +21,7 @@ fn verdict_word(closed: bool) -> &'static [u8]
 }
 
 // Puts the first line.
-fn put_form<'a, K: Sink>(
-    buffer: &mut Buffer,
-    out: &mut K,
-    form: &'a [u8],
-) -> Result<(), WriteFault>
+fn put_form<'a, K: Sink>(buffer: &mut Buffer, out: &mut K, form: &'a [u8]) -> Result<(), WriteFault>
     ensures { Puts (K.seen out.old) (K.seen out.new) buffer.old buffer.new result (text_of ((codes "mcf-certificate" ∷ form.now ∷ []) ∷ [])) }
 {
     let first: [&'a [u8]; 2] = [b"mcf-certificate", form];
