@@ -5,13 +5,14 @@ from __future__ import annotations
 import os
 from fractions import Fraction
 
-from mcf_texts import Program, load_text, loads, read_network, read_routing, scale
+from mcf_texts import Cell, Program, ScaledNetwork, load_text, loads, read_network, read_routing, scale
 
 from .words import shown
 
 # larger files would take longer than a hint is worth
 MOST_BYTES = 32 << 20
 SECONDS = 10.0
+_WAYS = {"+": " along its direction", "-": " against its direction"}
 
 
 def fullest(program: str, net: str, routing: str) -> str | None:
@@ -29,8 +30,7 @@ def fullest(program: str, net: str, routing: str) -> str | None:
     if not filled:
         return None
     fit, number, load = min(filled)
-    name = shown(scaled.words(text.form)[number].encode("latin-1").decode("utf-8", "surrogateescape"))
-    capacity = scaled.cells[number].capacity
+    name, capacity = _name(scaled, scaled.cells[number]), scaled.cells[number].capacity
     if not capacity:
         return f"link {name} has no capacity and paths go over it, so no scale above 0 fits"
     if not text.scale_load:
@@ -39,6 +39,12 @@ def fullest(program: str, net: str, routing: str) -> str | None:
     carries = scaled.in_file_unit(load * Fraction(text.scale_capacity, text.scale_load))
     return (f"link {name} is the fullest, with {_decimal(carries)} on a capacity of {_decimal(scaled.in_file_unit(capacity))}; "
             f"the greatest scale that fits is {capacity} {load}, which carries {_decimal(text.phases * fit)} of each demand")
+
+
+def _name(scaled: ScaledNetwork, cell: Cell) -> str:
+    """The id of a cell's link, and which way of it the cell is where a link has two."""
+    name = scaled.network.links[cell.link].id.encode("latin-1").decode("utf-8", "surrogateescape")
+    return shown(name) + (_WAYS[cell.sign] if scaled.links == "bidirected" else "")
 
 
 def _decimal(value: Fraction) -> str:

@@ -52,11 +52,14 @@ TABLE = (
          "this is no certificate: another file, a routing, which whatif does not take, or line ends as on Windows, which sed "
          "'s/\\r$//' mends", of="whatif"),
     _row("refused cert K1 line 1",
+         "this is no certificate: another file, a routing, which upgrade does not take, or line ends as on Windows, which sed "
+         "'s/\\r$//' mends", of="upgrade"),
+    _row("refused cert K1 line 1",
          "this is no certificate and no routing: mostly another file, or line ends as on Windows, which sed 's/\\r$//' mends"),
     _row("refused cert K2 line N", f"the line has not the form that is due there, {_EDITED}"),
     _row("refused cert K3 line N",
-         "the network has no demand, link or node of that name (a demand of amount 0 is left out), mostly since it is another "
-         "network"),
+         "the network has no demand, link or node of that name, mostly since it is another network; in form 2 a sign stands "
+         "before each link's id, one that the links have (a demand of amount 0 is left out)"),
     _row("refused cert K4 line N", f"a word is no number of a certificate's form, as one with a zero in front, {_EDITED}"),
     _row("refused cert K5 line N", f"a number is over its limit or a path has more than 511 links, {_EDITED}"),
     _row("refused cert K6 line 5",
@@ -66,7 +69,7 @@ TABLE = (
          "the certificate is over 1 GiB, mostly of very many phases: ask for a greater gap, or for fewer phases"),
     _row("refused script S1 line N",
          "a command has to stand there: set, add, sub, close or show, with a link and a number; mostly a word is missing"),
-    _row("refused script S2 line N", "the network has no such link, mostly by a misspelt id"),
+    _row("refused script S2 line N", "the network has no such link, mostly by a misspelt id, or with a sign, which scripts do not take"),
     _row("refused script S3 line N", "a word that has to be a number is none, as +20% or 0,5"),
     _row("refused script S4 line N",
          "a number has more decimals than the certificate's line 5 tells, mostly one that was computed: round it"),
@@ -75,7 +78,7 @@ TABLE = (
     _row("refused script TooLong", "the script is over 1 MiB: cut it in two"),
     _row("invalid C1",
          "a path is no walk from its demand's source to its target, mostly by links out of order, or against their way where "
-         "links are directed", 3, "routing"),
+         "links are directed or a cell goes one way", 3, "routing"),
     _row("invalid C1", f"a path is no walk from its demand's source to its target, {_OTHER}"),
     _row("invalid C2",
          "the weights of a demand do not sum to phases times its amount in whole units, mostly by a path that is missing or by "
@@ -86,7 +89,7 @@ TABLE = (
     _row("invalid C3", f"a link carries more than its capacity at this scale, {_OTHER}"),
     _row("invalid C4", "the second number of the scale is 0, and has to be a load above 0", 3, "routing"),
     _row("invalid C4", f"the second number of the scale is 0, {_EDITED}"),
-    _row("invalid C5", f"a link has no length or has two, {_EDITED}"),
+    _row("invalid C5", f"a link, or one way of it, has no length or has two, {_EDITED}"),
     _row("invalid C6", f"a source of demands has no row of potentials or two, or another node has one, {_EDITED}"),
     _row("invalid C7", f"a link raises a potential by more than its length, {_OTHER}"),
     _row("invalid C8", f"no demand has a potential that rises from its source to its target, {_EDITED}"),

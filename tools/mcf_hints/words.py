@@ -8,7 +8,7 @@ from collections.abc import Callable, Iterator
 from dataclasses import dataclass
 from fractions import Fraction
 
-MODES = {"--links": ("directed", "undirected"), "--modules": ("none", "largest", "sum")}
+MODES = {"--links": ("directed", "undirected", "bidirected"), "--modules": ("none", "largest", "sum")}
 RANGES = {"--phases": (1, 65_536), "--workers": (1, 16), "--step": (1, 1_048_576)}
 OPTIONS = ("--links", "--modules", "--gap", "--phases", "--workers", "--step")
 FILES = ("NET", "CERT", "SCRIPT")
@@ -30,6 +30,7 @@ COMMANDS = {
     "solve": Command(FILES[:1], OPTIONS),
     "check": Command(FILES[:2]),
     "whatif": Command(FILES),
+    "upgrade": Command(FILES[:2]),
     "print": Command(FILES[:1]),
     "gen": Command(tuple(DRAWN)),
     "trial": Command(tuple(DRAWN), OPTIONS),

@@ -107,6 +107,17 @@ def change_name(draw: random.Random, lines: list[str]) -> None:
     lines[at] = " ".join(words)
 
 
+def change_sign(draw: random.Random, lines: list[str]) -> None:
+    """Another sign in front of a cell, none, or one more."""
+    at = _line(draw, lines, "path", "length")
+    words = lines[at].split(" ")
+    places = [i for i, word in enumerate(words) if i and word[:1] in ("+", "-", "=")]
+    if places:
+        place = draw.choice(places)
+        words[place] = draw.choice(("+", "-", "=", "", "++", "-=")) + words[place][1:]
+    lines[at] = " ".join(words)
+
+
 def change_length(draw: random.Random, lines: list[str]) -> None:
     """A greater, smaller or vanishing length."""
     _scale(draw, lines, "length")
@@ -135,7 +146,7 @@ def _scale(draw: random.Random, lines: list[str], keyword: str) -> None:
 def flip_head(draw: random.Random, lines: list[str]) -> None:
     """Another verdict, mode, choice of modules, form, gap, number of phases, scale or bound."""
     old, new = draw.choice((("verdict closed", "verdict open"), ("verdict open", "verdict closed"), ("links undirected", "links directed"),
-                            ("links directed", "links undirected"), ("links undirected", "links bidirected"),
+                            ("links directed", "links undirected"), ("links undirected", "links bidirected"), ("links bidirected", "links directed"),
                             ("modules largest", "modules none"), ("modules none", "modules sum"), ("certificate 1", "certificate 2"),
                             ("certificate 2", "certificate 1"), ("mcf-certificate", "mcf-routing"), ("gap 0.0", "gap 0.1"),
                             ("gap 0", "gap 1001"), ("phases ", "phases 1"), ("skipped ", "skipped 1")))
@@ -160,5 +171,5 @@ def no_lengths(draw: random.Random, lines: list[str]) -> None:
 
 
 CHANGES: tuple[Change, ...] = (change_number, change_number, change_spelling, change_line_order, drop_line, repeat_line, move_weight,
-                               move_weight, swap_cells, change_name, change_length, change_potential, flip_head, flip_head, scale_all,
+                               move_weight, swap_cells, change_name, change_sign, change_length, change_potential, flip_head, flip_head, scale_all,
                                no_lengths)

@@ -10,7 +10,7 @@ import numpy as np
 import pytest
 
 from certify_lp import clp, run
-from certify_lp.build import gap_of
+from certify_lp.build import gap_of, in_form
 from certify_lp.path_lp import PathProgram, Pool, complete
 from certify_lp.prices import Bounds, over_all_paths
 from certify_lp.problem import Arcs, pairs_of
@@ -72,7 +72,7 @@ def test_odd_networks(program: Program, root: Path, tmp_path: Path, seed: int) -
     net = tmp_path / "net"
     network = odd_network(seed)
     save_text(net, write_network(network))
-    for links, modules in (("undirected", "largest"), ("directed", "none")):
+    for links, modules in (("undirected", "largest"), ("directed", "none"), ("bidirected", "sum")):
         result = certify(program, asked(net, links=links, modules=modules))
         assert result.trouble is None and result.closed
         assert result.line == twice(root, net, result.text, tmp_path)
@@ -112,6 +112,7 @@ def test_begins_from_a_certificate_and_from_a_routing(program: Program, root: Pa
     net = root / "examples/triangle.net"
     from_cert = certify(program, asked(net, start=str(root / "examples/triangle.cert")))
     assert bounds(read_certificate(from_cert.text)) == (Fraction(4, 3), Fraction(4, 3))
+    assert from_cert.text.startswith(f"mcf-certificate {program.form}\n")
     from_routing = certify(program, asked(net, start=str(root / "examples/triangle.routing")))
     certificate = read_certificate(from_routing.text)
     assert certificate.modules == "none", "the routing's own"
@@ -122,6 +123,16 @@ def test_begins_from_a_certificate_and_from_a_routing(program: Program, root: Pa
     save_text(bad, load_text(root / "examples/triangle.cert").replace("368", "369"))
     with pytest.raises(TextError, match="invalid C2"):
         certify(program, asked(net, start=str(bad)))
+
+
+def test_a_start_in_form_1_becomes_one_in_form_2(program: Program, root: Path) -> None:
+    net = root / "examples/one-link.net"
+    assert certify(program, asked(net, start=str(root / "examples/one-link.cert"))).text.split("\n")[0] == "mcf-certificate 2"
+    both = certify(program, asked(root / "examples/both-ways.net", start=str(root / "examples/both-ways.cert")))
+    assert bounds(read_certificate(both.text)) == (Fraction(2), Fraction(2)) and both.line.startswith("valid closed bidirected ")
+    old = read_certificate(load_text(root / "examples/one-link.cert"))
+    upgraded = program.ask("upgrade", str(net), str(root / "examples/one-link.cert"))
+    assert upgraded == write_certificate(in_form(scale(program.network(net), "directed"), old, 2))
 
 
 def test_walks_with_round_trips_are_cut_short() -> None:

@@ -57,11 +57,25 @@ def bases(program: Program, root: Path, tmp_path_factory: pytest.TempPathFactory
     save_text(mixed, NET)
     save_text(split, SPLIT)
     found = [(root / "examples" / f"{name}.net", load_text(root / "examples" / f"{name}.{kind}"))
-             for name, kind in (("triangle", "cert"), ("triangle", "routing"), ("polska", "cert"), ("one-link", "routing"))]
+             for name, kind in (("triangle", "cert"), ("triangle", "routing"), ("polska", "cert"), ("one-link", "routing"),
+                                ("one-link", "cert"), ("both-ways", "cert"))]
     for file, options in ((mixed, ("--modules", "sum")), (mixed, ("--links", "directed", "--modules", "none", "--phases", "3", "--gap", "0")),
-                          (mixed, ("--gap", "0.01")), (split, ("--links", "directed")), (root / "examples/nobel-us.net", ("--gap", "0.3"))):
+                          (mixed, ("--gap", "0.01")), (split, ("--links", "directed")), (root / "examples/nobel-us.net", ("--gap", "0.3")),
+                          (mixed, ("--links", "bidirected", "--gap", "0.02")), (split, ("--links", "bidirected"))):
         found.append((file, program.solve(file, "--workers", "1", *options)))
-    return found
+    return found + [(net, in_form_1(text)) for net, text in found if "links bidirected" not in text]
+
+
+def in_form_1(text: str) -> str:
+    """A text of form 2 in form 1, in which links stand without signs."""
+    lines = text.replace(" 2\n", " 1\n", 1).split("\n")
+    for at, line in enumerate(lines):
+        words = line.split(" ")
+        if words[0] in ("path", "length"):
+            cells = {"path": slice(3, None), "length": slice(1, 2)}[words[0]]
+            words[cells] = [word.lstrip("+=") for word in words[cells]]
+        lines[at] = " ".join(words)
+    return "\n".join(lines)
 
 
 def judged(program: Program, root: Path, room: Path, net: Path, text: str) -> tuple[str, str]:
@@ -113,7 +127,8 @@ def test_damaged_texts_are_judged_alike(program: Program, root: Path, bases: lis
 def test_networks_are_read_alike(program: Program, root: Path, tmp_path: Path, old: str, new: str) -> None:
     net = tmp_path / "net"
     assert old in NET
-    for options in (("--links", "undirected", "--modules", "none"), ("--links", "directed", "--modules", "largest")):
+    for options in (("--links", "undirected", "--modules", "none"), ("--links", "directed", "--modules", "largest"),
+                    ("--links", "bidirected", "--modules", "sum")):
         save_text(net, NET)
         text = program.solve(net, "--workers", "1", "--phases", "2", *options)
         save_text(net, NET.replace(old, new, 1))

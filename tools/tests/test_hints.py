@@ -35,7 +35,7 @@ DEMANDS (
 # -- words
 
 MISFITS = [
-    ("", "a command has to stand there: solve, check, whatif, print, gen or trial"),
+    ("", "a command has to stand there: solve, check, whatif, upgrade, print, gen or trial"),
     ("slove n", "`slove` is no command; perhaps solve"),
     ("Solve n", "`Solve` is no command; perhaps solve"),
     ("help slove", "`slove` is no command; perhaps solve"),
@@ -43,6 +43,8 @@ MISFITS = [
     ("solve", "NET is missing at the end"),
     ("check n", "CERT is missing at the end: check takes NET CERT"),
     ("whatif n", "CERT and SCRIPT is missing"),
+    ("upgrade n", "CERT is missing at the end: upgrade takes NET CERT"),
+    ("upgrade a b --links=bidirected", "`--links` is no option of upgrade, which takes none"),
     ("gen 1 2 2", "DEMANDS is missing at the end"),
     ("solve a b", "`b` is one word too many"),
     ("print a --links directed", "`--links` is no option of print, which takes none"),
@@ -61,7 +63,7 @@ MISFITS = [
     ("solve n --phases 0", "`0` is no value of --phases"),
     ("solve n --workers 17", "`17` is no value of --workers, which is a whole number from 1 to 16"),
     ("solve n --step 1048577", "`1048577` is no value of --step"),
-    ("solve n --links both", "`both` is no value of --links, which is directed or undirected"),
+    ("solve n --links both", "`both` is no value of --links, which is directed, undirected or bidirected"),
     ("solve n --links --gap", "`--gap` is no value of --links"),
     ("solve n --modules --", "`--` is no value of --modules, which is none, largest or sum"),
     ("solve -- --gap 0.1", "`0.1` is one word too many"),
@@ -75,7 +77,7 @@ MISFITS = [
 FITS = [
     "solve n", "solve -", "solve -- --gap", "solve -- -- ", "solve --gap 0.05 n", "solve n --gap=1e3 --phases=0001 --workers 16",
     "solve n --gap 5e-6", "print x", "whatif a b c", "gen 18446744073709551615 2 2 1", "gen 007 512 4096 32768",
-    "trial 1 2 2 1 --step 1048576 --links=directed --modules sum",
+    "trial 1 2 2 1 --step 1048576 --links=directed --modules sum", "solve n --links bidirected", "upgrade a b",
 ]
 
 
@@ -98,7 +100,7 @@ def test_usage_of_words_that_fit_here_is_told_without_a_word() -> None:
 
 
 GOOD = {
-    "--links": ["directed", "undirected"], "--modules": ["none", "largest", "sum"], "--workers": ["1", "16"],
+    "--links": ["directed", "undirected", "bidirected"], "--modules": ["none", "largest", "sum"], "--workers": ["1", "16"],
     "--step": ["1", "1048576"], "--gap": ["0.05", "1e3", "0", ".5", "5.", "1E+2", "1e-6"],
     "--phases": ["1", "65536", "00000000000000000001"],
 }
@@ -170,7 +172,7 @@ KINDS = [
     (b"\xef\xbb\xbf<?xml version='1.0'?>\n<network>", "is XML, which tools/convert"),
     (b'<?xml version="1.0"?>\n<graphml xmlns="http://graphml.graphdrawing.org/xmlns">', "is GraphML, which tools/convert"),
     (b"\n <GraphML>", "is GraphML"), (b"<!DOCTYPE html>\n<html>", "is a web page"), (b"PK\x03\x04abc", "is a zip archive"),
-    (b"mcf-certificate 1\nverdict", "is a certificate or routing"), (b"mcf-routing 1\n", "is a certificate or routing"),
+    (b"mcf-certificate 1\nverdict", "is a certificate or routing"), (b"mcf-routing 2\n", "is a certificate or routing"),
     (b"\n" + NET, "has a blank or an empty line"),
     (b"?SNDlib native format; type: solution; version: 1.0\n", "is of SNDlib, and no network"),
     (b"NODES (\n", "does not begin with ?SNDlib native format; type: network;"),
@@ -218,8 +220,10 @@ solve net         | 3 | refused work 2129920    | 2,097,152
 trial 1 2 2 1     | 3 | refused work 2129920    | 2,097,152
 check net cert    | 3 | refused cert K1 line 1  | no certificate and no routing
 whatif net cert s | 3 | refused cert K1 line 1  | whatif does not take
+upgrade net cert  | 3 | refused cert K1 line 1  | upgrade does not take
 check net cert    | 3 | refused cert K2 line 4  | form that is due
 check net cert    | 3 | refused cert K3 line 11 | another network
+upgrade net cert  | 3 | refused cert K3 line 11 | a sign stands
 check net cert    | 3 | refused cert K4 line 11 | zero in front
 check net cert    | 3 | refused cert K5 line 11 | 511 links
 check net cert    | 3 | refused cert K6 line 5  | counts
@@ -240,12 +244,13 @@ whatif net cert s | 1 | invalid C3              | changed after
 check net cert    | 1 | invalid C4              | by hand
 check net routing | 1 | invalid C4              | above 0
 check net cert    | 1 | invalid C5              | length
+upgrade net cert  | 1 | invalid C6              | potentials
 check net cert    | 1 | invalid C6              | potentials
 check net cert    | 1 | invalid C7              | more than its length
 check net cert    | 1 | invalid C8              | rises
 check net cert    | 1 | invalid C9              | lines 9 and 10
 check net cert    | 1 | invalid C10             | verdict
-solve net         | 1 | mcf-certificate 1       | more --phases
+solve net         | 1 | mcf-certificate 2       | more --phases
 trial 1 2 2 1     | 1 | trial nodes             | more --phases
 check net cert    | 3 | refused cert X9 line 1  | docs/formats.md tells
 check net cert    | 1 | something else          | names the first one
@@ -269,7 +274,7 @@ def test_line_has_its_hint(tmp_path: Path, monkeypatch: pytest.MonkeyPatch, word
         told = hint(status, program, words.split(), out.fileno() if to_file else writer)
     os.close(reader)
     os.close(writer)
-    others = {"mcf-certificate 1": "verdict open", "trial nodes": "verdict open", "something else": f"status {status}"}
+    others = {"mcf-certificate 2": "verdict open", "trial nodes": "verdict open", "something else": f"status {status}"}
     named = others.get(line, line)
     assert told is not None and re.fullmatch(rf"hint: {named}: [^\n]+ \(docs/guide\.md, part [1-8]\)", told)
     assert said in told
@@ -369,6 +374,19 @@ def test_fullest_link_of_a_routing(program: Program, tmp_path: Path, scale: str,
     assert program.run(*words).text.startswith("feasible ")
     routing.write_text(text.replace(scale, f"scale {int(fit[1]) + 1} {fit[2]}"))
     assert program.run(*words).text == "invalid C3\n"
+
+
+@pytest.mark.parametrize("scale, path, said", [
+    ("scale 10 3", "path D1 40 +L1", "link `L1` along its direction is the fullest, with 13.333333 on a capacity of 10; the greatest"),
+    ("scale 3 1", "path D1 40 -L2", "link `L2` against its direction is the fullest, with 12 on a capacity of 2.5; the greatest"),
+])
+def test_fullest_way_of_a_link(program: Program, tmp_path: Path, scale: str, path: str, said: str) -> None:
+    (tmp_path / "net").write_bytes(NET)
+    (tmp_path / "routing").write_text(f"mcf-routing 2\nlinks bidirected\nmodules largest\nphases 1\n{scale}\n{path}\nend\n")
+    words = ["check", str(tmp_path / "net"), str(tmp_path / "routing")]
+    assert program.run(*words).text == "invalid C3\n"
+    told = hint(1, program.path, words, 99)
+    assert told is not None and said in told
 
 
 def test_a_link_without_capacity_is_named(program: Program, tmp_path: Path) -> None:

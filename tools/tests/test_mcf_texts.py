@@ -127,7 +127,7 @@ def test_cells_by_link_mode() -> None:
 
 
 def test_certificates_are_written_to_the_byte(root: Path) -> None:
-    for text in (load_text(root / "examples/polska.cert"), load_text(root / "examples/triangle.cert"), BIDIRECTED):
+    for text in (*(load_text(root / f"examples/{name}.cert") for name in ("polska", "triangle", "one-link", "both-ways")), BIDIRECTED):
         assert write_certificate(read_certificate(text)) == text
     for file in ("triangle.routing", "one-link.routing"):
         text = load_text(root / "examples" / file)
@@ -208,8 +208,9 @@ def test_graph_has_an_edge_for_each_cell() -> None:
 
 
 def test_form_is_that_of_the_program(program: Program, root: Path) -> None:
-    text = program.solve(root / "examples/triangle.net", "--workers", "1")
-    assert read_certificate(text).form == program.form
+    for links in ("undirected", "directed", "bidirected"):
+        text = program.solve(root / "examples/triangle.net", "--workers", "1", "--links", links)
+        assert read_certificate(text).form == program.form == 2
 
 
 def test_errors_of_the_program_are_one_line(program: Program) -> None:

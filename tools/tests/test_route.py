@@ -116,6 +116,16 @@ def test_routings_are_accepted(program: Program, root: Path, tmp_path: Path, nam
     assert any("below" in note for note in routed.notes)
 
 
+def test_each_way_of_a_link_has_its_own_load(program: Program, root: Path, tmp_path: Path) -> None:
+    net, file = root / "examples/both-ways.net", tmp_path / "routing"
+    for links, carried in (("undirected", 1), ("bidirected", 2)):
+        routed = route(program, asked(net, "hops", links=links))
+        save_text(file, routed.text)
+        assert lower(read_routing(routed.text)) == carried and routed.line.startswith(f"feasible {links} largest ")
+        done = subprocess.run([str(root / "tools/check_twice"), str(net), str(file)], capture_output=True, text=True, check=False)
+        assert done.stdout.strip() == routed.line
+
+
 def test_values_and_how_far_below_the_best(program: Program, root: Path) -> None:
     hops = route(program, asked(root / "examples/triangle.net", "hops"))
     assert lower(read_routing(hops.text)) == Fraction(5, 4)

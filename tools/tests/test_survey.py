@@ -83,6 +83,14 @@ def test_the_triangle_has_its_known_optima(program: Program, option: str, kind: 
     assert [row["fits"] for row in rows] == (["no", "no", "yes"] if kind == "failure" else ["yes"] * 3)
 
 
+def test_both_ways_of_a_link_are_changed(program: Program):
+    words = [EXAMPLES / "both-ways.net", EXAMPLES / "both-ways.cert"]
+    out, _ = run(*words, "--double", program=program)
+    assert out == "The link most worth doubling is L1 (A – B): 400.0 % to 400.0 % of every demand with it, and 200.0 % to 200.0 % of every demand without.\n"
+    out, _ = run(*words, "--failures", "--quick", "--csv", "-", program=program, status=1)
+    assert [(row["link"], row["kept_lower"], row["kept_upper"]) for row in table(out)] == [("L1", "0.000000", "0.000000")]
+
+
 def test_what_is_kept_is_what_whatif_shows(program: Program, tmp_path: Path):
     net, cert = EXAMPLES / "polska.net", EXAMPLES / "polska.cert"
     out, _ = run(net, cert, "--failures", "--quick", "--csv", "-", program=program, status=1)

@@ -1,12 +1,8 @@
 -- Cells by number and by name.
-use Rattle.std.proofs.Common.{◌≡◌, ◌≢◌, ◌↔◌, ◌⊎◌, inl, inr, ℕ, ◌+◌, ◌*◌, ◌/◌, ◌%◌, ◌<◌, ◌≤◌, List, [], ◌∷◌, length, get_or, Option, Some, None, refl, ap, sym, subst, ◌∙◌, arith}
-use Rattle.net_options.specs.Modes.{signs}
+use Rattle.std.proofs.Common.{◌≡◌, ℕ, ◌+◌, ◌*◌, ◌/◌, ◌%◌, ◌<◌, arith}
 use Rattle.net_options.specs.declared.modes.LinkMode.{LinkMode}
 use Rattle.net_options.specs.declared.modes.LinkMode.TheVariants.{Directed, Undirected, Bidirected}
-use Rattle.net_options.specs.declared.modes.Sign.{Sign}
-use Rattle.net_options.specs.declared.modes.Sign.TheVariants.{Along, Against, Both}
-use Rattle.cell_dir.specs.declared.names.CellName.{CellName}
-use Rattle.cell_dir.specs.Names.{per, sign_place, cells_of, name_of, cell_of}
+use Rattle.cell_dir.specs.Names.{per, cells_of}
 
 -- the number of the cell at that place among those of its link
 pub link_from : (mode : LinkMode) (link place : ℕ) → place < per mode → (per mode * link + place) / per mode ≡ link

@@ -1,5 +1,5 @@
 -- A link with another capacity.
-use Rattle.std.proofs.Common.{◌≡◌, ◌≢◌, ℕ, zero, suc, ◌+◌, ◌*◌, ◌/◌, ◌<◌, ◌≤◌, List, [], ◌∷◌, length, map, get_or, set, ext_get_or, length-set, get_or-set_same, get_or-set_other, Bool, true, false, eqb, refl, ap, sym, ◌∙◌, arith, ◌⊎◌, inl, inr}
+use Rattle.std.proofs.Common.{◌≡◌, ◌≢◌, ℕ, zero, suc, ◌+◌, ◌*◌, ◌/◌, ◌<◌, List, [], ◌∷◌, length, map, get_or, set, ext_get_or, length-set, get_or-set_same, get_or-set_other, true, false, refl, ap, sym, ◌∙◌, arith, ◌⊎◌, inl, inr}
 use Rattle.std.specs.Prelude.{◌==◌, if◌then◌else◌}
 use Rattle.std.specs.List.{enumerate_from}
 use Rattle.std.proofs.lemmas.List.{length-map}
@@ -69,9 +69,9 @@ with_link_bidirected caps link cap =
     elim (either i (2 * link + 1)) [
       | inl e ↦ set_of_link Bidirected caps link cap i h (omega arith) ∙ sym (get_or-set_same along (2 * link + 1) cap 0 (omega arith)) ∙ ap (λ k. get_or (set along (2 * link + 1) cap) k 0) (sym e)
       | inr e ↦ (elim (either i (2 * link)) [
-          | inl s ↦ set_of_link Bidirected caps link cap i h (omega arith) ∙ sym (get_or-set_same caps (2 * link) cap 0 (omega arith)) ∙ ap (λ k. get_or along k 0) (sym s) ∙ sym (get_or-set_other along (2 * link + 1) i cap 0 e)
-          | inr s ↦ set_of_other Bidirected caps link cap i h (λ t. outside i link e s t) ∙ sym (get_or-set_other caps (2 * link) i cap 0 s) ∙ sym (get_or-set_other along (2 * link + 1) i cap 0 e)
-        ])
+        | inl s ↦ set_of_link Bidirected caps link cap i h (omega arith) ∙ sym (get_or-set_same caps (2 * link) cap 0 (omega arith)) ∙ ap (λ k. get_or along k 0) (sym s) ∙ sym (get_or-set_other along (2 * link + 1) i cap 0 e)
+        | inr s ↦ set_of_other Bidirected caps link cap i h (λ t. outside i link e s t) ∙ sym (get_or-set_other caps (2 * link) i cap 0 s) ∙ sym (get_or-set_other along (2 * link + 1) i cap 0 e)
+      ])
     ])
   where
     outside : (i link : ℕ) → i ≢ 2 * link + 1 → i ≢ 2 * link → i / 2 ≢ link

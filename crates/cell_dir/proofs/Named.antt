@@ -1,18 +1,15 @@
 -- The cells of a network of rows, by their names.
-use Rattle.std.proofs.Common.{◌≡◌, ℕ, ◌+◌, ◌*◌, ◌/◌, ◌%◌, ◌<◌, List, length, get_or, map, Some, refl, ap, sym, ◌∙◌, arith}
+use Rattle.std.proofs.Common.{◌≡◌, ℕ, ◌/◌, ◌%◌, ◌<◌, List, length, get_or, map, Some, ap, sym, ◌∙◌}
 use Rattle.std.specs.List.{flat_map, slice_get}
 use Rattle.std.proofs.lemmas.List.{length-map}
-use Rattle.std.proofs.Math.ListN.{get_or-map}
 use Rattle.std.proofs.lemmas.Option.{slice_get-map, slice_get-get_or}
 use Rattle.std.specs.Option.{option_map}
-use Rattle.flow_model.specs.declared.net.Cell.{Cell}
 use Rattle.net_options.specs.Modes.{signs}
-use Rattle.net_options.specs.declared.modes.LinkMode.{LinkMode}
 use Rattle.net_options.specs.declared.modes.Sign.{Sign}
 use Rattle.net_options.specs.declared.modes.Sign.TheVariants.{Along}
 use Rattle.net_options.specs.declared.options.NetOptions.{NetOptions}
 use Rattle.sndlib_grammar.specs.Rows.{NetLink, NetRows, link_at, no_link}
-use Rattle.unit_scale.specs.Scaling.{cell_going, link_cells, capacity_in, cells_of_link, net_of}
+use Rattle.unit_scale.specs.Scaling.{cell_going, capacity_in, cells_of_link, net_of}
 use Rattle.cell_dir.specs.Names.{per, cells_of, name_of}
 use Rattle.cell_dir.proofs.Parts.{parts_length, part_at}
 use Rattle.cell_dir.proofs.Cells.{number_from, place_below, link_below}
@@ -33,7 +30,7 @@ going_at source target cap ways place h =
 
 pub cell_named : (o : NetOptions) (s : ℕ) (rows : NetRows) (cell : ℕ) → cell < cells_of o.links (length rows.links)
     → let name = name_of o.links cell in let link = link_at rows name.link in
-      slice_get (net_of o s rows).cells cell ≡ Some (cell_going link.source link.target (capacity_in o s link) name.sign)
+    slice_get (net_of o s rows).cells cell ≡ Some (cell_going link.source link.target (capacity_in o s link) name.sign)
 cell_named o s rows cell h =
     let mode = o.links in
     let l = link_at rows (cell / per mode) in

@@ -18,8 +18,8 @@ abbrev pub CellsAreNamed : Type 0
 CellsAreNamed = (o : NetOptions) (s : ℕ) (rows : NetRows)
     → (length (net_of o s rows).cells ≡ cells_of o.links (length rows.links))
     × ((cell : ℕ) → cell < cells_of o.links (length rows.links)
-      → let name = name_of o.links cell in let link = link_at rows name.link in
-        slice_get (net_of o s rows).cells cell ≡ Some (cell_going link.source link.target (capacity_in o s link) name.sign))
+    → let name = name_of o.links cell in let link = link_at rows name.link in
+    slice_get (net_of o s rows).cells cell ≡ Some (cell_going link.source link.target (capacity_in o s link) name.sign))
 
 -- a link's new capacity stands at each cell of the link, and every other cell keeps its own
 abbrev pub LinkIsSet : Type 0

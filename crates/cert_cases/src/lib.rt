@@ -15,5 +15,7 @@ mod stores;
 #[cfg(test)]
 mod texts;
 
-pub use one_link::{CERTIFICATE, ONE_LINK, ROUTING, VALID, edited, repeated};
+pub use one_link::{
+    CERTIFICATE, ONE_LINK, ROUTING, SIGNED, SIGNED_ROUTING, VALID, edited, repeated,
+};
 pub use small::{Case, Paths, Rows, is_case, net_of, proof_of};

@@ -3,11 +3,9 @@
 ghost use Rattle.std.specs.Prelude.{◌≡◌, Ok};
 ghost use Rattle.sndlib_grammar.specs.Rows.{AreNetRows};
 ghost use Rattle.unit_scale.specs.Scaling.{scaled_of};
-ghost use Rattle.cert_names.specs.Sheet.{sheet_of};
 
-use crate::one_link::{CERTIFICATE, ONE_LINK, ROUTING, edited};
-use cert_names::Names;
-use cert_text::{CertEnd, CertKind, cert_head, read_cert};
+use crate::one_link::{CERTIFICATE, ONE_LINK, ROUTING, SIGNED, SIGNED_ROUTING, edited};
+use cert_text::{CertEnd, CertHead, CertKind, Form, Kind, cert_head, read_cert};
 use mcf_limits::MAX_CERT_BYTES;
 use net_options::{LinkMode, ModuleMode, NetOptions};
 use sndlib_read::{RawNet, read_net};
@@ -19,7 +17,7 @@ use unit_scale::{Scaled, scale};
 // A text to be replaced, what takes its place, and the line and kind of the refusal.
 type Edit = (&'static [u8], &'static [u8], u32, CertKind);
 
-const EDITS: &[Edit] = &[
+const OF_FORM_1: &[Edit] = &[
     (
         b"mcf-certificate 1",
         b"mcf-certificate 9",
@@ -104,21 +102,48 @@ const EDITS: &[Edit] = &[
     (b"end\n", b"end\nx", 15, CertKind::Syntax),
 ];
 
-// The words of the rows, which scale to the network under the options.
-fn names<'a>(rows: &'a RawNet<'a>, net: &'a Scaled, _options: NetOptions) -> Names<'a>
+const OF_FORM_2: &[Edit] = &[
+    (
+        b"mcf-certificate 2",
+        b"mcf-certificate 3",
+        1,
+        CertKind::NoHeader,
+    ),
+    (
+        b"mcf-certificate 2",
+        b"mcf-certificate 1",
+        11,
+        CertKind::UnknownName,
+    ),
+    (b"4 +L1", b"4 -L1", 11, CertKind::UnknownName),
+    (b"4 +L1", b"4 =L1", 11, CertKind::UnknownName),
+    (b"4 +L1", b"4 ++L1", 11, CertKind::UnknownName),
+    (b"4 +L1", b"4 +L9", 11, CertKind::UnknownName),
+    (b"4 +L1", b"4 L1", 11, CertKind::UnknownName),
+    (b"4 +L1", b"4 +", 11, CertKind::UnknownName),
+    (b"4 +L1", b"4 +L1 ", 11, CertKind::Syntax),
+    (b"4 +L1", b"04 =L1", 11, CertKind::BadNumber),
+    (b"length +L1", b"length L1", 12, CertKind::UnknownName),
+    (b"length +L1", b"length =L1", 12, CertKind::UnknownName),
+];
+
+// Each edit of the certificate is refused at its line, by rows that scale to the network under the options.
+fn refused(
+    rt: &impl Abort,
+    alloc: Global,
+    rows: &RawNet<'_>,
+    net: &Scaled,
+    _options: NetOptions,
+    cert: &[u8],
+    edits: &[Edit],
+) -> Result<(), Fail>
     requires rows { AreNetRows rows.now }
     requires net { scaled_of rows.now _options ≡ Ok net.now }
-    ensures { result ≡ sheet_of rows.now net.now }
 {
-    Names::new(rows, net)
-}
-
-// Each edit of the certificate is refused at its line.
-fn refused(rt: &impl Abort, alloc: Global, names: &Names<'_>) -> Result<(), Fail> {
-    for (old, new, line, kind) in EDITS {
-        let text = edited(alloc, CERTIFICATE, *old, *new)?;
+    for (old, new, line, kind) in edits {
+        let text = edited(alloc, cert, *old, *new)?;
         assert!(rt; text.len() <= MAX_CERT_BYTES);
-        match read_cert(alloc, names, &text) {
+        match read_cert(alloc, rows, net, &text) {
             Err(CertEnd::Refused(refusal)) => {
                 assert_eq!(rt; refusal.line, *line, "{kind:?}");
                 assert_eq!(rt; refusal.kind, *kind, "at {line}");
@@ -136,7 +161,10 @@ fn on_rows(rt: &impl Abort, alloc: Global, rows: &RawNet<'_>) -> Result<(), Fail
         modules: ModuleMode::Largest,
     };
     match scale(alloc, rows, options) {
-        Ok(net) => refused(rt, alloc, &names(rows, &net, options)),
+        Ok(net) => {
+            refused(rt, alloc, rows, &net, options, CERTIFICATE, OF_FORM_1)?;
+            refused(rt, alloc, rows, &net, options, SIGNED, OF_FORM_2)
+        }
         Err(_) => {
             assert!(rt; false, "the network is refused");
             Ok(())
@@ -155,22 +183,67 @@ fn refusals_with_their_lines(rt: HostRuntime) -> Result<(), Fail> {
     }
 }
 
+// A head of directed links.
+const fn directed(kind: Kind, form: Form, modules: ModuleMode) -> CertHead {
+    CertHead {
+        kind,
+        form,
+        links: LinkMode::Directed,
+        modules,
+    }
+}
+
+const HEADS: &[(&[u8], CertHead)] = &[
+    (
+        CERTIFICATE,
+        directed(Kind::Certificate, Form::First, ModuleMode::Largest),
+    ),
+    (
+        SIGNED,
+        directed(Kind::Certificate, Form::Second, ModuleMode::Largest),
+    ),
+    (
+        ROUTING,
+        directed(Kind::Routing, Form::First, ModuleMode::Ignore),
+    ),
+    (
+        SIGNED_ROUTING,
+        directed(Kind::Routing, Form::Second, ModuleMode::Ignore),
+    ),
+    (
+        b"mcf-routing 2\nlinks bidirected\nmodules sum\n",
+        CertHead {
+            kind: Kind::Routing,
+            form: Form::Second,
+            links: LinkMode::Bidirected,
+            modules: ModuleMode::Sum,
+        },
+    ),
+];
+
 #[test]
 fn heads(rt: HostRuntime) {
-    let head = cert_head(CERTIFICATE);
-    assert!(rt;
-        head.is_ok_and(|h| h.full
-            && h.links == LinkMode::Directed
-            && h.modules == ModuleMode::Largest)
-    );
-    let head = cert_head(ROUTING);
-    assert!(rt; head.is_ok_and(|h| !h.full && h.modules == ModuleMode::Ignore));
+    for (text, head) in HEADS {
+        assert!(rt; text.len() <= MAX_CERT_BYTES);
+        assert!(rt; cert_head(text).is_ok_and(|h| h == *head));
+    }
+}
+
+#[test]
+fn heads_that_are_refused(rt: HostRuntime) {
     for (text, line, kind) in [
         (b"".as_slice(), 1u32, CertKind::NoHeader),
-        (b"mcf-routing 1", 1, CertKind::Syntax),
+        (b"mcf-certificate 3\n", 1, CertKind::NoHeader),
+        (b"mcf-routing 2", 1, CertKind::Syntax),
         (b"mcf-routing 1\nlinks both\n", 2, CertKind::Syntax),
+        (b"mcf-routing 1\nlinks bidirected\n", 2, CertKind::Syntax),
         (
-            b"mcf-certificate 1\nverdict open\nlinks directed\nmodules all\n",
+            b"mcf-certificate 1\nverdict open\nlinks bidirected\n",
+            3,
+            CertKind::Syntax,
+        ),
+        (
+            b"mcf-certificate 2\nverdict open\nlinks directed\nmodules all\n",
             4,
             CertKind::Syntax,
         ),

@@ -37,7 +37,8 @@ pub fn loads(alloc: Global, cells: usize, paths: &PathStore) -> Result<Vec<u128>
     Ok(table)
 }
 
-/// The weights of each commodity's rows.
+/// The sum of the weights of each commodity's rows, in the order of commodities and in units: below 2^96, since there are
+/// fewer than 2^32 rows. Each row's commodity is below `commodities`.
 pub fn carried_amounts(
     alloc: Global,
     commodities: usize,
@@ -67,14 +68,15 @@ pub fn are_carried(commodities: &[Commodity], amounts: &[u128], phases: u32) -> 
     true
 }
 
-// Whether the product is at most that.
-fn is_product_within(load: u128, factor: u64, most: u128) -> bool
+/// Whether the load times the factor is at most `most`, all of them any numbers: nothing is multiplied, so nothing wraps.
+pub fn is_product_within(load: u128, factor: u64, most: u128) -> bool
     ensures { IsTrue result ↔ (load * factor ≤ most) }
 {
     factor == 0 || load <= most / factor as u128
 }
 
-/// Whether each load, times the scale's capacity, is at most the scale's load times the cell's capacity.
+/// Whether each load, times the scale's capacity, is at most the scale's load times the cell's capacity: all in units, and
+/// any numbers. There are as many loads as cells.
 pub fn do_fit(cells: &[Cell], loads: &[u128], scale_cap: u64, scale_load: u64) -> bool
     requires { length loads.now ≡ length cells.now }
     ensures { IsTrue result ↔ ((c : ℕ) (cell : CellIs) → slice_get cells.now c ≡ Some cell → slice_index loads.now c * scale_cap ≤ scale_load * cell.cap) }

@@ -40,7 +40,7 @@ pub fn cell_lengths(alloc: Global, cells: usize, dual: &Dual) -> Result<Vec<u64>
     Ok(table)
 }
 
-/// How many rows of potentials each node has.
+/// How many rows of potentials each node has, in the order of nodes. Each row's node is below `nodes`.
 pub fn row_counts(alloc: Global, nodes: usize, dual: &Dual) -> Result<Vec<u64>, AllocError>
     requires { All (λ r. r.node < nodes) dual.now.potentials }
     ensures len { IfOk result (λ v. length v.items ≡ nodes) }
@@ -53,7 +53,8 @@ pub fn row_counts(alloc: Global, nodes: usize, dual: &Dual) -> Result<Vec<u64>, 
     Ok(counts)
 }
 
-/// How many rows of potentials each node is to have: one where some commodity starts there.
+/// How many rows of potentials each node is to have, in the order of nodes: one where some commodity starts there, else
+/// none. Each commodity starts at a node below `nodes`.
 pub fn wanted_counts(
     alloc: Global,
     nodes: usize,
@@ -82,7 +83,7 @@ pub fn are_ones(counts: &[u64]) -> bool
     true
 }
 
-/// Whether each count is the one that is wanted.
+/// Whether each count is the one that is wanted at its place. There are as many of either.
 pub fn are_wanted(counts: &[u64], wanted: &[u64]) -> bool
     requires { length counts.now ≡ length wanted.now }
     ensures { IsTrue result ↔ ((c : ℕ) → c < length counts.now → slice_index counts.now c ≡ slice_index wanted.now c) }

@@ -18,8 +18,8 @@ use gap_fraction::{Frac, Shown};
 use mcf_limits::MAX_LENGTH;
 use std::alloc::{AllocError, Global};
 
-// Whether every cell has exactly one length row.
-fn cells_have_lengths(alloc: Global, net: &Net, dual: &Dual) -> Result<bool, AllocError>
+/// Whether every cell of the network has exactly one length row: condition C5. Each row's cell is one of the network's.
+pub fn cells_have_lengths(alloc: Global, net: &Net, dual: &Dual) -> Result<bool, AllocError>
     requires { All (λ r. r.cell < length net.now.cells) dual.now.lengths }
     ensures { IfOk result (λ yes. IsTrue yes ↔ CellsHaveLengths net.now dual.now) }
 {
@@ -27,8 +27,8 @@ fn cells_have_lengths(alloc: Global, net: &Net, dual: &Dual) -> Result<bool, All
     Ok(are_ones(&counts))
 }
 
-// Every cell's length.
-fn lengths(alloc: Global, net: &Net, dual: &Dual) -> Result<Vec<u64>, AllocError>
+/// The length of every cell, in the order of cells: a number of at most 2^62 each. Each cell has exactly one row.
+pub fn lengths(alloc: Global, net: &Net, dual: &Dual) -> Result<Vec<u64>, AllocError>
     requires named { All (λ r. r.cell < length net.now.cells) dual.now.lengths }
     requires once { CellsHaveLengths net.now dual.now }
     ensures value { IfOk result (λ v. v.items ≡ lengths_in net.now dual.now) }
@@ -50,8 +50,9 @@ fn sources_have_rows(alloc: Global, net: &Net, dual: &Dual) -> Result<bool, Allo
     Ok(are_wanted(&counts, &wanted))
 }
 
-// Whether no traversal raises the row's potential by more than the cell's length.
-fn row_is_potential(net: &Net, lengths: &[u64], dual: &Dual, row: usize) -> bool
+/// Whether no traversal of a cell raises the potential of the row of this number by more than the cell's length.
+/// Lengths and potentials are numbers of at most 2^62.
+pub fn row_is_potential(net: &Net, lengths: &[u64], dual: &Dual, row: usize) -> bool
     requires row { row < length dual.now.potentials }
     requires rows { All (IsPotentialOf net.now) dual.now.potentials }
     requires lengths { lengths.now ≡ lengths_in net.now dual.now }
@@ -62,8 +63,9 @@ fn row_is_potential(net: &Net, lengths: &[u64], dual: &Dual, row: usize) -> bool
     is_potential(net.cells(), lengths, dual.row(row))
 }
 
-// Whether in no row a traversal raises the potential by more than the cell's length.
-fn rows_are_potentials(net: &Net, lengths: &[u64], dual: &Dual) -> bool
+/// Whether in no row a traversal of a cell raises the potential by more than the cell's length: condition C7. Lengths and
+/// potentials are numbers of at most 2^62.
+pub fn rows_are_potentials(net: &Net, lengths: &[u64], dual: &Dual) -> bool
     requires rows { All (IsPotentialOf net.now) dual.now.potentials }
     requires lengths { lengths.now ≡ lengths_in net.now dual.now }
     requires len { length lengths.now ≡ length net.now.cells }
@@ -89,8 +91,9 @@ fn distance(alloc: Global, net: &Net, dual: &Dual) -> Result<u128, AllocError>
     Ok(weighted_distance(net.commodities(), &places, dual))
 }
 
-// Whether the fraction is printed with its parts and these decimals.
-fn is_printed(printed: Printed, fraction: &Frac, shown: Shown) -> bool
+/// Whether the fraction is printed with its own parts, not reduced, and with these decimals: a whole part, and millionths
+/// below 1,000,000.
+pub fn is_printed(printed: Printed, fraction: &Frac, shown: Shown) -> bool
     requires printed { printed.micro < 1000000 }
     requires shown { shown.micro < 1000000 }
     ensures { IsTrue result ↔ IsPrinted printed fraction.now (shown.whole * 1000000 + shown.micro) }

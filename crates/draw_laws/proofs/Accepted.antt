@@ -8,8 +8,6 @@ use Rattle.std.proofs.lemmas.List.FromFn.{get_or-map-range_with_len, length-map-
 use Rattle.mcf_limits.specs.declared.TheConstants.{MAX_DEMANDS}
 use Rattle.flow_model.specs.declared.net.Cell.{Cell}
 use Rattle.flow_model.specs.declared.net.Commodity.{Commodity}
-use Rattle.net_options.specs.declared.modes.LinkMode.{LinkMode}
-use Rattle.net_options.specs.declared.modes.LinkMode.TheVariants.{Directed, Undirected}
 use Rattle.net_options.specs.declared.modes.ModuleMode.{ModuleMode}
 use Rattle.net_options.specs.declared.options.NetOptions.{NetOptions}
 use Rattle.rand_pcg.specs.Lcg.{Lcg}
@@ -24,7 +22,7 @@ use Rattle.net_gen.specs.Draws.{generator_of, past, drawn, drawn_below}
 use Rattle.net_gen.specs.Generated.{AreCounts, generated_node, generated_link, generated_demand, generated_rows, generated_text, link_capacity, words_of_ends, words_before_link}
 use Rattle.net_gen.proofs.Differing.{all_demands_differ}
 use Rattle.net_gen.proofs.Printing.{rows_printable}
-use Rattle.draw_laws.specs.Drawn.{is_two_way, drawn_cell, drawn_commodity, drawn_network, drawn_net}
+use Rattle.draw_laws.specs.Drawn.{drawn_cells, drawn_commodity, drawn_network, drawn_net}
 use Rattle.draw_laws.proofs.Rows.{IsWholeLink, IsWholeDemand, link_whole, demand_whole, capacity_is, commodity_is, units_are}
 use Rattle.draw_laws.proofs.Each.{Each, each_back, each_along, each_drawn, fine_links, small_links, whole_links, fine_demands, small_demands, whole_demands, some_kept, all_kept, none_left, none_bound, link_back, link_along, demand_back, demand_along, flat_along, filter_along, flat_drawn, filter_drawn}
 
@@ -133,18 +131,14 @@ same_commodities a b e =
 
 -- ---- cells and commodities
 
-one_cell : (mode : LinkMode) (source target cap : ℕ) → link_cells mode source target cap ≡ record { tail = source; head = target; both = is_two_way mode; cap = cap } ∷ []
-one_cell Directed source target cap = refl
-one_cell Undirected source target cap = refl
-
 pub cells_drawn : (o : NetOptions) (seed nodes links demands : ℕ) → flat_map (cells_of_link o 0) (generated_rows seed nodes links demands).links ≡ (drawn_network o.links seed nodes links demands).cells
 cells_drawn o seed nodes links demands =
-    flat_drawn (cells_of_link o 0) (link_row seed nodes) (λ i. drawn_cell o.links (past (words_before_link nodes i) (generator_of seed)) nodes i) 0 links (λ i lt.
+    flat_drawn (cells_of_link o 0) (link_row seed nodes) (λ i. drawn_cells o.links (past (words_before_link nodes i) (generator_of seed)) nodes i) 0 links (λ i lt.
     let g = past (words_before_link nodes i) (generator_of seed) in
     let l = link_row seed nodes i in
     let cap = link_capacity g nodes i in
     let size : in_units 0 (capacity o.modules l) ≡ cap = ap (in_units 0) (capacity_is o.modules l cap refl refl (most_capacity g nodes i)) ∙ units_are cap in
-    ap (link_cells o.links l.source l.target) size ∙ one_cell o.links l.source l.target cap)
+    ap (link_cells o.links l.source l.target) size)
 
 pub commodities_drawn : (o : NetOptions) (seed nodes links demands : ℕ) → AreCounts nodes links demands → filter_map (commodity_of 0) (generated_rows seed nodes links demands).demands ≡ (drawn_network o.links seed nodes links demands).commodities
 commodities_drawn o seed nodes links demands are =

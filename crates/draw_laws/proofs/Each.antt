@@ -110,9 +110,10 @@ pub filter_along : {X Y : Type 0} (f : X → Option Y) (w : X → X) → ((x : X
 filter_along f w same [] = refl
 filter_along f w same (x ∷ xs) = rw (same x, filter_along f w same xs) refl
 
-pub flat_drawn : {X Y : Type 0} (f : X → List Y) (row : ℕ → X) (y : ℕ → Y) (a n : ℕ) → ((i : ℕ) → i < a + n → f (row i) ≡ y i ∷ []) → flat_map f (map row (range_with_len a n)) ≡ map y (range_with_len a n)
-flat_drawn f row y a zero is = refl
-flat_drawn f row y a (suc n) is = rw (is a (omega arith), flat_drawn f row y (a + 1) n (λ i lt. is i (omega (arith, lt)))) refl
+pub flat_drawn : {X Y : Type 0} (f : X → List Y) (row : ℕ → X) (ys : ℕ → List Y) (a n : ℕ) → ((i : ℕ) → i < a + n → f (row i) ≡ ys i)
+    → flat_map f (map row (range_with_len a n)) ≡ flat_map ys (range_with_len a n)
+flat_drawn f row ys a zero is = refl
+flat_drawn f row ys a (suc n) is = rw (is a (omega arith), flat_drawn f row ys (a + 1) n (λ i lt. is i (omega (arith, lt)))) refl
 
 pub filter_drawn : {X Y : Type 0} (f : X → Option Y) (row : ℕ → X) (y : ℕ → Y) (a n : ℕ) → ((i : ℕ) → i < a + n → f (row i) ≡ Some (y i)) → filter_map f (map row (range_with_len a n)) ≡ map y (range_with_len a n)
 filter_drawn f row y a zero is = refl

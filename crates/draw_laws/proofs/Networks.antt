@@ -1,26 +1,41 @@
 -- What is drawn is a network, of the counts that were asked for.
 use Rattle.std.proofs.Common.{◌≡◌, ℕ, ◌+◌, ◌*◌, ◌%◌, ◌≤◌, List, [], ◌∷◌, length, map, refl, sym, ap, subst, ◌∙◌, arith}
 use Rattle.std.specs.List.{range_with_len, sum_by}
-use Rattle.std.proofs.lemmas.List.FromFn.{length-map-range_with_len}
+use Rattle.std.proofs.lemmas.List.FromFn.{length-range_with_len, length-map-range_with_len}
+use Rattle.std.proofs.lemmas.List.{length-map}
 use Rattle.std.proofs.lemmas.List.Sums.{sum_by-cons}
+use Rattle.flow_model.specs.declared.net.Cell.{Cell}
 use Rattle.flow_model.specs.declared.net.Commodity.{Commodity}
 use Rattle.flow_model.specs.Network.{IsNetwork}
+use Rattle.net_options.specs.Modes.{signs}
 use Rattle.net_options.specs.declared.modes.LinkMode.{LinkMode}
 use Rattle.net_options.specs.declared.modes.ModuleMode.TheVariants.{Ignore}
 use Rattle.net_options.specs.declared.options.NetOptions.{NetOptions}
-use Rattle.unit_scale.specs.Scaling.{net_of}
+use Rattle.unit_scale.specs.Scaling.{net_of, cell_going}
 use Rattle.unit_scale.specs.Sizes.{AreDecimals, sizes}
 use Rattle.unit_scale.proofs.NetworkFacts.{network_ok}
 use Rattle.unit_scale.proofs.WholeScaling.{decimals_are}
+use Rattle.cell_dir.specs.Names.{per, cells_of}
+use Rattle.cell_dir.proofs.Parts.{parts_length}
 use Rattle.net_gen.specs.Draws.{generator_of, past}
-use Rattle.net_gen.specs.Generated.{AreCounts, generated_node, generated_rows, words_before_link}
+use Rattle.net_gen.specs.Generated.{AreCounts, generated_node, generated_rows, link_ends, link_capacity, words_before_link}
 use Rattle.net_gen.proofs.Printing.{rows_printable}
-use Rattle.draw_laws.specs.Drawn.{drawn_cell, drawn_commodity, drawn_network}
+use Rattle.draw_laws.specs.Drawn.{drawn_cells, drawn_commodity, drawn_network}
 use Rattle.draw_laws.proofs.Each.{small_links, small_demands}
 use Rattle.draw_laws.proofs.Accepted.{drawn_whole, no_decimals, cells_drawn, commodities_drawn}
 
-pub cells_count : (mode : LinkMode) (seed nodes links demands : ℕ) → length (drawn_network mode seed nodes links demands).cells ≡ links
-cells_count mode seed nodes links demands = length-map-range_with_len (λ i. drawn_cell mode (past (words_before_link nodes i) (generator_of seed)) nodes i) 0 links
+abbrev cells_row : LinkMode → ℕ → ℕ → ℕ → List Cell
+cells_row mode seed nodes i = drawn_cells mode (past (words_before_link nodes i) (generator_of seed)) nodes i
+
+link_count : (mode : LinkMode) (seed nodes i : ℕ) → length (cells_row mode seed nodes i) ≡ per mode
+link_count mode seed nodes i =
+    let g = past (words_before_link nodes i) (generator_of seed) in
+    length-map (signs mode) (cell_going (link_ends g nodes i).0 (link_ends g nodes i).1 (link_capacity g nodes i))
+
+pub cells_count : (mode : LinkMode) (seed nodes links demands : ℕ) → length (drawn_network mode seed nodes links demands).cells ≡ cells_of mode links
+cells_count mode seed nodes links demands =
+    parts_length (cells_row mode seed nodes) (per mode) (link_count mode seed nodes) (range_with_len 0 links)
+    ∙ ap (λ (n : ℕ). per mode * n) (length-range_with_len 0 links)
 
 abbrev commodity_row : ℕ → ℕ → ℕ → ℕ → Commodity
 commodity_row seed nodes links i = drawn_commodity (past (2 * i) (past (words_before_link nodes links) (generator_of seed))) nodes i

@@ -15,7 +15,7 @@ use crate::value::upper;
 use flow_model::{Cell, Net};
 use flow_paths::Dual;
 use gap_fraction::Frac;
-use mcf_limits::MAX_LENGTH;
+use mcf_limits::{MAX_LENGTH, MAX_WORKERS};
 use net_graph::Graph;
 use std::alloc::{AllocError, Global};
 use std::thread::Threads;
@@ -27,8 +27,14 @@ pub struct Bounded {
     pub value: Frac,
 }
 
-/// The dual of the rows with its value.
-fn finished(alloc: Global, net: &Net, lengths: &[u64], rows: &[Row]) -> Result<Bounded, AllocError>
+/// The dual of these lengths and filled rows, with its value: volume over weighted distance, not reduced. Lengths, and the
+/// numbers of the rows, are at most 2^62.
+pub fn finished(
+    alloc: Global,
+    net: &Net,
+    lengths: &[u64],
+    rows: &[Row],
+) -> Result<Bounded, AllocError>
     requires rows { All (λ row. All (λ n. n ≤ MAX_LENGTH) row.values.items) rows.now }
     requires divides { CanDivide net.now lengths.now (dual_of lengths.now rows.now) }
     ensures dual { IfOk result (λ b. b.dual ≡ dual_of lengths.now rows.now) }
@@ -40,13 +46,14 @@ fn finished(alloc: Global, net: &Net, lengths: &[u64], rows: &[Row]) -> Result<B
     Ok(Bounded { dual, value })
 }
 
-/// A row of distances for each source.
+/// A row of distances for each source, in at most so many threads.
 fn distance_rows<R: Threads + Sync>(
     rt: &R,
     alloc: Global,
     net: &Net,
     graph: &Graph,
     lengths: &[u64],
+    threads: u16,
 ) -> Result<Vec<Row>, AllocError>
     requires graph { graph.now ≡ net.now }
     requires lengths { AreLengths net.now.cells lengths.now }
@@ -54,7 +61,7 @@ fn distance_rows<R: Threads + Sync>(
     ensures filled { IfOk result (λ rows. All (IsFilledWith net.now.nodes (IsDistance net.now.cells lengths.now)) rows.items) }
 {
     let mut rows = source_rows(alloc, net)?;
-    fill_all(rt, alloc, graph, lengths, &mut rows);
+    fill_all(rt, alloc, graph, lengths, &mut rows, threads);
     if are_filled(&rows) {
         Ok(rows)
     } else {
@@ -89,8 +96,27 @@ pub fn bound<R: Threads + Sync>(
     ensures shows { IfOk result (λ b. ShowsBound net.now lengths.now b.dual) }
     ensures value { IfOk result (λ b. b.value ≡ upper_of net.now b.dual) }
 {
+    bound_in(rt, alloc, net, graph, lengths, MAX_WORKERS)
+}
+
+/// As `bound`, in at most so many threads, its caller's among them: in 1 (and 0 stands for 1) it starts none of its own.
+pub fn bound_in<R: Threads + Sync>(
+    rt: &R,
+    alloc: Global,
+    net: &Net,
+    graph: &Graph,
+    lengths: &[u64],
+    threads: u16,
+) -> Result<Bounded, AllocError>
+    requires graph { graph.now ≡ net.now }
+    requires lengths { AreLengths net.now.cells lengths.now }
+    requires empty { EmptyAreFar net.now.cells lengths.now }
+    ensures dual { IfOk result (λ b. IsBoundOf net.now lengths.now b.dual) }
+    ensures shows { IfOk result (λ b. ShowsBound net.now lengths.now b.dual) }
+    ensures value { IfOk result (λ b. b.value ≡ upper_of net.now b.dual) }
+{
     let _cells = net.cells();
-    let rows = distance_rows(rt, alloc, net, graph, lengths)?;
+    let rows = distance_rows(rt, alloc, net, graph, lengths, threads)?;
     finished(alloc, net, lengths, &rows)
 }
 

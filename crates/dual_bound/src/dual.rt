@@ -23,7 +23,7 @@ fn with_lengths(alloc: Global, lengths: &[u64]) -> Result<Dual, AllocError>
     Ok(dual)
 }
 
-/// The dual of these lengths and rows.
+/// The dual of these lengths, each at most 2^62 and in the order of cells, and of these rows, whatever they are filled with.
 pub fn assembled(alloc: Global, lengths: &[u64], rows: &[Row]) -> Result<Dual, AllocError>
     requires few { length lengths.now ≤ MAX_CELLS }
     requires small { All (λ n. n ≤ MAX_LENGTH) lengths.now }

@@ -6,4 +6,6 @@ mod dual;
 mod rows;
 mod value;
 
-pub use bounds::{Bounded, bound, cut_bound};
+pub use bounds::{Bounded, bound, bound_in, cut_bound, finished};
+pub use dual::{are_filled, assembled};
+pub use rows::{Row, fill_rows, mark_all, source_rows};

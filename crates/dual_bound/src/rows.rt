@@ -1,6 +1,6 @@
 //! A row for each source of a commodity, in the order of nodes.
 
-ghost use Rattle.std.specs.Prelude.{◌≡◌, ℕ, ◌<◌, ◌≤◌, ◌++◌, ◌∷◌, [], All, IsTrue, IfOk, OnOk, length, slice_index, slice_index_or, false, if◌then◌else◌};
+ghost use Rattle.std.specs.Prelude.{◌≡◌, ℕ, max, ◌<◌, ◌≤◌, ◌++◌, ◌∷◌, [], All, IsTrue, IfOk, OnOk, length, slice_index, slice_index_or, false, if◌then◌else◌};
 ghost use Rattle.std.specs.List.{sum_by};
 ghost use Rattle.flow_model.specs.Groups.{group_sources, is_source};
 ghost use Rattle.flow_model.specs.Network.{IsNetwork};
@@ -12,7 +12,7 @@ ghost use Rattle.dual_bound.specs.Bounds.{IsCutPotential, IsDistance};
 
 use dijkstra_paths::Scratch;
 use flow_model::{Commodity, Net};
-use mcf_limits::{MAX_LENGTH, MAX_NODES, MAX_WORKERS};
+use mcf_limits::{MAX_LENGTH, MAX_NODES};
 use net_graph::Graph;
 use std::alloc::{AllocError, Global};
 use std::thread;
@@ -21,7 +21,7 @@ use std::thread::Threads;
 /// From this product of rows and cells on the searches take longer than the start of a few threads.
 const WORK_OF_A_START: usize = 1 << 15;
 
-/// A source with a number for each node.
+/// A source with a number for each node: a distance or a mark, of at most 2^62. A row that is not filled is blank.
 #[derive(Drop)]
 pub struct Row {
     pub source: u16,
@@ -69,7 +69,7 @@ fn append_row(
     Ok(())
 }
 
-/// A blank row for each source, in the order of nodes.
+/// A blank row for each node that is the source of a commodity, in the order of nodes.
 pub fn source_rows(alloc: Global, net: &Net) -> Result<Vec<Row>, AllocError>
     ensures sources { IfOk result (λ rows. sources_of rows.items ≡ group_sources net.now) }
     ensures blank { IfOk result (λ rows. All (IsBlank net.now.nodes) rows.items) }
@@ -108,7 +108,8 @@ fn fill_row(scratch: &mut Scratch, graph: &Graph, lengths: &[u64], row: &mut Row
     row.is_filled = true;
 }
 
-/// Fills each row with the distances from its source. Without memory for a search the rows stay blank.
+/// Fills each blank row with the distances from its source: the length of a least walk over positive cells, or 2^62 where
+/// there is none. Without memory for a search all rows stay blank. It starts no thread.
 pub fn fill_rows(alloc: Global, graph: &Graph, lengths: &[u64], rows: &mut [Row])
     requires lengths { AreLengths graph.now.cells lengths.now }
     requires rows { (k : ℕ) (d : _) → k < length rows.old → IsBlank graph.now.nodes (slice_index_or rows.old k d) }
@@ -124,33 +125,36 @@ pub fn fill_rows(alloc: Global, graph: &Graph, lengths: &[u64], rows: &mut [Row]
     }
 }
 
-/// In how many threads the rows are to be filled: in one, where starting others would take longer than the searches.
-fn thread_count(rt: &impl Threads, cells: usize, rows: usize) -> usize
-    ensures { 0 < result }
+/// In how many threads the rows are to be filled, of at most so many: in one, where starting others would take longer
+/// than the searches. None stands for one.
+fn thread_count(rt: &impl Threads, cells: usize, rows: usize, most: u16) -> usize
+    ensures some { 1 ≤ result }
+    ensures few { result ≤ max most 1 }
 {
-    if rows.saturating_mul(cells) < WORK_OF_A_START {
+    if most <= 1 || rows.saturating_mul(cells) < WORK_OF_A_START {
         return 1;
     }
     match thread::available_parallelism(rt) {
-        Ok(count) => count.get().min(MAX_WORKERS as usize),
+        Ok(count) => count.get().min(most as usize),
         Err(_) => 1,
     }
 }
 
-/// Fills each row with the distances from its source, in several threads where that pays. Rows for which no memory
-/// was left stay blank.
+/// Fills each row with the distances from its source, in several threads where that pays, but in at most so many, its
+/// caller's among them. Rows for which no memory was left stay blank.
 pub fn fill_all<R: Threads + Sync>(
     rt: &R,
     alloc: Global,
     graph: &Graph,
     lengths: &[u64],
     rows: &mut [Row],
+    threads: u16,
 )
     requires lengths { AreLengths graph.now.cells lengths.now }
     requires rows { (k : ℕ) (d : _) → k < length rows.old → IsBlank graph.now.nodes (slice_index_or rows.old k d) }
     ensures { (k : ℕ) (d : _) → k < length rows.old → Fills graph.now lengths.now (slice_index_or rows.old k d) (slice_index_or rows.new k d) }
 {
-    let threads = thread_count(rt, lengths.len(), rows.len());
+    let threads = thread_count(rt, lengths.len(), rows.len(), threads);
     if threads == 1 || rows.is_empty() {
         fill_rows(alloc, graph, lengths, rows);
         return;
@@ -188,7 +192,8 @@ fn mark_row(alloc: Global, graph: &Graph, row: &mut Row) -> Result<(), AllocErro
     Ok(())
 }
 
-/// Fills each row with 0 for a node that its source reaches over positive cells, and 1 for every other.
+/// Fills each blank row with 0 for a node that its source reaches over positive cells, and 1 for every other. `Err` is
+/// for want of memory.
 pub fn mark_all(alloc: Global, graph: &Graph, rows: &mut [Row]) -> Result<(), AllocError>
     requires rows { (k : ℕ) (d : _) → k < length rows.old → IsBlank graph.now.nodes (slice_index_or rows.old k d) }
     ensures sources { OnOk result ((k : ℕ) (d : _) → k < length rows.old → (slice_index_or rows.new k d).source ≡ (slice_index_or rows.old k d).source) }

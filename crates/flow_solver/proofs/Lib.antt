@@ -1,5 +1,3 @@
-pub mod Fills
-pub mod Leasts
 pub mod Loads
 pub mod Nexts
 pub mod Routing

@@ -13,21 +13,21 @@ use Rattle.gap_fraction.specs.Fraction.{Fraction, IsWithinGap}
 use Rattle.flow_paths.specs.DualRows.{DualRows}
 use Rattle.flow_paths.specs.Certificate.{upper_of}
 use Rattle.flow_paths.specs.Evaluation.{fill, fraction_le}
+use Rattle.path_rows.specs.declared.fill.Fill.{Fill}
+use Rattle.path_rows.specs.Fullness.{IsFill, fullness}
+use Rattle.path_rows.proofs.FillLimits.{fill-positive, fill-cap, fill-load}
+use Rattle.path_rows.proofs.Least.{least-push}
 use Rattle.flow_core.specs.Phase.{Routed}
 use Rattle.dual_bound.specs.declared.bounds.Bounded.{Bounded}
 use Rattle.dual_bound.specs.Bounds.{IsBoundOf, ShowsBound}
 use Rattle.mcf_limits.specs.declared.TheConstants.{MAX_LENGTH, MAX_PHASES, MAX_TOTAL, MAX_UNITS}
 use Rattle.solver_run.specs.declared.options.SolveOptions.{SolveOptions}
 use Rattle.solver_run.specs.History.{routed_in, loads_after, fill_after, lower_after, first_setting, later_setting, setting_after, AreRoutedBy}
-use Rattle.solver_run.specs.Run.{least_dual, IsClosedAfter, ArePhases}
-use Rattle.flow_solver.specs.declared.fill.Fill.{Fill}
+use Rattle.solver_run.specs.Run.{no_dual, least_dual, IsClosedAfter, ArePhases}
 use Rattle.flow_solver.specs.declared.search.Search.{Search}
 use Rattle.flow_solver.specs.declared.reached.Reached.{Reached}
-use Rattle.flow_solver.specs.Fullness.{IsFill, fullness}
 use Rattle.flow_solver.specs.Search.{phases_in, phase_count, IsSearch, HasRouted}
 use Rattle.flow_solver.specs.Reached.{AllDivide, IsReached, IsMet}
-use Rattle.flow_solver.proofs.Fills.{fill-positive, fill-cap, fill-load}
-use Rattle.flow_solver.proofs.Leasts.{least-push}
 use Rattle.flow_solver.proofs.Nexts.{phases-more, next-of, no-phases, reference-kept, fill-kept}
 use Rattle.flow_solver.proofs.Routing.{count-of, loads-size}
 
@@ -178,7 +178,7 @@ next-reached net o r new f later kept is unmet after h same fits bound shows val
     let reference_is : setting ≡ later_setting net o (phases_in new) = later-of net o (phases_in old) r.reference is.reference ∙ sym kept_reference in
     let low = divides net later.dual shows in
     let duals_count = is.phases.count in
-    let least = least-push net is.duals later.dual (omega arith) is.divide low in
+    let least = least-push (upper_of net) no_dual is.duals later.dual (omega arith) is.divide low in
     let values : fraction_le r.kept.value later.value ≡ fraction_le (upper_of net (least_dual net is.duals)) (upper_of net later.dual) =
     ap (λ (x : Fraction). fraction_le x later.value) (is.value ∙ ap (upper_of net) is.kept) ∙ ap (λ (x : Fraction). fraction_le (upper_of net (least_dual net is.duals)) x) value in
     let kept_dual : kept.dual ≡ least_dual net (is.duals ++ later.dual ∷ []) =

@@ -1,3 +1,2 @@
-pub mod Fullness
 pub mod Search
 pub mod Reached

@@ -4,12 +4,12 @@ use Rattle.flow_model.specs.Network.{Network}
 use Rattle.gap_fraction.specs.Fraction.{IsWithinGap}
 use Rattle.flow_paths.specs.DualRows.{DualRows}
 use Rattle.flow_paths.specs.Certificate.{upper_of}
+use Rattle.path_rows.specs.Fullness.{IsFill, fullness}
 use Rattle.dual_bound.specs.Bounds.{ShowsBound}
 use Rattle.solver_run.specs.declared.options.SolveOptions.{SolveOptions}
 use Rattle.solver_run.specs.History.{fill_after, lower_after, AreRoutedBy}
 use Rattle.solver_run.specs.Run.{least_dual, ArePhases}
 use Rattle.flow_solver.specs.declared.reached.Reached.{Reached}
-use Rattle.flow_solver.specs.Fullness.{IsFill, fullness}
 use Rattle.flow_solver.specs.Search.{IsSearch, phases_in, phase_count}
 
 -- each dual has a value

@@ -3,13 +3,12 @@
 ghost use Rattle.std.specs.Prelude.{◌≡◌, ℕ, ◌+◌, ◌*◌, ◌<◌, ◌≤◌, ◌↔◌, true, false, IsTrue, IfOk, length, slice_index};
 ghost use Rattle.flow_model.specs.Lengths.{IsSetting};
 ghost use Rattle.flow_model.specs.Least.{HasNoCut};
+ghost use Rattle.path_rows.specs.Fullness.{IsFill, fullness};
 ghost use Rattle.solver_run.specs.History.{fill_after, first_setting};
 ghost use Rattle.solver_run.specs.Options.{AreOptions};
-ghost use Rattle.flow_solver.specs.Fullness.{IsFill, fullness};
 ghost use Rattle.flow_solver.specs.Reached.{IsMet, IsReached};
 ghost use Rattle.flow_solver.specs.Search.{IsSearch, phase_count, phases_in};
 
-use crate::fill::{Fill, fullest};
 use crate::kept::lesser;
 use crate::search::{Search, bound_of, new_search, route};
 use dual_bound::Bounded;
@@ -19,6 +18,7 @@ use gap_fraction::Frac;
 use mcf_base::Gate;
 use mcf_limits::{MAX_GAP, MAX_LENGTH, MAX_PHASES};
 use net_graph::Graph;
+use path_rows::{Fill, fullest};
 use solver_run::SolveOptions;
 use std::alloc::{AllocError, Global};
 use std::thread::Threads;
@@ -67,7 +67,7 @@ fn setting_after_first(reference: Fill, step: u32) -> Setting
     }
 }
 
-/// The first phase, and the bound after it.
+/// The first phase, and the bound after it, which takes at most so many threads.
 pub fn first<G: Gate, R: Threads + Sync>(
     rt: &R,
     alloc: Global,
@@ -77,6 +77,7 @@ pub fn first<G: Gate, R: Threads + Sync>(
     powers: &Powers,
     options: &SolveOptions,
     gate: &G,
+    threads: u16,
 ) -> Result<Reached, AllocError>
     requires groups { groups.now ≡ net.now }
     requires graph { graph.now ≡ net.now }
@@ -109,6 +110,7 @@ pub fn first<G: Gate, R: Threads + Sync>(
         &later,
         &search.loads,
         &mut search.lengths,
+        threads,
     )?;
     Ok(Reached {
         search,
@@ -118,7 +120,7 @@ pub fn first<G: Gate, R: Threads + Sync>(
     })
 }
 
-/// One phase more, and the lesser of the least bound and the bound after it.
+/// One phase more, and the lesser of the least bound and the bound after it, which takes at most so many threads.
 pub fn next<G: Gate, R: Threads + Sync>(
     rt: &R,
     alloc: Global,
@@ -128,6 +130,7 @@ pub fn next<G: Gate, R: Threads + Sync>(
     powers: &Powers,
     options: &SolveOptions,
     gate: &G,
+    threads: u16,
     reached: Reached,
 ) -> Result<Reached, AllocError>
     requires groups { groups.now ≡ net.now }
@@ -169,6 +172,7 @@ pub fn next<G: Gate, R: Threads + Sync>(
         &setting,
         &search.loads,
         &mut search.lengths,
+        threads,
     )?;
     Ok(Reached {
         search,

@@ -11,7 +11,7 @@ ghost use Rattle.phase_engine.specs.Routing.{IsRoutedPhase};
 ghost use Rattle.flow_solver.specs.Search.{HasRouted, IsSearch, phase_count};
 
 use crate::hands::{forget_all, new_hands};
-use dual_bound::{Bounded, bound};
+use dual_bound::{Bounded, bound_in};
 use fixed_exp::Powers;
 use flow_model::{Groups, Net, Setting};
 use load_table::Loads;
@@ -129,7 +129,7 @@ pub fn route<G: Gate, R: Threads + Sync>(
     Ok(())
 }
 
-/// The bound of the lengths of these loads.
+/// The bound of the lengths of these loads, in at most so many threads.
 pub fn bound_of<R: Threads + Sync>(
     rt: &R,
     alloc: Global,
@@ -139,6 +139,7 @@ pub fn bound_of<R: Threads + Sync>(
     setting: &Setting,
     loads: &[u64],
     lengths: &mut [u64],
+    threads: u16,
 ) -> Result<Bounded, AllocError>
     requires graph { graph.now ≡ net.now }
     requires setting { IsSetting setting.now }
@@ -150,5 +151,5 @@ pub fn bound_of<R: Threads + Sync>(
     ensures value { IfOk result (λ b. b.value ≡ upper_of net.now b.dual) }
 {
     powers.lengths(net, setting, loads, lengths);
-    bound(rt, alloc, net, graph, lengths)
+    bound_in(rt, alloc, net, graph, lengths, threads)
 }

@@ -10,7 +10,6 @@ ghost use Rattle.solver_run.specs.Run.{IsSolverRun};
 ghost use Rattle.flow_solver.specs.Reached.{IsMet, IsReached};
 ghost use Rattle.flow_solver.specs.Search.{phase_count};
 
-use crate::printing::{printed_down, printed_up};
 use crate::reached::{Reached, first, is_met, lower, next};
 use crate::search::Search;
 use crate::solved::Solved;
@@ -20,8 +19,10 @@ use flow_model::{Groups, Net};
 use flow_paths::{PathStore, Proof, Routing};
 use gap_fraction::Frac;
 use mcf_base::Gate;
+use mcf_limits::MAX_WORKERS;
 use net_graph::Graph;
 use path_history::{Entries, OrderedHistory};
+use path_rows::{printed_down, printed_up};
 use solver_run::SolveOptions;
 use std::alloc::{AllocError, Global};
 use std::thread::Threads;
@@ -43,6 +44,7 @@ fn all_phases<G: Gate, R: Threads + Sync>(
     powers: &Powers,
     options: &SolveOptions,
     gate: &G,
+    threads: u16,
 ) -> Result<Ended, AllocError>
     requires groups { groups.now ≡ net.now }
     requires graph { graph.now ≡ net.now }
@@ -53,7 +55,9 @@ fn all_phases<G: Gate, R: Threads + Sync>(
     ensures closed { IfOk result (λ e. IsTrue e.closed ↔ IsMet net.now options.now e.reached) }
     ensures spent { IfOk result (λ e. e.closed ≡ false → phase_count e.reached.search ≡ options.now.phases) }
 {
-    let mut reached = first(rt, alloc, net, groups, graph, powers, options, gate)?;
+    let mut reached = first(
+        rt, alloc, net, groups, graph, powers, options, gate, threads,
+    )?;
     'phases: loop {
         if is_met(net, options, &reached) {
             return Ok(Ended {
@@ -68,7 +72,7 @@ fn all_phases<G: Gate, R: Threads + Sync>(
             });
         }
         reached = next(
-            rt, alloc, net, groups, graph, powers, options, gate, reached,
+            rt, alloc, net, groups, graph, powers, options, gate, threads, reached,
         )?;
     }
 }
@@ -156,6 +160,7 @@ fn uncut<G: Gate, R: Threads + Sync>(
     graph: &Graph,
     options: &SolveOptions,
     gate: &G,
+    threads: u16,
 ) -> Result<Solved, AllocError>
     requires graph { graph.now ≡ net.now }
     requires no_cut { HasNoCut net.now }
@@ -166,7 +171,9 @@ fn uncut<G: Gate, R: Threads + Sync>(
 {
     let groups = Groups::new(alloc, net)?;
     let powers = Powers::new();
-    let ended = all_phases(rt, alloc, net, &groups, graph, &powers, options, gate)?;
+    let ended = all_phases(
+        rt, alloc, net, &groups, graph, &powers, options, gate, threads,
+    )?;
     finished(alloc, net, options, ended)
 }
 
@@ -177,6 +184,7 @@ fn certified<G: Gate, R: Threads + Sync>(
     net: &Net,
     options: &SolveOptions,
     gate: &G,
+    threads: u16,
 ) -> Result<Solved, AllocError>
     requires { AreOptions net.now options.now }
     ensures run { IfOk result (λ s. IsSolverRun net.now options.now s) }
@@ -186,7 +194,7 @@ fn certified<G: Gate, R: Threads + Sync>(
     let graph = Graph::new(alloc, net)?;
     match graph.first_cut(alloc, net)? {
         Some(_) => cut_off(alloc, net, &graph, options),
-        None => uncut(rt, alloc, net, &graph, options, gate),
+        None => uncut(rt, alloc, net, &graph, options, gate, threads),
     }
 }
 
@@ -205,7 +213,25 @@ pub fn solve<G: Gate, R: Threads + Sync>(
     ensures printed { IfOk result (λ s. FractionsArePrinted net.now s.proof) }
     ensures solved { IfOk result (λ s. IsSolved net.now options.now s) }
 {
+    solve_in(rt, alloc, net, options, gate, MAX_WORKERS)
+}
+
+/// As `solve`, with bounds that take at most so many threads, their caller's among them; 0 stands for 1. So with 1, and
+/// with one worker, a solve starts no thread of its own.
+pub fn solve_in<G: Gate, R: Threads + Sync>(
+    rt: &R,
+    alloc: Global,
+    net: &Net,
+    options: &SolveOptions,
+    gate: &G,
+    threads: u16,
+) -> Result<Solved, AllocError>
+    requires { AreOptions net.now options.now }
+    ensures run { IfOk result (λ s. IsSolverRun net.now options.now s) }
+    ensures printed { IfOk result (λ s. FractionsArePrinted net.now s.proof) }
+    ensures solved { IfOk result (λ s. IsSolved net.now options.now s) }
+{
     let _cells = net.cells();
-    let solved = certified(rt, alloc, net, options, gate)?;
+    let solved = certified(rt, alloc, net, options, gate, threads)?;
     Ok(solved)
 }

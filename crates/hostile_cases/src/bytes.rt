@@ -2,7 +2,7 @@
 
 use crate::running::is_line;
 use crate::texts::{SCRIPT, last_line, spliced};
-use cert_cases::{CERTIFICATE, ONE_LINK, ROUTING, VALID};
+use cert_cases::{CERTIFICATE, ONE_LINK, ROUTING, SIGNED, SIGNED_ROUTING, VALID};
 use run_rows::{Answer, File, PRINT, WHAT_IF, ample_answer, judged};
 use std::alloc::Global;
 use std::process::Abort;
@@ -183,12 +183,14 @@ fn bytes_of_a_network(rt: HostRuntime) -> Result<(), Fail> {
 
 #[test]
 fn bytes_of_a_certificate(rt: HostRuntime) -> Result<(), Fail> {
-    expect_everywhere(&rt, rt.alloc(), Kind::Certificate, CERTIFICATE)
+    expect_everywhere(&rt, rt.alloc(), Kind::Certificate, CERTIFICATE)?;
+    expect_everywhere(&rt, rt.alloc(), Kind::Certificate, SIGNED)
 }
 
 #[test]
 fn bytes_of_a_routing(rt: HostRuntime) -> Result<(), Fail> {
-    expect_everywhere(&rt, rt.alloc(), Kind::Routing, ROUTING)
+    expect_everywhere(&rt, rt.alloc(), Kind::Routing, ROUTING)?;
+    expect_everywhere(&rt, rt.alloc(), Kind::Routing, SIGNED_ROUTING)
 }
 
 #[test]

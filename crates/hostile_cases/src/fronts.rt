@@ -1,7 +1,7 @@
 //! Every proper front of a small text of each kind.
 
 use crate::texts::{SCRIPT, last_line};
-use cert_cases::{CERTIFICATE, ONE_LINK, ROUTING, VALID};
+use cert_cases::{CERTIFICATE, ONE_LINK, ROUTING, SIGNED, SIGNED_ROUTING, VALID};
 use run_rows::{File, PRINT, WHAT_IF, ample_answer, expect_cert, expect_script, judged};
 use std::alloc::Global;
 use std::process::Abort;
@@ -57,20 +57,31 @@ fn expect_front(
     Ok(())
 }
 
+// Each proper front of it.
+fn expect_fronts(
+    rt: &(impl Abort + Threads + Sync),
+    alloc: Global,
+    header: usize,
+    text: &[u8],
+) -> Result<(), Fail> {
+    for i in 0..text.len() {
+        expect_front(rt, alloc, header, i, &text[..i])?;
+    }
+    Ok(())
+}
+
 #[test]
 fn fronts_of_a_certificate(rt: HostRuntime) -> Result<(), Fail> {
-    for i in 0..CERTIFICATE.len() {
-        expect_front(&rt, rt.alloc(), 17, i, &CERTIFICATE[..i])?;
-    }
-    expect_cert(&rt, rt.alloc(), "whole", ONE_LINK, CERTIFICATE, 0, VALID)
+    expect_fronts(&rt, rt.alloc(), 17, CERTIFICATE)?;
+    expect_cert(&rt, rt.alloc(), "form 1", ONE_LINK, CERTIFICATE, 0, VALID)?;
+    expect_fronts(&rt, rt.alloc(), 17, SIGNED)?;
+    expect_cert(&rt, rt.alloc(), "form 2", ONE_LINK, SIGNED, 0, VALID)
 }
 
 #[test]
 fn fronts_of_a_routing(rt: HostRuntime) -> Result<(), Fail> {
-    for i in 0..ROUTING.len() {
-        expect_front(&rt, rt.alloc(), 13, i, &ROUTING[..i])?;
-    }
-    Ok(())
+    expect_fronts(&rt, rt.alloc(), 13, ROUTING)?;
+    expect_fronts(&rt, rt.alloc(), 13, SIGNED_ROUTING)
 }
 
 /// What comes of each front of the script: the number of the refusal, or a point where the front is itself a script.

@@ -2,7 +2,9 @@
 
 use crate::texts::filled;
 use cert_cases::{ONE_LINK, VALID, repeated};
-use run_rows::{CHECK, File, PRINT, WHAT_IF, expect, expect_cert, expect_net, expect_script};
+use run_rows::{
+    CHECK, File, PRINT, UPGRADE, WHAT_IF, expect, expect_cert, expect_net, expect_script,
+};
 use std::alloc::Global;
 use std::test::Fail;
 use std::thread::Threads;
@@ -13,6 +15,10 @@ const NETWORK: &[u8] =
 
 /// What is solved of it.
 const SOLVED: &[u8] =
+    b"mcf-certificate 2\nverdict closed\nlinks directed\nmodules largest\nnet nodes 2 cells 1 commodities 1 decimals 0 skipped 0 left 0 hops 0\ngap 0.050000\nphases 1\nscale 10 4\nlower 10/4 2.500000\nupper 45035996273704960/18014398509481984 2.500000\npath @ 4 +@\nlength +@ 4503599627370496\npotential @ 0 4503599627370496\nend\n";
+
+/// The same in form 1.
+const OLD: &[u8] =
     b"mcf-certificate 1\nverdict closed\nlinks directed\nmodules largest\nnet nodes 2 cells 1 commodities 1 decimals 0 skipped 0 left 0 hops 0\ngap 0.050000\nphases 1\nscale 10 4\nlower 10/4 2.500000\nupper 45035996273704960/18014398509481984 2.500000\npath @ 4 @\nlength @ 4503599627370496\npotential @ 0 4503599627370496\nend\n";
 
 const SCRIPT: &[u8] = b"set @ 10 add @ 2 sub @ 12\nclose @ show";
@@ -46,6 +52,10 @@ const IDS: &[&[u8]] = &[
     b"--gap",
     b"/",
     b"=",
+    b"+",
+    b"-",
+    b"+@",
+    b"=+-",
     b"\"",
     b"'",
     b"\\",
@@ -72,13 +82,88 @@ fn expect_id<R: Threads + Sync>(rt: &R, alloc: Global, shows: &str, id: &[u8]) -
     expect(rt, alloc, shows, PRINT, &files, 0, &net)?;
     expect(rt, alloc, shows, SOLVE, &files, 0, &cert)?;
     expect(rt, alloc, shows, CHECK, &files, 0, VALID)?;
-    expect(rt, alloc, shows, WHAT_IF, &files, 0, SHOWN)
+    expect(rt, alloc, shows, WHAT_IF, &files, 0, SHOWN)?;
+    let old = filled(alloc, OLD, b'@', id)?;
+    let files: [File<'_>; 2] = [("net", &net), ("cert", &old)];
+    expect(rt, alloc, shows, CHECK, &files, 0, VALID)?;
+    expect(rt, alloc, shows, UPGRADE, &files, 0, &cert)
 }
 
 #[test]
 fn ids_of_unusual_bytes(rt: HostRuntime) -> Result<(), Fail> {
     for id in IDS {
         expect_id(&rt, rt.alloc(), "unusual", id)?;
+    }
+    Ok(())
+}
+
+/// Links side by side whose ids begin with signs. That of `L` is the least capacity that carries the routing.
+const SIGNS: &[u8] =
+    b"?SNDlib native format; type: network; version: 1.0\nNODES (\n  A\n  B\n)\nLINKS (\n  + ( A B ) 1 0 0 0 ( )\n  - ( A B ) 2 0 0 0 ( )\n  = ( A B ) 3 0 0 0 ( )\n  +L ( A B ) 4 0 0 0 ( )\n  -L ( A B ) 5 0 0 0 ( )\n  =L ( A B ) 6 0 0 0 ( )\n  L ( A B ) 7 0 0 0 ( )\n  ++L ( A B ) 8 0 0 0 ( )\n)\nDEMANDS (\n  D ( A B ) 1 1 UNLIMITED\n)\n";
+
+/// A routing over one of them: its form stands for `!`, its links for `#`, and the word of its path for `@`.
+const ROUTING: &[u8] =
+    b"mcf-routing !\nlinks #\nmodules none\nphases 1\nscale 7 1\npath D 1 @\nend\n";
+
+// The form, how links are read, the word of the path, the status, and the line.
+type Signed = (
+    &'static [u8],
+    &'static [u8],
+    &'static [u8],
+    u8,
+    &'static [u8],
+);
+
+const SIGNED: &[Signed] = &[
+    (b"1", b"directed", b"+L", 1, b"invalid C3\n"),
+    (
+        b"2",
+        b"directed",
+        b"+L",
+        0,
+        b"feasible directed none 7/1 7.000000\n",
+    ),
+    (
+        b"1",
+        b"directed",
+        b"++L",
+        0,
+        b"feasible directed none 7/1 7.000000\n",
+    ),
+    (b"2", b"directed", b"++L", 1, b"invalid C3\n"),
+    (b"2", b"directed", b"++", 1, b"invalid C3\n"),
+    (b"2", b"directed", b"+", 3, b"refused cert K3 line 6\n"),
+    (b"2", b"directed", b"--", 3, b"refused cert K3 line 6\n"),
+    (b"1", b"undirected", b"=L", 1, b"invalid C3\n"),
+    (
+        b"2",
+        b"undirected",
+        b"=L",
+        0,
+        b"feasible undirected none 7/1 7.000000\n",
+    ),
+    (b"2", b"undirected", b"+L", 3, b"refused cert K3 line 6\n"),
+    (
+        b"2",
+        b"bidirected",
+        b"+++L",
+        0,
+        b"feasible bidirected none 7/1 7.000000\n",
+    ),
+    (b"2", b"bidirected", b"-L", 1, b"invalid C1\n"),
+    (b"2", b"bidirected", b"=", 3, b"refused cert K3 line 6\n"),
+    (b"1", b"bidirected", b"-L", 3, b"refused cert K2 line 2\n"),
+];
+
+// The first byte of a cell word is the sign, whatever follows it.
+#[test]
+fn ids_that_begin_with_signs(rt: HostRuntime) -> Result<(), Fail> {
+    let alloc = rt.alloc();
+    for (form, links, word, status, line) in SIGNED {
+        let cert = filled(alloc, ROUTING, b'!', form)?;
+        let cert = filled(alloc, &cert, b'#', links)?;
+        let cert = filled(alloc, &cert, b'@', word)?;
+        expect_cert(&rt, alloc, "signs", SIGNS, &cert, *status, line)?;
     }
     Ok(())
 }

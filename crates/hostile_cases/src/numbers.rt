@@ -7,7 +7,7 @@ use std::test::Fail;
 
 const SOLVE: &[&str] = &["solve", "net", "--workers", "1"];
 
-const CLOSED: &[u8] = b"mcf-certificate 1\nverdict closed\n";
+const CLOSED: &[u8] = b"mcf-certificate 2\nverdict closed\n";
 
 /// Of what is written each row has the front.
 const NETWORKS: &[Edit] = &[

@@ -29,7 +29,7 @@ const NETWORKS: &[NetRow] = &[
         b"  L1 ( A B ) 10 0 0 0 ( )\n",
         b"",
         0,
-        b"mcf-certificate 1\nverdict closed\nlinks undirected\nmodules largest\nnet nodes 2 cells 0 commodities 1 decimals 0 skipped 0 left 0 hops 0\ngap 0.050000\nphases 0\nscale 0 1\nlower 0/1 0.000000\nupper 0/4 0.000000\npotential A 0 1\nend\n",
+        b"mcf-certificate 2\nverdict closed\nlinks undirected\nmodules largest\nnet nodes 2 cells 0 commodities 1 decimals 0 skipped 0 left 0 hops 0\ngap 0.050000\nphases 0\nscale 0 1\nlower 0/1 0.000000\nupper 0/4 0.000000\npotential A 0 1\nend\n",
     ),
     (
         "repeated_link",

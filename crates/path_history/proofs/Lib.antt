@@ -5,7 +5,4 @@ pub mod OneMore
 pub mod Placed
 pub mod Named
 pub mod RowsFound
-pub mod Ascending
-pub mod Numbers
-pub mod RowOrder
 pub mod Renumbered

@@ -9,15 +9,16 @@ use Rattle.std.proofs.lemmas.Option.{slice_get-get_or, slice_get_within, get_or_
 use Rattle.flow_model.specs.Network.{Network}
 use Rattle.flow_model.specs.Routing.{Row}
 use Rattle.flow_paths.specs.PathRows.{row_at, no_row}
+use Rattle.path_rows.specs.RowOrder.{row_lt}
+use Rattle.path_rows.specs.Ordering.{IsOfAll, IsOrderOf, AreNumbersOf}
+use Rattle.path_rows.proofs.Numbers.{below_of_all, apart_of_all, to_place}
+use Rattle.path_rows.proofs.RowOrder.{rows_differ, rows_ascend}
 use Rattle.flow_core.specs.Phase.{Routed}
 use Rattle.solver_run.specs.declared.options.Entry.{Entry}
-use Rattle.solver_run.specs.History.{times_named, path_named, routed_in, row_lt, IsWeighed, NamesRows, AreRowsOf}
+use Rattle.solver_run.specs.History.{times_named, path_named, routed_in, IsWeighed, NamesRows, AreRowsOf}
 use Rattle.path_history.specs.Phases.{NamesBelow, renumbered}
 use Rattle.path_history.specs.Rows.{AreApart, AreRowsFor}
-use Rattle.path_history.specs.Ordering.{IsOfAll, IsOrderOf, AreNumbersOf}
 use Rattle.path_history.proofs.Times.{names_of}
-use Rattle.path_history.proofs.Numbers.{below_of_all, apart_of_all, to_place}
-use Rattle.path_history.proofs.RowOrder.{rows_differ, rows_ascend}
 
 -- the rows in the order
 abbrev pub in_order : List Row → List ℕ → List Row

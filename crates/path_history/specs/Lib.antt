@@ -2,5 +2,3 @@ pub mod Phases
 pub mod Rows
 pub mod Routes
 pub mod Adding
-pub mod Ordering
-pub mod Sorted

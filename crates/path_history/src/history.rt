@@ -4,11 +4,11 @@ ghost use Rattle.std.specs.Prelude.{◌≡◌};
 
 use crate::entries::Entries;
 use crate::found::found_rows;
-use crate::ordering::{new_numbers, order_of, stored};
 use crate::places::{Place, places_of};
 use flow_model::Net;
 use flow_paths::PathStore;
 use mcf_limits::{MAX_LENGTH, MAX_PHASES, MAX_WORK, MAX_WORKERS};
+use path_rows::{new_numbers, order_of, stored};
 use phase_engine::Hand;
 use solver_run::Entry;
 use std::alloc::{AllocError, Global};

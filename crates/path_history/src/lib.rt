@@ -4,7 +4,6 @@
 mod entries;
 mod found;
 mod history;
-mod ordering;
 mod places;
 
 pub use entries::Entries;

@@ -2,8 +2,8 @@
 
 use crate::edits::{Edit, expect_certs};
 use crate::expected::expect_cert;
-use crate::networks::{CUT, NO_CAPACITY};
-use cert_cases::{CERTIFICATE, ONE_LINK, VALID, edited, repeated};
+use crate::networks::{BOTH_WAYS, BOTH_WAYS_SOLVED, CUT, NO_CAPACITY};
+use cert_cases::{CERTIFICATE, ONE_LINK, SIGNED, VALID, edited, repeated};
 use std::test::Fail;
 
 const CERTIFICATES: &[Edit] = &[
@@ -181,6 +181,154 @@ const CUTS: &[Edit] = &[
     ),
 ];
 
+// Of the certificate of one link in form 2.
+const OF_ONE_WAY: &[Edit] = &[
+    ("closed_in_form_2", b"", b"", 0, VALID),
+    (
+        "sign_against_a_link_of_one_way",
+        b"4 +L1",
+        b"4 -L1",
+        3,
+        b"refused cert K3 line 11\n",
+    ),
+    (
+        "sign_for_both_ways_of_one",
+        b"4 +L1",
+        b"4 =L1",
+        3,
+        b"refused cert K3 line 11\n",
+    ),
+    (
+        "id_without_its_sign",
+        b"length +L1",
+        b"length L1",
+        3,
+        b"refused cert K3 line 12\n",
+    ),
+    (
+        "cell_words_in_form_1",
+        b"mcf-certificate 2",
+        b"mcf-certificate 1",
+        3,
+        b"refused cert K3 line 11\n",
+    ),
+    (
+        "third_form",
+        b"mcf-certificate 2",
+        b"mcf-certificate 3",
+        3,
+        b"refused cert K1 line 1\n",
+    ),
+    (
+        "form_of_two_digits",
+        b"mcf-certificate 2",
+        b"mcf-certificate 12",
+        3,
+        b"refused cert K1 line 1\n",
+    ),
+];
+
+// Of a certificate of a link of two cells.
+const OF_TWO_CELLS: &[Edit] = &[
+    (
+        "closed_with_two_cells",
+        b"",
+        b"",
+        0,
+        b"valid closed bidirected largest lower 10/5 2.000000 upper 90071992547409920/45035996273704960 2.000000\n",
+    ),
+    (
+        "path_goes_the_other_way",
+        b"5 +L1",
+        b"5 -L1",
+        1,
+        b"invalid C1\n",
+    ),
+    (
+        "there_and_back_is_no_way",
+        b"5 +L1",
+        b"5 +L1 -L1",
+        1,
+        b"invalid C1\n",
+    ),
+    (
+        "sign_for_both_ways",
+        b"5 +L1",
+        b"5 =L1",
+        3,
+        b"refused cert K3 line 11\n",
+    ),
+    (
+        "sign_alone",
+        b"5 +L1",
+        b"5 +",
+        3,
+        b"refused cert K3 line 11\n",
+    ),
+    (
+        "unknown_link_behind_a_sign",
+        b"5 -L1",
+        b"5 -L9",
+        3,
+        b"refused cert K3 line 12\n",
+    ),
+    (
+        "two_signs",
+        b"5 -L1",
+        b"5 +-L1",
+        3,
+        b"refused cert K3 line 12\n",
+    ),
+    (
+        "length_of_no_cell",
+        b"length -L1",
+        b"length =L1",
+        3,
+        b"refused cert K3 line 14\n",
+    ),
+    (
+        "one_cell_has_two_lengths",
+        b"length -L1",
+        b"length +L1",
+        1,
+        b"invalid C5\n",
+    ),
+    (
+        "potential_over_the_length_of_a_cell",
+        b"length -L1 4503599627370496",
+        b"length -L1 4503599627370495",
+        1,
+        b"invalid C7\n",
+    ),
+    (
+        "links_are_counted_as_cells",
+        b"cells 2",
+        b"cells 1",
+        3,
+        b"refused cert K6 line 5\n",
+    ),
+    (
+        "another_mode_has_other_cells",
+        b"links bidirected",
+        b"links directed",
+        3,
+        b"refused cert K6 line 5\n",
+    ),
+    (
+        "form_1_has_no_such_links",
+        b"mcf-certificate 2",
+        b"mcf-certificate 1",
+        3,
+        b"refused cert K2 line 3\n",
+    ),
+];
+
+#[test]
+fn certificates_of_form_2(rt: HostRuntime) -> Result<(), Fail> {
+    expect_certs(&rt, rt.alloc(), ONE_LINK, SIGNED, OF_ONE_WAY)?;
+    expect_certs(&rt, rt.alloc(), BOTH_WAYS, BOTH_WAYS_SOLVED, OF_TWO_CELLS)
+}
+
 #[test]
 fn certificates(rt: HostRuntime) -> Result<(), Fail> {
     expect_certs(&rt, rt.alloc(), ONE_LINK, CERTIFICATE, CERTIFICATES)?;
@@ -197,6 +345,24 @@ fn path_of_512_links(rt: HostRuntime) -> Result<(), Fail> {
         &rt,
         rt.alloc(),
         "path_of_512_links",
+        ONE_LINK,
+        &cert,
+        3,
+        b"refused cert K5 line 11\n",
+    )
+}
+
+// The 512th cell word of a row is too many, whatever it names.
+#[test]
+fn word_of_no_cell_behind_511(rt: HostRuntime) -> Result<(), Fail> {
+    let path = repeated(rt.alloc(), b" +L1", 511)?;
+    let cert = edited(rt.alloc(), SIGNED, b"4 +L1", b"4 =L9")?;
+    let cert = edited(rt.alloc(), &cert, b" =L9", &path)?;
+    let cert = edited(rt.alloc(), &cert, b"\nlength", b" =L9\nlength")?;
+    expect_cert(
+        &rt,
+        rt.alloc(),
+        "word_of_no_cell_behind_511",
         ONE_LINK,
         &cert,
         3,

@@ -2,9 +2,9 @@
 
 use crate::edits::{Edit, expect_certs, expect_on_nets};
 use crate::expected::expect;
-use crate::networks::{BOTH_ROUTED, BOTH_WAYS, THERE_AND_BACK};
+use crate::networks::{BOTH_ROUTED, BOTH_WAYS, EACH_WAY_ROUTED, THERE_AND_BACK};
 use crate::running::File;
-use cert_cases::{CERTIFICATE, ONE_LINK, ROUTING, edited};
+use cert_cases::{CERTIFICATE, ONE_LINK, ROUTING, SIGNED_ROUTING, edited};
 use std::test::Fail;
 
 const ROUTINGS: &[Edit] = &[
@@ -53,6 +53,63 @@ const TWO_WAYS: &[Edit] = &[
         b"scale 10 9",
         1,
         b"invalid C3\n",
+    ),
+];
+
+// A routing of form 2.
+const OF_FORM_2: &[Edit] = &[
+    (
+        "feasible_in_form_2",
+        b"",
+        b"",
+        0,
+        b"feasible directed none 10/4 2.500000\n",
+    ),
+    (
+        "cell_words_in_form_1",
+        b"mcf-routing 2",
+        b"mcf-routing 1",
+        3,
+        b"refused cert K3 line 6\n",
+    ),
+    (
+        "sign_of_another_mode",
+        b"links directed",
+        b"links undirected",
+        3,
+        b"refused cert K3 line 6\n",
+    ),
+    (
+        "third_form_of_a_routing",
+        b"mcf-routing 2",
+        b"mcf-routing 3",
+        3,
+        b"refused cert K1 line 1\n",
+    ),
+];
+
+// A routing with a cell for each direction.
+const EACH_WAY: &[Edit] = &[
+    (
+        "each_way_has_its_load",
+        b"",
+        b"",
+        0,
+        b"feasible bidirected none 10/5 2.000000\n",
+    ),
+    (
+        "load_of_one_way_over_the_capacity",
+        b"scale 10 5",
+        b"scale 10 4",
+        1,
+        b"invalid C3\n",
+    ),
+    (
+        "form_1_has_no_such_links",
+        b"mcf-routing 2",
+        b"mcf-routing 1",
+        3,
+        b"refused cert K2 line 2\n",
     ),
 ];
 
@@ -157,6 +214,8 @@ const TEXTS: &[Edit] = &[(
 fn routings(rt: HostRuntime) -> Result<(), Fail> {
     expect_certs(&rt, rt.alloc(), ONE_LINK, ROUTING, ROUTINGS)?;
     expect_certs(&rt, rt.alloc(), BOTH_WAYS, BOTH_ROUTED, TWO_WAYS)?;
+    expect_certs(&rt, rt.alloc(), ONE_LINK, SIGNED_ROUTING, OF_FORM_2)?;
+    expect_certs(&rt, rt.alloc(), BOTH_WAYS, EACH_WAY_ROUTED, EACH_WAY)?;
     expect_certs(&rt, rt.alloc(), ONE_LINK, ROUTING, WHOLE)
 }
 

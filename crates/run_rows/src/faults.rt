@@ -4,7 +4,7 @@ use crate::expected::expect;
 use crate::networks::{FREE_LAYOUT, FREE_LAYOUT_PRINTED, TWO_LINKS};
 use crate::running::{AMPLE, File, Outside, ample_answer, answer_to};
 use crate::whatifs::OPEN;
-use cert_cases::{CERTIFICATE, ONE_LINK, ROUTING, VALID};
+use cert_cases::{CERTIFICATE, ONE_LINK, ROUTING, SIGNED, VALID};
 use std::alloc::Global;
 use std::process::Abort;
 use std::test::Fail;
@@ -44,8 +44,15 @@ const PRINT: Run = Run {
 const SOLVE: Run = Run {
     words: &["solve", "net", "--links", "directed"],
     files: &[("net", ONE_LINK)],
-    text: CERTIFICATE,
+    text: SIGNED,
     reads: 5,
+};
+
+const UPGRADE: Run = Run {
+    words: &["upgrade", "net", "cert"],
+    files: &[("net", ONE_LINK), ("cert", CERTIFICATE)],
+    text: SIGNED,
+    reads: 12,
 };
 
 const WHAT_IF: Run = Run {
@@ -124,6 +131,12 @@ fn solve_fails(rt: HostRuntime) -> Result<(), Fail> {
 }
 
 #[test]
+fn upgrade_fails(rt: HostRuntime) -> Result<(), Fail> {
+    reads_fail(&rt, rt.alloc(), &UPGRADE)?;
+    writes_fail(&rt, rt.alloc(), &UPGRADE)
+}
+
+#[test]
 fn whatif_fails(rt: HostRuntime) -> Result<(), Fail> {
     reads_fail(&rt, rt.alloc(), &WHAT_IF)?;
     writes_fail(&rt, rt.alloc(), &WHAT_IF)?;
@@ -153,7 +166,7 @@ fn second_write_fails(rt: HostRuntime) -> Result<(), Fail> {
 // A read fault whose line cannot be written ends as a write that failed.
 #[test]
 fn read_and_write_fail(rt: HostRuntime) -> Result<(), Fail> {
-    for case in [&CHECK, &PRINT, &SOLVE, &WHAT_IF] {
+    for case in [&CHECK, &PRINT, &SOLVE, &UPGRADE, &WHAT_IF] {
         let outside = Outside {
             failing_read: case.reads,
             failing_write: 6,
@@ -237,7 +250,7 @@ fn files_that_do_not_stand(rt: HostRuntime) -> Result<(), Fail> {
 // A program that always answers want of memory meets its contract, and fails here.
 #[test]
 fn always_memory(rt: HostRuntime) -> Result<(), Fail> {
-    for case in [&CHECK, &PRINT, &SOLVE, &WHAT_IF] {
+    for case in [&CHECK, &PRINT, &SOLVE, &UPGRADE, &WHAT_IF] {
         let given = ample_answer(&rt, rt.alloc(), case.words, case.files)?;
         assert!(&rt; given.is(0, case.text));
     }

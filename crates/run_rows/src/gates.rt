@@ -90,7 +90,7 @@ fn two_workers_overlap(rt: HostRuntime) -> Result<(), Fail> {
         &gate,
     )?;
     assert!(rt; gate.met.load(Ordering::SeqCst));
-    assert!(rt; given.begins(0, b"mcf-certificate 1\nverdict closed\n"));
+    assert!(rt; given.begins(0, b"mcf-certificate 2\nverdict closed\n"));
     Ok(())
 }
 
@@ -116,7 +116,7 @@ fn a_held_worker_reads_the_shared_loads(rt: HostRuntime) -> Result<(), Fail> {
     assert!(rt;
         given.begins(
             1,
-            b"mcf-certificate 1\nverdict open\nlinks undirected\nmodules largest\nnet nodes 2 cells 2 commodities 2 decimals 0 skipped 0 left 0 hops 0\ngap 0.000000\nphases 2\nscale 7 15\nlower 14/15 0.933333\n"
+            b"mcf-certificate 2\nverdict open\nlinks undirected\nmodules largest\nnet nodes 2 cells 2 commodities 2 decimals 0 skipped 0 left 0 hops 0\ngap 0.000000\nphases 2\nscale 7 15\nlower 14/15 0.933333\n"
         )
     );
     Ok(())

@@ -21,6 +21,8 @@ mod running;
 #[cfg(test)]
 mod solves;
 #[cfg(test)]
+mod upgrades;
+#[cfg(test)]
 mod usages;
 #[cfg(test)]
 mod whatifs;
@@ -28,5 +30,7 @@ mod whatifs;
 mod words;
 
 pub use edits::{Edit, expect_certs, expect_nets, expect_on_nets};
-pub use expected::{CHECK, PRINT, WHAT_IF, expect, expect_cert, expect_net, expect_script};
+pub use expected::{
+    CHECK, PRINT, UPGRADE, WHAT_IF, expect, expect_cert, expect_net, expect_script,
+};
 pub use running::{AMPLE, Answer, File, Outside, ample_answer, answer_through, answer_to, judged};

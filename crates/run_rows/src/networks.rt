@@ -4,9 +4,17 @@
 pub const BOTH_WAYS: &[u8] =
     b"?SNDlib native format; type: network; version: 1.0\nNODES (\n  A\n  B\n)\nLINKS (\n  L1 ( A B ) 10 0 0 0 ( )\n)\nDEMANDS (\n  D1 ( A B ) 1 5 UNLIMITED\n  D2 ( B A ) 1 5 UNLIMITED\n)\n";
 
+/// What is solved of it where each direction of the link has the whole capacity.
+pub const BOTH_WAYS_SOLVED: &[u8] =
+    b"mcf-certificate 2\nverdict closed\nlinks bidirected\nmodules largest\nnet nodes 2 cells 2 commodities 2 decimals 0 skipped 0 left 0 hops 0\ngap 0.050000\nphases 1\nscale 10 5\nlower 10/5 2.000000\nupper 90071992547409920/45035996273704960 2.000000\npath D1 5 +L1\npath D2 5 -L1\nlength +L1 4503599627370496\nlength -L1 4503599627370496\npotential A 0 4503599627370496\npotential B 4503599627370496 0\nend\n";
+
 /// A routing for the network of two demands.
 pub const BOTH_ROUTED: &[u8] =
     b"mcf-routing 1\nlinks undirected\nmodules none\nphases 1\nscale 10 10\npath D1 5 L1\npath D2 5 L1\nend\n";
+
+/// A routing for it with a cell of the link for each direction.
+pub const EACH_WAY_ROUTED: &[u8] =
+    b"mcf-routing 2\nlinks bidirected\nmodules none\nphases 1\nscale 10 5\npath D1 5 +L1\npath D2 5 -L1\nend\n";
 
 /// A routing for the network of one link that uses its link there, back and there again.
 pub const THERE_AND_BACK: &[u8] =
@@ -16,9 +24,13 @@ pub const THERE_AND_BACK: &[u8] =
 pub const NO_CAPACITY: &[u8] =
     b"?SNDlib native format; type: network; version: 1.0\nNODES (\n  A\n  B\n)\nLINKS (\n  L1 ( A B ) 0 0 0 0 ( )\n)\nDEMANDS (\n  D1 ( A B ) 1 5 UNLIMITED\n)\n";
 
-/// A certificate for the network without capacity.
+/// A certificate for the network without capacity, in form 1.
 pub const CUT: &[u8] =
     b"mcf-certificate 1\nverdict closed\nlinks undirected\nmodules largest\nnet nodes 2 cells 1 commodities 1 decimals 0 skipped 0 left 0 hops 0\ngap 0.050000\nphases 0\nscale 0 1\nlower 0/1 0.000000\nupper 0/5 0.000000\nlength L1 1\npotential A 0 1\nend\n";
+
+/// The same certificate in form 2.
+pub const CUT_SIGNED: &[u8] =
+    b"mcf-certificate 2\nverdict closed\nlinks undirected\nmodules largest\nnet nodes 2 cells 1 commodities 1 decimals 0 skipped 0 left 0 hops 0\ngap 0.050000\nphases 0\nscale 0 1\nlower 0/1 0.000000\nupper 0/5 0.000000\nlength =L1 1\npotential A 0 1\nend\n";
 
 /// Links of 3 and 7 side by side, and a demand of 10.
 pub const TWO_LINKS: &[u8] =

@@ -1,15 +1,15 @@
 //! Rows of `whatif`: what a script shows of a certificate, or the first refusal of the three files.
 
 use crate::expected::{WHAT_IF, expect, expect_script};
-use crate::networks::{CUT, NO_CAPACITY, TWO_LINKS};
+use crate::networks::{BOTH_WAYS, BOTH_WAYS_SOLVED, CUT, NO_CAPACITY, TWO_LINKS};
 use crate::running::File;
-use cert_cases::{CERTIFICATE, ONE_LINK, ROUTING, repeated};
+use cert_cases::{CERTIFICATE, ONE_LINK, ROUTING, SIGNED, SIGNED_ROUTING, repeated};
 use std::test::Fail;
 
 /// The header of a routing, without the end of its line.
 const HEADER_OF_A_ROUTING: &[u8] = b"mcf-routing 1";
 
-/// A certificate of one phase over the second link.
+/// A certificate of one phase over the second link, in form 1.
 pub const OPEN: &[u8] =
     b"mcf-certificate 1\nverdict open\nlinks directed\nmodules largest\nnet nodes 2 cells 2 commodities 1 decimals 0 skipped 0 left 0 hops 0\ngap 0.050000\nphases 1\nscale 7 10\nlower 7/10 0.700000\nupper 20266198323167226/19301141260159260 1.050001\npath D1 10 L2\nlength L1 2251799813685248\nlength L2 1930114126015926\npotential A 0 1930114126015926\nend\n";
 
@@ -18,7 +18,7 @@ const TWO_PHASES: &[u8] =
     b"mcf-certificate 1\nverdict closed\nlinks directed\nmodules largest\nnet nodes 2 cells 2 commodities 1 decimals 0 skipped 0 left 0 hops 0\ngap 0.200000\nphases 3\nscale 3 10\nlower 9/10 0.900000\nupper 20266198323167226/19301141260159260 1.050001\npath D1 10 L1\npath D1 20 L2\nlength L1 2251799813685248\nlength L2 1930114126015926\npotential A 0 1930114126015926\nend\n";
 
 /// A certificate that says open and is closed.
-const INVALID: &[u8] =
+pub const INVALID: &[u8] =
     b"mcf-certificate 1\nverdict open\nlinks directed\nmodules largest\nnet nodes 2 cells 1 commodities 1 decimals 0 skipped 0 left 0 hops 0\ngap 0.050000\nphases 1\nscale 10 4\nlower 10/4 2.500000\nupper 45035996273704960/18014398509481984 2.500000\npath D1 4 L1\nlength L1 4503599627370496\npotential A 0 4503599627370496\nend\n";
 
 // What a row shows, the network, the certificate, the script, the status, and the text.
@@ -52,6 +52,14 @@ const ROWS: &[Row] = &[
         "routing_is_no_certificate",
         ONE_LINK,
         ROUTING,
+        b"show",
+        3,
+        b"refused cert K1 line 1\n",
+    ),
+    (
+        "routing_of_form_2_is_no_certificate",
+        ONE_LINK,
+        SIGNED_ROUTING,
         b"show",
         3,
         b"refused cert K1 line 1\n",
@@ -153,12 +161,64 @@ const ROWS: &[Row] = &[
         0,
         b"show lower 0/4 0.000000 upper 0/18014398509481984 0.000000\n",
     ),
+    (
+        "certificate_of_form_2",
+        ONE_LINK,
+        SIGNED,
+        b"show",
+        0,
+        b"show lower 10/4 2.500000 upper 45035996273704960/18014398509481984 2.500000\n",
+    ),
+];
+
+// What a row shows, a script on a certificate of a link of two cells, the status, and the text.
+type Script = (&'static str, &'static [u8], u8, &'static [u8]);
+
+const ON_TWO_CELLS: &[Script] = &[
+    (
+        "both_cells_are_closed",
+        b"close L1 show",
+        0,
+        b"show lower 0/5 0.000000 upper 0/45035996273704960 0.000000\n",
+    ),
+    (
+        "both_cells_are_set",
+        b"set L1 3 show",
+        0,
+        b"show lower 3/5 0.600000 upper 27021597764222976/45035996273704960 0.600000\n",
+    ),
+    (
+        "both_cells_at_the_limit",
+        b"add L1 17592186044406 show",
+        0,
+        b"show lower 17592186044416/5 3518437208883.200000 upper 158456325028528675187087900672/45035996273704960 3518437208883.200000\n",
+    ),
+    (
+        "a_cell_is_no_link",
+        b"close +L1",
+        3,
+        b"refused script S2 line 1\n",
+    ),
 ];
 
 #[test]
 fn scripts(rt: HostRuntime) -> Result<(), Fail> {
     for (shows, net, cert, script, status, text) in ROWS {
         let files: [File<'_>; 3] = [("net", net), ("cert", cert), ("script", script)];
+        expect(&rt, rt.alloc(), shows, WHAT_IF, &files, *status, text)?;
+    }
+    Ok(())
+}
+
+// An edit is one of the link, and so of both its cells.
+#[test]
+fn scripts_on_two_cells(rt: HostRuntime) -> Result<(), Fail> {
+    for (shows, script, status, text) in ON_TWO_CELLS {
+        let files: [File<'_>; 3] = [
+            ("net", BOTH_WAYS),
+            ("cert", BOTH_WAYS_SOLVED),
+            ("script", script),
+        ];
         expect(&rt, rt.alloc(), shows, WHAT_IF, &files, *status, text)?;
     }
     Ok(())

@@ -21,6 +21,7 @@ const FIRST_NAMES: &[(&[&str], &str)] = &[
     (&["solve", "Zürich.net"], "Zürich.net"),
     (&["check", "-", "cert"], "-"),
     (&["print", "--", "-h"], "-h"),
+    (&["upgrade", "-", "cert"], "-"),
 ];
 
 #[test]

@@ -2,7 +2,7 @@
 
 ghost use Rattle.std.specs.Prelude.{◌≡◌, ◌<◌, ◌≤◌, IfOk, All, length};
 
-use dual_bound::{bound, cut_bound};
+use dual_bound::{bound, bound_in, cut_bound};
 use fixed_exp::{LengthTable, Powers};
 use flow_model::Setting;
 use net_graph::Graph;
@@ -35,6 +35,11 @@ fn bound_of_two_links_under_a_load(rt: HostRuntime) -> Result<(), Fail> {
     assert_eq!(rt; bounded.dual.rows(), 1);
     assert_eq!(rt; bounded.dual.row_node(0), 0);
     assert_eq!(rt; bounded.dual.row(0), [0, 1930114126015926].as_slice());
+    for threads in [0u16, 1, 16] {
+        let again = bound_in(&rt, alloc, &net, &graph, table.lengths(), threads)?;
+        assert_eq!(rt; again.value.num(), 20266198323167226);
+        assert_eq!(rt; again.dual.row(0), [0, 1930114126015926].as_slice());
+    }
     Ok(())
 }
 

@@ -5,7 +5,7 @@ ghost use Rattle.solver_run.specs.Options.{AreOptions};
 ghost use Rattle.solver_run.specs.Run.{IsSolverRun};
 
 use flow_model::Net;
-use flow_solver::{Solved, solve};
+use flow_solver::{Solved, solve, solve_in};
 use mcf_base::Gate;
 use mcf_limits::{MAX_GAP, MAX_PHASES, MAX_STEP, MAX_WORK, MAX_WORKERS};
 use solver_run::{Entry, SolveOptions};
@@ -40,6 +40,24 @@ pub fn solved<G: Gate, R: Threads + Sync>(
         return Ok(None);
     }
     let solved = solve(rt, alloc, net, options, gate)?;
+    Ok(Some(solved))
+}
+
+/// The same, with bounds in at most so many threads.
+pub fn solved_in<G: Gate, R: Threads + Sync>(
+    rt: &R,
+    alloc: Global,
+    net: &Net,
+    options: &SolveOptions,
+    gate: &G,
+    threads: u16,
+) -> Result<Option<Solved>, AllocError>
+    ensures { IfOk result (λ solved. IfSome solved (λ s. IsSolverRun net.now options.now s)) }
+{
+    if !are_options(net, options) {
+        return Ok(None);
+    }
+    let solved = solve_in(rt, alloc, net, options, gate, threads)?;
     Ok(Some(solved))
 }
 

@@ -5,7 +5,7 @@
 mod bounds;
 mod cases;
 
-pub use cases::{entry_of, solved};
+pub use cases::{entry_of, solved, solved_in};
 
 #[cfg(test)]
 mod tests;

@@ -1,6 +1,6 @@
 //! Networks, and the certificate that is solved of each.
 
-use crate::{entry_of, solved};
+use crate::{entry_of, solved, solved_in};
 use flow_model::Net;
 use flow_solver::Solved;
 use mcf_base::OpenGate;
@@ -103,6 +103,21 @@ fn the_first_bound_is_kept(rt: HostRuntime) -> Result<(), Fail> {
         assert_eq!(rt; paths.weight(0), 10);
         assert_eq!(rt; paths.path(1), [1u16].as_slice());
         assert_eq!(rt; paths.weight(1), 20);
+    }
+    Ok(())
+}
+
+/// In how many threads bounds are taken has no bearing.
+#[test]
+fn the_same_in_all_threads(rt: HostRuntime) -> Result<(), Fail> {
+    let alloc = rt.alloc();
+    let net = side_by_side(&rt, alloc)?;
+    let options = asked(200_000, 1000, 1, 65536);
+    for threads in [0u16, 1, 16] {
+        let found = solved_in(&rt, alloc, &net, &options, &OpenGate, threads)?;
+        let found = found.expect(&rt, "options");
+        assert_eq!(rt; outcome(&found), (3, 3, 10, true));
+        assert_eq!(rt; upper(&found), (20266198323167226, 19301141260159260));
     }
     Ok(())
 }

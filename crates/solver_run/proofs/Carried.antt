@@ -18,6 +18,7 @@ use Rattle.flow_paths.specs.DualRows.{DualRows}
 use Rattle.flow_paths.specs.PathRows.{row_at, no_row}
 use Rattle.flow_paths.specs.Evaluation.{fill, loads_of}
 use Rattle.flow_paths.specs.Certificate.{PathsAreWalks, PhasesAreCarried, LoadsFit, ScaleDivides, IsValidRouting, IsRoutingOf, IsRowOf, lower_of, upper_of}
+use Rattle.path_rows.proofs.NoneFuller.{IsFullest, fullest}
 use Rattle.flow_core.specs.Phase.{Routed, amounts_along}
 use Rattle.solver_run.specs.declared.options.SolveOptions.{SolveOptions}
 use Rattle.solver_run.specs.Options.{AreOptions}
@@ -25,7 +26,6 @@ use Rattle.solver_run.specs.Paths.{HavePaths, IsPathOf}
 use Rattle.solver_run.specs.History.{SolvedView, routed_in, phases_of, loads_after, lower_after}
 use Rattle.solver_run.specs.Run.{IsPhasedRun, least_dual}
 use Rattle.solver_run.specs.Headline.{IsTight}
-use Rattle.solver_run.proofs.Fill.{IsFullest, fullest}
 use Rattle.solver_run.proofs.Paths.{phase-paths}
 use Rattle.solver_run.proofs.Rows.{PhasesHavePaths, amount_at, path-inside, rows-paths, rows-carry, rows-load}
 use Rattle.solver_run.proofs.Weights.{load-limit, some-load}

@@ -1,7 +1,6 @@
 pub mod Carried
 pub mod Duals
 pub mod Exchange
-pub mod Fill
 pub mod Members
 pub mod Paths
 pub mod Rows

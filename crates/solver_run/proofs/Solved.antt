@@ -1,9 +1,9 @@
 -- What is a run of the solver is solved.
-use Rattle.std.proofs.Common.{◌≡◌, ◌↔◌, inl, inr, ℕ, suc, ◌+◌, ◌*◌, ◌<◌, ◌≤◌, Bool, true, false, List, [], ◌∷◌, cond, length, get_or, refl, sym, ap, subst, ◌∙◌, arith}
-use Rattle.std.specs.Prelude.{IsTrue}
+use Rattle.std.proofs.Common.{◌≡◌, ◌≢◌, ◌↔◌, inl, inr, ℕ, suc, ◌+◌, ◌*◌, ◌<◌, ◌≤◌, Bool, true, false, List, [], ◌∷◌, cond, length, get_or, refl, sym, ap, subst, ◌∙◌, arith}
+use Rattle.std.specs.Prelude.{All, IsTrue}
 use Rattle.std.proofs.lemmas.List.{length-map}
 use Rattle.std.proofs.lemmas.List.FromFn.{length-map-range_with_len}
-use Rattle.std.proofs.lemmas.List.Elements.{All-nil}
+use Rattle.std.proofs.lemmas.List.Elements.{All-nil, All-from_get_or}
 use Rattle.flow_model.specs.Network.{Network, IsNetwork}
 use Rattle.flow_model.specs.Lengths.{greatest_exponent, least_capacity, lengths_of}
 use Rattle.flow_model.specs.Routing.{Joins}
@@ -16,6 +16,8 @@ use Rattle.flow_paths.specs.declared.certificate.Proof.{Proof}
 use Rattle.flow_paths.specs.declared.certificate.Routing.{Routing}
 use Rattle.flow_paths.specs.Certificate.{FractionsArePrinted, IsValid, IsValidRouting, IsRoutingOf, IsRowOf, IsCertified, lengths_in, lower_of, upper_of}
 use Rattle.flow_paths.specs.Evaluation.{fraction_le}
+use Rattle.path_rows.specs.Least.{IsFirstLeast}
+use Rattle.path_rows.proofs.Least.{least-first}
 use Rattle.dual_bound.specs.Bounds.{ShowsBound, cut_lengths}
 use Rattle.dual_bound.proofs.Distances.{cut-volume}
 use Rattle.cert_check.proofs.Sound.{valid_certifies}
@@ -42,21 +44,38 @@ least-in net (d ∷ e ∷ ds) l = go (fraction_le (upper_of net d) (upper_of net
 own-lengths : (net : Network) (lengths : List ℕ) (dual : DualRows) → ShowsBound net lengths dual → ShowsBound net (lengths_in net dual) dual
 own-lengths net lengths dual s = subst (λ (xs : List ℕ). ShowsBound net xs dual) (sym s.lengths_are) s
 
--- the kept dual shows its bound
-run-shows : (net : Network) (o : SolveOptions) (s : SolvedView) → IsNetwork net → IsPhasedRun net o s → ShowsBound net (lengths_in net s.proof.dual) s.proof.dual
-run-shows net o s n r =
+-- each dual shows its bound
+dual-shows : (net : Network) (o : SolveOptions) (s : SolvedView) → IsNetwork net → (r : IsPhasedRun net o s) → (p : ℕ) → p < length r.duals
+    → ShowsBound net (lengths_in net (get_or r.duals p no_dual)) (get_or r.duals p no_dual)
+dual-shows net o s n r p l =
     let phases = phases_of s in
-    let long : length phases ≡ length s.history = length-map s.history _ in
-    let kept = least-in net r.duals (omega (arith, r.phases.count, r.some)) in
-    let p = kept.0 in
-    let next = r.phases.each p (omega (arith, kept.1, r.phases.count)) in
+    let next = r.phases.each p (omega (arith, l, r.phases.count)) in
     let setting = later_setting net o phases in
     let loads = loads_after net phases (p + 1) in
     let count : length loads ≡ length net.cells = length-map-range_with_len _ 0 (length net.cells) in
     let lengths = lengths_of net setting loads in
     let long_is = lengths-fit setting (greatest_exponent setting net.cells loads) net.cells loads count in
     let far = empty-far setting (greatest_exponent setting net.cells loads) (least_capacity net.cells) net.cells loads count in
-    subst (λ (d : DualRows). ShowsBound net (lengths_in net d) d) (sym (r.proof.dual ∙ kept.2)) (own-lengths net lengths (get_or r.duals p no_dual) (bound-shows net lengths (get_or r.duals p no_dual) n long_is far next.bound))
+    own-lengths net lengths (get_or r.duals p no_dual) (bound-shows net lengths (get_or r.duals p no_dual) n long_is far next.bound)
+
+some-dual : (net : Network) (o : SolveOptions) (s : SolvedView) → (r : IsPhasedRun net o s) → 1 ≤ length r.duals
+some-dual net o s r = let long : length (phases_of s) ≡ length s.history = length-map s.history _ in omega (arith, r.phases.count, r.some)
+
+-- the kept dual shows its bound
+run-shows : (net : Network) (o : SolveOptions) (s : SolvedView) → IsNetwork net → IsPhasedRun net o s → ShowsBound net (lengths_in net s.proof.dual) s.proof.dual
+run-shows net o s n r =
+    let kept = least-in net r.duals (some-dual net o s r) in
+    subst (λ (d : DualRows). ShowsBound net (lengths_in net d) d) (sym (r.proof.dual ∙ kept.2)) (dual-shows net o s n r kept.0 kept.1)
+
+nonzero : (n : ℕ) → n ≢ 0 → 1 ≤ n
+nonzero n h = omega arith
+
+-- the kept bound is the first of the least
+pub run-keeps : (net : Network) (o : SolveOptions) (s : SolvedView) → IsNetwork net → (r : IsPhasedRun net o s) → IsFirstLeast (upper_of net) r.duals s.proof.dual
+run-keeps net o s n r =
+    let divide : All (λ (d : DualRows). 1 ≤ (upper_of net d).den) r.duals =
+    All-from_get_or (λ (d : DualRows). 1 ≤ (upper_of net d).den) r.duals no_dual (λ p l. nonzero (upper_of net (get_or r.duals p no_dual)).den (dual-shows net o s n r p l).distance.divides) in
+    subst (λ (d : DualRows). IsFirstLeast (upper_of net) r.duals d) (sym r.proof.dual) (least-first (upper_of net) no_dual r.duals (some-dual net o s r) divide)
 
 -- what a routing within the limits, a dual that shows its bound and the right words make
 record Makes (net : Network) (o : SolveOptions) (proof : Proof) : Type 0 where

@@ -1,5 +1,5 @@
 -- What a solve answers, and what its phases have done.
-use Rattle.std.specs.Prelude.{◌≡◌, ℕ, ◌*◌, ◌<◌, ◌≤◌, ◌==◌, nat_lt, ◌&&◌, ◌||◌, Bool, true, false, IsTrue, if◌then◌else◌, List, [], ◌∷◌, All, AllPairs, length, map, take, flat_map, sum_by, count_by, Some, slice_get}
+use Rattle.std.specs.Prelude.{◌≡◌, ℕ, ◌*◌, ◌<◌, ◌≤◌, ◌==◌, true, false, IsTrue, if◌then◌else◌, List, [], ◌∷◌, All, AllPairs, length, map, take, flat_map, sum_by, count_by, Some, slice_get}
 use Rattle.flow_model.specs.declared.net.Commodity.{Commodity}
 use Rattle.flow_model.specs.declared.setting.Setting.{Setting}
 use Rattle.flow_model.specs.Network.{Network}
@@ -8,6 +8,7 @@ use Rattle.gap_fraction.specs.Fraction.{Fraction}
 use Rattle.flow_paths.specs.declared.certificate.Proof.{Proof}
 use Rattle.flow_paths.specs.PathRows.{row_at}
 use Rattle.flow_paths.specs.Evaluation.{fill, loads_of}
+use Rattle.path_rows.specs.RowOrder.{row_lt}
 use Rattle.flow_core.specs.Phase.{Routed, amounts_along}
 use Rattle.solver_run.specs.declared.options.Entry.{Entry}
 use Rattle.solver_run.specs.declared.options.SolveOptions.{SolveOptions}
@@ -52,16 +53,6 @@ later_setting net o phases = record { first = false; ref_cap = (fill_after net p
 -- the setting of the phase before which there were p
 abbrev pub setting_after : Network → SolveOptions → List (List Routed) → ℕ → Setting
 setting_after net o phases p = if p == 0 then first_setting o else later_setting net o phases
-
--- whether the first list comes before the second: the first number that differs decides, and a part comes before the whole
-abbrev pub list_lt : List ℕ → List ℕ → Bool
-list_lt xs [] = false
-list_lt [] (y ∷ ys) = true
-list_lt (x ∷ xs) (y ∷ ys) = nat_lt x y || ((x == y) && list_lt xs ys)
-
--- whether the first row comes before the second: by commodity, then by cells
-abbrev pub row_lt : Row → Row → Bool
-row_lt a b = nat_lt a.commodity b.commodity || ((a.commodity == b.commodity) && list_lt a.walk b.walk)
 
 -- how many entries name the row
 abbrev pub times_named : List (List Entry) → ℕ → ℕ

@@ -7,7 +7,7 @@ use Rattle.gap_fraction.specs.Fraction.{IsWithinGap}
 use Rattle.flow_paths.specs.declared.certificate.Proof.{Proof}
 use Rattle.flow_paths.specs.DualRows.{DualRows}
 use Rattle.flow_paths.specs.Certificate.{upper_of}
-use Rattle.flow_paths.specs.Evaluation.{fraction_le}
+use Rattle.path_rows.specs.Least.{least_by}
 use Rattle.flow_core.specs.Phase.{Routed, IsPhase}
 use Rattle.solver_run.specs.declared.options.SolveOptions.{SolveOptions}
 use Rattle.dual_bound.specs.Bounds.{IsBoundOf, IsCutDual}
@@ -17,11 +17,9 @@ use Rattle.solver_run.specs.History.{SolvedView, phases_of, loads_after, fill_af
 abbrev pub no_dual : DualRows
 no_dual = record { lengths = []; potentials = [] }
 
--- of these duals the first whose bound none of them is below
+-- of these duals the first of the least bound
 abbrev pub least_dual : Network → List DualRows → DualRows
-least_dual net [] = no_dual
-least_dual net (d ∷ []) = d
-least_dual net (d ∷ e ∷ ds) = if fraction_le (upper_of net d) (upper_of net (least_dual net (e ∷ ds))) then d else least_dual net (e ∷ ds)
+least_dual net duals = least_by (upper_of net) no_dual duals
 
 -- the proof of a network with a cut
 pub record IsCutProof (net : Network) (o : SolveOptions) (proof : Proof) : Type 0 where

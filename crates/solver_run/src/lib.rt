@@ -6,11 +6,12 @@ mod options;
 mod small;
 
 pub use laws::{
-    duals_show_their_bounds, least_walks_are_short, phases_have_paths, rows_load_what_phases_load,
-    run_keeps_the_gap, runs_are_solved, solved_is_certified,
+    duals_show_their_bounds, kept_bound_is_first_of_the_least, least_walks_are_short,
+    phases_have_paths, rows_load_what_phases_load, run_keeps_the_gap, runs_are_solved,
+    solved_is_certified,
 };
 pub use options::{Entry, SolveOptions};
 pub use small::{
-    a_cut_is_solved, a_phase_is_solved, paths_are_in_order, small_has_a_fullest_cell,
-    small_has_groups, small_phases_load,
+    a_cut_is_solved, a_phase_is_solved, small_has_a_fullest_cell, small_has_groups,
+    small_phases_load,
 };

@@ -5,7 +5,7 @@ ghost use Rattle.flow_model.specs.Network.{IsNetwork};
 ghost use Rattle.flow_model.specs.Groups.{group_sources, members_of};
 ghost use Rattle.flow_paths.specs.Evaluation.{fill};
 ghost use Rattle.solver_run.specs.Options.{AreOptions};
-ghost use Rattle.solver_run.specs.History.{loads_after, list_lt};
+ghost use Rattle.solver_run.specs.History.{loads_after};
 ghost use Rattle.solver_run.specs.Run.{IsSolverRun};
 ghost use Rattle.solver_run.specs.Headline.{IsSolved};
 ghost use Rattle.solver_run.specs.Small.{small, small_phases, small_options, cut_link, cut_solved, one_link, link_solved};
@@ -28,13 +28,6 @@ pub fn small_phases_load()
     ensures none { loads_after small small_phases 0 ≡ 0 ∷ 0 ∷ 0 ∷ [] }
     ensures one { loads_after small small_phases 1 ≡ 4 ∷ 3 ∷ 1 ∷ [] }
     ensures two { loads_after small small_phases 2 ≡ 8 ∷ 6 ∷ 2 ∷ [] }
-{}
-
-/// A path comes before those that go on from it, and the first cell that differs decides.
-pub fn paths_are_in_order()
-    ensures part { list_lt (1 ∷ []) (1 ∷ 2 ∷ []) ≡ true }
-    ensures first { list_lt (1 ∷ 9 ∷ []) (2 ∷ []) ≡ true }
-    ensures same { list_lt (1 ∷ 2 ∷ []) (1 ∷ 2 ∷ []) ≡ false }
 {}
 
 /// What is solved of a network with a cut is a run, and is solved.

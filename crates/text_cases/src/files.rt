@@ -29,6 +29,7 @@ fn code(kind: NetKind) -> &'static str {
         NetKind::TooFine => "N8",
         NetKind::TooLarge => "N9",
         NetKind::NoDemand => "N10",
+        NetKind::HopTooFar => "N11",
     }
 }
 

@@ -40,6 +40,8 @@ pub fn tell_units(rt: &HostRuntime, what: &str) -> Result<()> {
 fn options_of(word: &str) -> NetOptions {
     let links = if word.starts_with("directed") {
         LinkMode::Directed
+    } else if word.starts_with("bidirected") {
+        LinkMode::Bidirected
     } else {
         LinkMode::Undirected
     };

@@ -64,7 +64,7 @@ going_ok : (nodes source target cap : ℕ) → source < nodes → target < nodes
 going_ok nodes source target cap a b c [] cs h = h
 going_ok nodes source target cap a b c (sign ∷ ways) cs h =
     All-cons (IsCell nodes) (cell_going source target cap sign) (map (cell_going source target cap) ways ++ cs)
-      (cell_ok nodes source target cap a b c sign) (going_ok nodes source target cap a b c ways cs h)
+    (cell_ok nodes source target cap a b c sign) (going_ok nodes source target cap a b c ways cs h)
 
 -- a link has as many cells as there are ways to go over it
 pub link_count : (mode : LinkMode) (source target cap : ℕ) → length (link_cells mode source target cap) ≡ length (signs mode)
@@ -80,7 +80,7 @@ cell_count o s [] = omega arith
 cell_count o s (l ∷ ls) =
     let here : length (cells_of_link o s l) ≡ length (signs o.links) = link_count o.links l.source l.target (capacity_in o s l) in
     let next : length (signs o.links) + length (signs o.links) * length ls ≡ length (signs o.links) * length (l ∷ ls) =
-      one_link (length (signs o.links)) (length ls) in
+    one_link (length (signs o.links)) (length ls) in
     omega (arith, length-append (cells_of_link o s l) (flat_map (cells_of_link o s) ls), here, next, cell_count o s ls)
 
 -- so few links have cells within the limit

@@ -56,14 +56,8 @@ fn push_cell(
 }
 
 // Puts a cell for each way behind the others.
-fn push_both_ways(
-    cells: &mut Vec<Cell>,
-    row: &LinkRow<'_>,
-    cap: u64,
-) -> Result<(), AllocError>
-    ensures {
-        OnOk result (cells.new.items ≡ cells.old.items ++ link_cells BidirectedIs row.now.source row.now.target cap)
-    }
+fn push_both_ways(cells: &mut Vec<Cell>, row: &LinkRow<'_>, cap: u64) -> Result<(), AllocError>
+    ensures { OnOk result (cells.new.items ≡ cells.old.items ++ link_cells BidirectedIs row.now.source row.now.target cap) }
 {
     cells.push(cell_going(row, cap, Sign::Along))?;
     cells.push(cell_going(row, cap, Sign::Against))?;
@@ -96,10 +90,8 @@ pub fn cells_of(
 ) -> Result<Vec<Cell>, ScaleEnd>
     requires decimals { decimals ≤ MAX_DECIMALS }
     requires sizes { AreLinkSizes options.modules raw.now.links sizes.now }
-    ensures {
-        Stage TooLargeIs (first_line (is_large_link options.modules decimals) (λ l. l.line) raw.now.links)
-            (λ v. v.items ≡ flat_map (cells_of_link options decimals) raw.now.links) result
-    }
+    ensures { Stage TooLargeIs (first_line (is_large_link options.modules decimals) (λ l. l.line) raw.now.links)
+        (λ v. v.items ≡ flat_map (cells_of_link options decimals) raw.now.links) result }
 {
     let unit = unit_of(decimals);
     let mut cells = Vec::new(alloc);

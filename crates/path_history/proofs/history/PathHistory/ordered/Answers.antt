@@ -2,12 +2,12 @@ use Rattle.std.proofs.Common.{◌≡◌, ℕ, ◌<◌, List, length, map, sym, a
 use Rattle.std.specs.Prelude.{All}
 use Rattle.std.proofs.lemmas.List.Elements.{All-from_get_or}
 use Rattle.flow_model.specs.Routing.{Row}
+use Rattle.path_rows.specs.Ordering.{AreNumbersOf}
+use Rattle.path_rows.proofs.Numbers.{below_of_all}
 use Rattle.solver_run.specs.declared.options.Entry.{Entry}
 use Rattle.solver_run.specs.History.{routed_in, AreRowsOf}
 use Rattle.path_history.specs.Phases.{renumbered}
 use Rattle.path_history.specs.Rows.{HistoryView, AreRowsFor, phases_kept}
-use Rattle.path_history.specs.Ordering.{AreNumbersOf}
-use Rattle.path_history.proofs.Numbers.{below_of_all}
 use Rattle.path_history.proofs.Renumbered.{in_order, phases_back, rows_back}
 use Rattle.path_history.proofs.history.PathHistory.ordered.Goals as goal
 

@@ -1,0 +1,5 @@
+pub mod Bounding
+pub mod CutDuals
+pub mod DualRows
+pub mod Leasts
+pub mod Sums

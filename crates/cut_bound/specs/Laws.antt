@@ -1,0 +1,43 @@
+-- What a cut, and the best of several bounds, promise.
+use Rattle.std.specs.Prelude.{◌≡◌, ◌≢◌, ℕ, ◌*◌, ◌≤◌, Bool, true, IsTrue, List, All}
+use Rattle.flow_model.specs.declared.net.Cell.{Cell}
+use Rattle.flow_model.specs.Network.{Network, IsNetwork}
+use Rattle.flow_model.specs.Routing.{Row, IsFeasible}
+use Rattle.gap_fraction.specs.Fraction.{FractionLe}
+use Rattle.flow_paths.specs.DualRows.{DualRows}
+use Rattle.flow_paths.specs.Certificate.{upper_of, CellsHaveLengths, SourcesHaveRows, RowsArePotentials, DistanceDivides}
+use Rattle.cut_bound.specs.Cuts.{Side, cut_value, cut_dual}
+use Rattle.cut_bound.specs.Candidates.{IsBestDual}
+
+-- where cells are said to go both ways, all of them do
+abbrev pub GoBothWays : Network → Bool → Type 0
+GoBothWays net both = IsTrue both → All (λ (cell : Cell). cell.both ≡ true) net.cells
+
+-- the dual of a cut that some commodity crosses meets the conditions on lengths and potentials
+pub record CutDualIsValid (net : Network) (both : Bool) (side : Side) : Type 0 where
+  pub cells : CellsHaveLengths net (cut_dual net both side)
+  pub sources : SourcesHaveRows net (cut_dual net both side)
+  pub potentials : RowsArePotentials net (cut_dual net both side)
+  pub distance : DistanceDivides net (cut_dual net both side)
+
+-- every cut that some commodity crosses has such a dual
+abbrev pub CutDualsAreValid : Type 0
+CutDualsAreValid = (net : Network) (both : Bool) (side : Side) → IsNetwork net → GoBothWays net both
+    → (cut_value net both side).den ≢ 0 → CutDualIsValid net both side
+
+-- its bound is what leaves the side over who crosses
+abbrev pub CutDualIsItsValue : Type 0
+CutDualIsItsValue = (net : Network) (both : Bool) (side : Side) → IsNetwork net
+    → upper_of net (cut_dual net both side) ≡ cut_value net both side
+
+-- no routing carries more of every amount than leaves the side over who crosses
+abbrev pub CutsBoundRoutings : Type 0
+CutsBoundRoutings = (net : Network) (both : Bool) (side : Side) (rows : List Row) (a q : ℕ) → IsNetwork net
+    → GoBothWays net both → IsFeasible net rows a q
+    → a * (cut_value net both side).den ≤ q * (cut_value net both side).num
+
+-- the best bound is not above that of any dual that was there
+abbrev pub BestIsNotAbove : Type 0
+BestIsNotAbove = (net : Network) (both : Bool) (own : List DualRows) (best : DualRows) → IsNetwork net
+    → All (λ d. DistanceDivides net d) own → IsBestDual net both own best
+    → All (λ d. FractionLe (upper_of net best) (upper_of net d)) own

@@ -1,0 +1,4 @@
+pub mod Candidates
+pub mod Cuts
+pub mod Laws
+pub mod Least

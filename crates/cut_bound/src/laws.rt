@@ -1,0 +1,23 @@
+//! Laws of cuts, each proved for all networks.
+
+ghost use Rattle.cut_bound.specs.Laws.{BestIsNotAbove, CutDualIsItsValue, CutDualsAreValid, CutsBoundRoutings};
+
+/// The dual of a cut that some commodity crosses meets the conditions of a certificate on lengths and potentials.
+pub fn cut_duals_are_valid()
+    ensures { CutDualsAreValid }
+{}
+
+/// The bound of a cut's dual is what leaves the side over who crosses.
+pub fn cut_dual_is_its_value()
+    ensures { CutDualIsItsValue }
+{}
+
+/// No routing carries more of every amount than leaves a side over who crosses from it (weak duality).
+pub fn cuts_bound_routings()
+    ensures { CutsBoundRoutings }
+{}
+
+/// The best bound is not above that of any dual that was there.
+pub fn best_is_not_above()
+    ensures { BestIsNotAbove }
+{}

@@ -1,0 +1,8 @@
+//! Cuts of a network, and the best bound that the duals of certificates and their cuts give.
+#![tactic(auto)]
+
+mod laws;
+
+pub use laws::{
+    best_is_not_above, cut_dual_is_its_value, cut_duals_are_valid, cuts_bound_routings,
+};

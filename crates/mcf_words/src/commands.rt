@@ -1,0 +1,84 @@
+//! The commands: the word of each, the files that it reads, and its options.
+
+ghost use Rattle.std.specs.Prelude.{◌≡◌, map};
+ghost use Rattle.mcf_words.specs.Parse.{names_of};
+ghost use Rattle.mcf_words.specs.Request.{command_of as command_of_lem, file_count, form_of as form_of_lem};
+
+use crate::request::Command;
+
+// The options by their names, which are also their ids.
+
+pub const LINKS: &str = "links";
+
+pub const MODULES: &str = "modules";
+
+pub const GAP: &str = "gap";
+
+pub const PHASES: &str = "phases";
+
+pub const WORKERS: &str = "workers";
+
+pub const STEP: &str = "step";
+
+static SOLVER_OPTIONS: [&str; 6] = [LINKS, MODULES, GAP, PHASES, WORKERS, STEP];
+
+static NO_OPTIONS: [&str; 0] = [];
+
+static COMMANDS: [Command; 7] = [
+    Command::Solve,
+    Command::Check,
+    Command::WhatIf,
+    Command::Upgrade,
+    Command::Print,
+    Command::Gen,
+    Command::Trial,
+];
+
+/// What the words of a command may be.
+#[derive(Clone, Copy)]
+pub struct Form {
+    pub word: &'static [u8],
+    /// How many files the command reads; none where it takes numbers.
+    pub files: usize,
+    /// The names of its options, without their dashes.
+    pub options: &'static [&'static str],
+}
+
+fn takes(word: &'static [u8], files: usize, options: &'static [&'static str]) -> Form
+    ensures { result ≡ record { word = word; files = files; options = options } }
+{
+    Form {
+        word,
+        files,
+        options,
+    }
+}
+
+/// The form of the command.
+pub fn form_of(command: Command) -> Form
+    ensures word { result.word.now ≡ (form_of_lem command).word }
+    ensures files { result.files ≡ file_count command }
+    ensures options { map (λ n. n.now) result.options.now ≡ names_of command }
+{
+    match command {
+        Command::Solve => takes(b"solve", 1, SOLVER_OPTIONS.as_slice()),
+        Command::Check => takes(b"check", 2, NO_OPTIONS.as_slice()),
+        Command::WhatIf => takes(b"whatif", 3, NO_OPTIONS.as_slice()),
+        Command::Upgrade => takes(b"upgrade", 2, NO_OPTIONS.as_slice()),
+        Command::Print => takes(b"print", 1, NO_OPTIONS.as_slice()),
+        Command::Gen => takes(b"gen", 0, NO_OPTIONS.as_slice()),
+        Command::Trial => takes(b"trial", 0, SOLVER_OPTIONS.as_slice()),
+    }
+}
+
+/// The command of that word.
+pub fn command_of(word: &[u8]) -> Option<Command>
+    ensures { result ≡ command_of_lem word.now }
+{
+    for command in COMMANDS.as_slice() {
+        if word == form_of(*command).word {
+            return Some(*command);
+        }
+    }
+    None
+}
