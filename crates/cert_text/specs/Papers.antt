@@ -95,7 +95,8 @@ form_of line =
 abbrev pub header_of : Option Opening → List Line → Result (Opening × Place) CertRefusal
 header_of None lines = Err (record { line = 1; kind = NoHeader })
 header_of (Some opening) lines =
-    if has_more lines then Ok (opening, record { at = 2; rest = lines }) else Err (record { line = 1; kind = Syntax })
+    if has_more lines then Ok (opening, record { at = 2; rest = lines })
+    else Err (record { line = 1; kind = Syntax })
 
 -- the first line: whether it is that of a certificate or of a routing, and of which form
 unfoldable pub header : List Line → Result (Opening × Place) CertRefusal
