@@ -10,11 +10,13 @@ ghost use Rattle.whatif.specs.Ratios.{IsRatio, ratios};
 use crate::bounds::Bounds;
 use crate::ratio::{MAX_LOAD, Ratio, ratio_of};
 use crate::tree::Tree;
+use cell_dir::cells_of;
 use cert_check::{cell_lengths, path_loads};
 use flow_model::{Cell, Net};
 use flow_paths::{Dual, Proof};
 use gap_fraction::Frac;
-use mcf_limits::{MAX_CELLS, MAX_LENGTH, MAX_UNITS};
+use mcf_limits::{MAX_CELLS, MAX_LENGTH, MAX_LINKS, MAX_UNITS};
+use net_options::LinkMode;
 use std::alloc::{AllocError, Global};
 use std::marker::Model;
 use std::snapshot::Snapshot;
@@ -79,6 +81,8 @@ fn see_potentials(dual: &Dual)
 }
 
 impl Plan {
+    ghost use Rattle.cell_dir.specs.Names.{cells_of};
+    ghost use Rattle.cell_dir.specs.Closed.{with_link};
     ghost use Rattle.whatif.specs.Planned.{AreBounds, IsPlanned, evaluation_of, shown_of, with_cap};
 
     /// The plan of a valid certificate, with the capacities of its network.
@@ -118,6 +122,26 @@ impl Plan {
         self.sum = without + cap as u128 * length;
         self.caps[i] = cap;
         self.tree.set(i, ratio_of(cap, self.loads[i], cell));
+    }
+
+    /// Each cell of the link gets the capacity, in the mode in which the cells are those of links. It takes no memory.
+    pub fn set_link(&mut self, mode: LinkMode, link: u16, cap: u64)
+        requires link { link < MAX_LINKS }
+        requires cells { cells_of mode (link + 1) ≤ length self.old.caps }
+        requires cap { cap ≤ MAX_UNITS }
+        ensures { self.new ≡ record self.old { caps = with_link mode self.old.caps link cap } }
+    {
+        for cell in cells_of(mode, link)..cells_of(mode, link + 1) {
+            self.set(cell, cap);
+        }
+    }
+
+    /// The capacity of the cell as it is now.
+    pub fn cap(&self, cell: u16) -> u64
+        requires { cell < length self.now.caps }
+        ensures { result ≡ slice_index self.now.caps cell }
+    {
+        self.caps[cell as usize]
     }
 
     // The lower fraction.
