@@ -23,6 +23,18 @@ const ROOM: usize = 2 << 20;
 // One phase puts all demands on one link.
 const SOLVE: &[&str] = &["solve", "net", "--phases", "1", "--workers", "2"];
 
+// The same with twice as many cells as links.
+const SOLVE_EACH_WAY: &[&str] = &[
+    "solve",
+    "net",
+    "--phases",
+    "1",
+    "--workers",
+    "2",
+    "--links",
+    "bidirected",
+];
+
 /// How many nodes, links and demands a network has.
 #[derive(Clone, Copy)]
 struct Counts {
@@ -84,31 +96,33 @@ fn expect_printed(rt: &(impl Abort + Threads + Sync), alloc: Global) -> Result<(
     Ok(())
 }
 
-// As many nodes and links: what is solved is valid.
-fn expect_solved(rt: &(impl Abort + Threads + Sync), alloc: Global) -> Result<(), Fail> {
+// As many nodes and links: what is solved is valid, and `check` says so with a line that begins so.
+fn expect_solved(
+    rt: &(impl Abort + Threads + Sync),
+    alloc: Global,
+    words: &[&str],
+    front: &[u8],
+) -> Result<(), Fail> {
     let counts = Counts {
         nodes: 512,
         links: 4096,
         demands: 1024,
     };
     let net = network(alloc, counts)?;
-    let solved = answer_within(rt, alloc, SOLVE, &[("net", &net)], ROOM)?;
+    let solved = answer_within(rt, alloc, words, &[("net", &net)], ROOM)?;
     assert!(rt; solved.status == 1);
     let said = judged(rt, alloc, &net, solved.text())?;
-    assert!(rt;
-        is_line(
-            &said,
-            0,
-            b"valid open undirected largest lower 10/1024 0.009765 upper "
-        )
-    );
+    assert!(rt; is_line(&said, 0, front));
     Ok(())
 }
 
 #[test]
 fn as_many_rows_as_there_may_be(rt: HostRuntime) -> Result<(), Fail> {
     expect_printed(&rt, rt.alloc())?;
-    expect_solved(&rt, rt.alloc())
+    let front = b"valid open undirected largest lower 10/1024 0.009765 upper ";
+    expect_solved(&rt, rt.alloc(), SOLVE, front)?;
+    let front = b"valid open bidirected largest lower 10/1024 0.009765 upper ";
+    expect_solved(&rt, rt.alloc(), SOLVE_EACH_WAY, front)
 }
 
 // What a row shows, how many nodes, links and demands there are, and the line.
