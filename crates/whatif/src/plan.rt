@@ -179,7 +179,8 @@ impl Plan {
     /// The capacity of the cell as it is now.
     pub fn cap(&self, cell: u16) -> u64
         requires { cell < length self.now.caps }
-        ensures { result ≡ slice_index self.now.caps cell }
+        ensures value { result ≡ slice_index self.now.caps cell }
+        ensures limit { result ≤ MAX_UNITS }
     {
         self.caps[cell as usize]
     }
