@@ -146,9 +146,9 @@ rows_are spelling Fits sound (x ∷ rows) rest fit h = (sound x fit.0, rows_are 
 is_end : AllByRecursion IsLine (end_line ∷ [])
 is_end = ((clean (codes "end") refl, tt), tt)
 
-pub routing_clean : (sheet : Sheet) (r : Routing) → IsCitable sheet → FitsRouting sheet r → AllByRecursion IsLine (routing_lines sheet r)
-routing_clean sheet r own fits = (
-  (clean (codes "mcf-routing") refl, (clean (codes "1") refl, tt)),
+pub routing_clean : (sheet : Sheet) (r : Routing) → Clean sheet.form → IsCitable sheet → FitsRouting sheet r → AllByRecursion IsLine (routing_lines sheet r)
+routing_clean sheet r form own fits = (
+  (clean (codes "mcf-routing") refl, (form, tt)),
   (
     (clean (codes "links") refl, (own.clear.clean_modes.0, tt)),
     (
@@ -164,13 +164,13 @@ routing_clean sheet r own fits = (
   ),
 )
 
-pub certificate_clean : (sheet : Sheet) (p : Proof) → IsCitable sheet → FitsProof sheet p → AllByRecursion IsLine (certificate_lines sheet p)
-certificate_clean sheet p own fits =
+pub certificate_clean : (sheet : Sheet) (p : Proof) → Clean sheet.form → IsCitable sheet → FitsProof sheet p → AllByRecursion IsLine (certificate_lines sheet p)
+certificate_clean sheet p form own fits =
     let r = p.routing in
     let potentials = rows_are (potential_words sheet) (FitsPotential sheet) (clean_potential sheet own) p.dual.potentials (end_line ∷ []) fits.potentials is_end in
     let lengths = rows_are (length_words sheet) (FitsLength sheet) (clean_length sheet own) p.dual.lengths (map (potential_words sheet) p.dual.potentials ++ end_line ∷ []) fits.lengths potentials in
     let paths = rows_are (path_words sheet) (FitsPath sheet) (clean_path sheet own) r.paths (map (length_words sheet) p.dual.lengths ++ (map (potential_words sheet) p.dual.potentials ++ end_line ∷ [])) fits.routing.paths lengths in (
-      (clean (codes "mcf-certificate") refl, (clean (codes "1") refl, tt)),
+      (clean (codes "mcf-certificate") refl, (form, tt)),
       (
         clean_verdict p.closed,
         (

@@ -1,5 +1,5 @@
 -- Fronts of texts, and texts with something behind them.
-use Rattle.std.proofs.Common.{◌≡◌, ℕ, ◌+◌, ◌<◌, true, false, eqb, List, [], ◌∷◌, ◌++◌, length, Err, refl, sym, ap, ◌∙◌, append_assoc, arith}
+use Rattle.std.proofs.Common.{◌≡◌, ℕ, ◌+◌, ◌<◌, true, false, eqb, List, [], ◌∷◌, ◌++◌, length, Err, refl, sym, ap, subst, ◌∙◌, append_assoc, arith}
 use Rattle.std.specs.Prelude.{map}
 use Rattle.std.specs.List.{AllByRecursion, join_with_byte}
 use Rattle.std.proofs.lemmas.List.{length-append, length-map}
@@ -8,7 +8,8 @@ use Rattle.std.proofs.lemmas.List.Elements.{All-from_recursion}
 use Rattle.std.proofs.lemmas.List.Splits.{slice_split_at}
 use Rattle.text_lines.specs.Lines.{Line, IsInside, IsLine, spelled, text_of, words_of, lines_of}
 use Rattle.text_lines.proofs.Laws.{words_of-joined}
-use Rattle.cert_names.specs.Sheet.{Sheet}
+use Rattle.cert_names.specs.Sheet.{Sheet, Sheets, sheet_for}
+use Rattle.cert_names.specs.declared.form.Form.{Form}
 use Rattle.cert_lines.specs.declared.refusal.CertKind.TheVariants.{Syntax}
 use Rattle.cert_lines.specs.Spelling.{length_words, potential_words, path_words}
 use Rattle.cert_lines.specs.Forms.{is_full}
@@ -18,11 +19,11 @@ use Rattle.cert_text.specs.Whole.{paper_in}
 use Rattle.cert_text.proofs.LineSteps.{has_line, text_bytes}
 use Rattle.cert_writer.specs.Text.{end_line}
 use Rattle.cert_laws.specs.Fits.{FitsPaper, read}
-use Rattle.cert_laws.proofs.PaperFits.{papers_fit}
-use Rattle.cert_inverse.specs.Inverse.{IsCitable, paper_lines, paper_text, refused_behind}
+use Rattle.cert_inverse.specs.Inverse.{AreInForms, IsCitable, paper_lines, paper_text, refused_behind}
 use Rattle.cert_inverse.proofs.Words.{full_word}
+use Rattle.cert_inverse.proofs.Headers.{forms_are, forms_meet}
 use Rattle.cert_inverse.proofs.TextAgain.{end_of, paper_clean, text_is_of_lines, reads_back, refused_with}
-use Rattle.cert_inverse.proofs.Exactly.{text_is}
+use Rattle.cert_inverse.proofs.TextTakes.{is_read}
 
 -- ---- lines, and what follows them
 
@@ -65,16 +66,25 @@ line_count sheet (papers.Full p) =
 
 -- ---- laws
 
-pub longer : (sheet : Sheet) (paper : Paper) (back : List ℕ) → IsCitable sheet → FitsPaper sheet paper → 0 < length back → paper_in sheet (lines_of (paper_text sheet paper ++ back)) ≡ refused_behind sheet paper
-longer sheet paper back own fits some =
+pub longer : (sheets : Sheets) (form : Form) (paper : Paper) (back : List ℕ) → AreInForms sheets → IsCitable (sheet_for sheets form) → FitsPaper (sheet_for sheets form) paper → 0 < length back
+    → paper_in sheets (lines_of (paper_text (sheet_for sheets form) paper ++ back)) ≡ refused_behind (sheet_for sheets form) paper
+longer sheets form paper back forms own fits some =
+    let sheet = sheet_for sheets form in
     let full : is_full (back) ≡ true = full_word back some in
-    ap (λ (text : List ℕ). paper_in sheet (lines_of (text ++ back))) (text_is_of_lines sheet paper)
-    ∙ ap (paper_in sheet) (lines_then (paper_lines sheet paper) back (paper_clean sheet paper own fits))
-    ∙ refused_with sheet paper (lines_of back) own fits (has_line back) (ap is_full (text_bytes back) ∙ full)
+    ap (λ (text : List ℕ). paper_in sheets (lines_of (text ++ back))) (text_is_of_lines sheet paper)
+    ∙ ap (paper_in sheets) (lines_then (paper_lines sheet paper) back (paper_clean sheet form paper (forms_are sheets form forms) own fits))
+    ∙ refused_with sheets form paper (lines_of back) forms own fits (has_line back) (ap is_full (text_bytes back) ∙ full)
     ∙ ap (λ (n : ℕ). Err (record { line = n + 1; kind = Syntax })) (sym (line_count sheet paper))
 
-pub fronts : (sheet : Sheet) (paper other : Paper) (front back : List ℕ) → IsCitable sheet → FitsPaper sheet paper → 0 < length back → paper_text sheet paper ≡ front ++ back → paper_in sheet (lines_of front) ≡ read other → ⊥
-fronts sheet paper other front back own fits some whole e =
-    let same : paper_text sheet paper ≡ paper_text sheet other ++ back = whole ∙ ap (λ (l : List ℕ). l ++ back) (text_is sheet front other e) in
-    let refused : read paper ≡ refused_behind sheet other = sym (reads_back sheet paper own fits) ∙ ap (λ (text : List ℕ). paper_in sheet (lines_of text)) same ∙ longer sheet other back own (papers_fit sheet (lines_of front) other e) some in
+pub fronts : (sheets : Sheets) (form : Form) (paper other : Paper) (front back : List ℕ) → AreInForms sheets → IsCitable (sheet_for sheets form) → FitsPaper (sheet_for sheets form) paper → 0 < length back
+    → paper_text (sheet_for sheets form) paper ≡ front ++ back → paper_in sheets (lines_of front) ≡ read other → ⊥
+fronts sheets form paper other front back forms own fits some whole e =
+    let sheet = sheet_for sheets form in
+    let r = is_read sheets (lines_of front) other forms e in
+    let spelled : front ≡ paper_text (sheet_for sheets r.form) other = sym (text_bytes front) ∙ r.bytes in
+    let behind : paper_text sheet paper ≡ paper_text (sheet_for sheets r.form) other ++ back = whole ∙ ap (λ (l : List ℕ). l ++ back) spelled in
+    let is : r.form ≡ form = sym (forms_meet sheets form r.form paper other back forms behind) in
+    let same : paper_text sheet paper ≡ paper_text sheet other ++ back = subst (λ (f : Form). paper_text sheet paper ≡ paper_text (sheet_for sheets f) other ++ back) is behind in
+    let fit : FitsPaper sheet other = subst (λ (f : Form). FitsPaper (sheet_for sheets f) other) is r.fits.1 in
+    let refused : read paper ≡ refused_behind sheet other = sym (reads_back sheets form paper forms own fits) ∙ ap (λ (text : List ℕ). paper_in sheets (lines_of text)) same ∙ longer sheets form other back forms own fit some in
     absurd cc

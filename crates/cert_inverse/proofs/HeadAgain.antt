@@ -71,7 +71,7 @@ full_count n le = full_number n (omega arith)
 
 -- the line of a sheet with these counts
 abbrev counted : List ℕ → Sheet → Sheet
-counted ns sheet = record { link_mode = sheet.link_mode; module_mode = sheet.module_mode; nodes = sheet.nodes; cells = sheet.cells; commodities = sheet.commodities; counts = ns }
+counted ns sheet = record { form = sheet.form; link_mode = sheet.link_mode; module_mode = sheet.module_mode; nodes = sheet.nodes; cells = sheet.cells; commodities = sheet.commodities; counts = ns }
 
 abbrev last_line : ℕ → ℕ → ℕ → Line
 last_line e f g = codes "skipped" ∷ decimal e ∷ codes "left" ∷ decimal f ∷ codes "hops" ∷ decimal g ∷ []

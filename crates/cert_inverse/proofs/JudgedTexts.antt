@@ -1,7 +1,8 @@
 -- What is said of texts, from what they are read as.
-use Rattle.std.proofs.Common.{◌≡◌, ℕ, ◌≤◌, Bool, List, Result, Ok, Err, refl, ap, subst}
+use Rattle.std.proofs.Common.{◌≡◌, ◌≢◌, ℕ, ◌≤◌, Bool, List, Result, Ok, Err, refl, ap, subst}
 use Rattle.text_lines.specs.Lines.{lines_of}
 use Rattle.gap_fraction.specs.Fraction.{Fraction}
+use Rattle.net_options.specs.declared.modes.LinkMode.TheVariants.{Bidirected}
 use Rattle.net_options.specs.declared.options.NetOptions.{NetOptions}
 use Rattle.flow_model.specs.Network.{Network}
 use Rattle.flow_paths.specs.declared.certificate.Routing.{Routing}
@@ -12,7 +13,9 @@ use Rattle.sndlib_grammar.specs.Rows.{NetRows}
 use Rattle.sndlib_grammar.specs.declared.refusal.NetRefusal.{NetRefusal}
 use Rattle.unit_scale.specs.Sizes.{decimals_of, sizes}
 use Rattle.unit_scale.specs.Scaling.{ScaledNet, scaled_of, scaled_with, refusal}
-use Rattle.cert_names.specs.Sheet.{IsOf, sheet_of}
+use Rattle.cert_names.specs.Sheet.{IsOf, old_sheet_of, sheet_of, sheets_of, sheet_for}
+use Rattle.cert_names.specs.declared.form.Form.{Form}
+use Rattle.cert_names.specs.declared.form.Form.TheVariants.{First, Second}
 use Rattle.cert_lines.specs.declared.net_line.TheConstants.{MAX_COUNT}
 use Rattle.cert_lines.specs.declared.refusal.CertRefusal.{CertRefusal}
 use Rattle.cert_text.specs.declared.papers.Paper.{Paper}
@@ -21,34 +24,50 @@ use Rattle.cert_text.specs.declared.opening.CertHead.{CertHead}
 use Rattle.cert_text.specs.Whole.{head_in, paper_in}
 use Rattle.cert_writer.specs.Text.{FitsProof, FitsRouting, certificate_text, routing_text}
 use Rattle.cert_laws.specs.Fits.{FitsPaper}
-use Rattle.cert_laws.proofs.PaperFits.{papers_fit}
+use Rattle.cert_laws.proofs.NewFits.{new_fits}
 use Rattle.cert_check.specs.declared.verdict.Fault.{Fault}
 use Rattle.cert_check.specs.declared.verdict.Fault.TheVariants.{C1, C2, C3, C4, C5, C6, C7, C8, C9, C10}
 use Rattle.cert_check.specs.Verdict.{IsFirstRouteFault, IsFirstFault}
 use Rattle.cert_judge.specs.declared.judged.Judged.{Judged}
 use Rattle.cert_judge.specs.declared.judged.Judged.TheVariants.{NetRefused, CertRefused, Invalid, Feasible, Valid}
 use Rattle.cert_judge.specs.Judgement.{options_of, IsSaidOf, OnPaper, OnNet, OnHead, IsJudgement}
-use Rattle.cert_inverse.specs.Inverse.{paper_text}
+use Rattle.cert_inverse.specs.Inverse.{IsCitable, IsTextOf, paper_text}
 use Rattle.cert_inverse.specs.Judging.{valid_of, feasible_of, IsValidText, IsFeasibleText}
-use Rattle.cert_inverse.proofs.NetworkWords.{accepted, citable, is_scaled}
-use Rattle.cert_inverse.proofs.HeadsAgain.{heads_again}
+use Rattle.cert_inverse.proofs.NetworkWords.{accepted, citable, citable_old, in_forms, is_scaled, old_word}
+use Rattle.cert_inverse.proofs.HeadsAgain.{HasModes, heads_again}
 use Rattle.cert_inverse.proofs.TextAgain.{reads_back}
-use Rattle.cert_inverse.proofs.Exactly.{text_is}
+use Rattle.cert_inverse.proofs.Exactly.{text_of_read}
 
 -- the network was scaled under its options
 under_options : (rows : NetRows) (net : ScaledNet) → IsOf rows net → scaled_of rows net.options ≡ Ok net
 under_options rows net h = subst (λ (o : NetOptions). scaled_of rows o ≡ Ok net) (ap (λ (n : ScaledNet). n.options) (is_scaled rows net h)) h.scaled
 
--- what is written is judged as what was written
+-- what is written in a form is judged as what was written
+module _ (rows : NetRows) (net : ScaledNet) (form : Form) (paper : Paper) (judged : Judged) (h : IsOf rows net) where
+  written_in : (own : IsCitable (sheet_for (sheets_of rows net) form)) → HasModes (sheet_for (sheets_of rows net) form) form net.options → FitsPaper (sheet_for (sheets_of rows net) form) paper
+      → IsJudgement rows (paper_text (sheet_for (sheets_of rows net) form) paper) judged → IsSaidOf net.options net.net paper judged
+  written_in own modes fits said =
+      let sheets = sheets_of rows net in
+      let sheet = sheet_for sheets form in
+      let lines = lines_of (paper_text sheet paper) in
+      let head = heads_again sheet form net.options paper own fits modes in
+      let at_head : OnNet rows lines net.options (scaled_of rows net.options) judged = subst (λ (r : Result CertHead CertRefusal). OnHead rows lines r judged) head said in
+      let at_net : OnPaper net.options net.net (paper_in sheets lines) judged = subst (λ (r : Result ScaledNet NetRefusal). OnNet rows lines net.options r judged) (under_options rows net h) at_head in
+      subst (λ (r : Result Paper CertRefusal). OnPaper net.options net.net r judged) (reads_back sheets form paper (in_forms rows net) own fits) at_net
+
+-- the words of the options stand in the sheet of each form
+pub modes_of : (rows : NetRows) (net : ScaledNet) → HasModes (sheet_of rows net) Second net.options
+modes_of rows net = record { form_is = refl; links = refl; modules = refl }
+
+old_modes_of : (rows : NetRows) (net : ScaledNet) → HasModes (old_sheet_of rows net) First net.options
+old_modes_of rows net = record { form_is = refl; links = refl; modules = refl }
+
 pub written : (rows : NetRows) (net : ScaledNet) (paper : Paper) (judged : Judged) → IsOf rows net → rows.skipped ≤ MAX_COUNT → FitsPaper (sheet_of rows net) paper → IsJudgement rows (paper_text (sheet_of rows net) paper) judged → IsSaidOf net.options net.net paper judged
-written rows net paper judged h few fits said =
-    let sheet = sheet_of rows net in
-    let lines = lines_of (paper_text sheet paper) in
-    let own = citable rows net h few in
-    let head = heads_again sheet net.options paper own fits (record { links = refl; modules = refl }) in
-    let at_head : OnNet rows lines net.options (scaled_of rows net.options) judged = subst (λ (r : Result CertHead CertRefusal). OnHead rows lines r judged) head said in
-    let at_net : OnPaper net.options net.net (paper_in sheet lines) judged = subst (λ (r : Result ScaledNet NetRefusal). OnNet rows lines net.options r judged) (under_options rows net h) at_head in
-    subst (λ (r : Result Paper CertRefusal). OnPaper net.options net.net r judged) (reads_back sheet paper own fits) at_net
+written rows net paper judged h few fits said = written_in rows net Second paper judged h (citable rows net h few) (modes_of rows net) fits said
+
+pub written_old : (rows : NetRows) (net : ScaledNet) (paper : Paper) (judged : Judged) → IsOf rows net → rows.skipped ≤ MAX_COUNT → net.options.links ≢ Bidirected → FitsPaper (old_sheet_of rows net) paper → IsJudgement rows (paper_text (old_sheet_of rows net) paper) judged
+    → IsSaidOf net.options net.net paper judged
+written_old rows net paper judged h few ways fits said = written_in rows net First paper judged h (citable_old rows net h few (old_word net.options.links ways)) (old_modes_of rows net) fits said
 
 -- no condition of a valid routing or certificate fails
 no_route_fault : (net : Network) (r : Routing) → IsValidRouting net r → (fault : Fault) → IsFirstRouteFault net r fault → ⊥
@@ -95,15 +114,21 @@ valid_certificate rows net p judged h few fits v said = said_valid net p v judge
 pub valid_routing : (rows : NetRows) (net : ScaledNet) (r : Routing) (judged : Judged) → IsOf rows net → rows.skipped ≤ MAX_COUNT → FitsRouting (sheet_of rows net) r → IsValidRouting net.net r → IsJudgement rows (routing_text (sheet_of rows net) r) judged → judged ≡ feasible_of net r
 valid_routing rows net r judged h few fits v said = said_feasible net r v judged (written rows net (papers.Routing r) judged h few fits said)
 
+pub valid_old_certificate : (rows : NetRows) (net : ScaledNet) (p : Proof) (judged : Judged) → IsOf rows net → rows.skipped ≤ MAX_COUNT → net.options.links ≢ Bidirected → FitsProof (old_sheet_of rows net) p → IsValid net.net p → IsJudgement rows (certificate_text (old_sheet_of rows net) p) judged → judged ≡ valid_of net p
+valid_old_certificate rows net p judged h few ways fits v said = said_valid net p v judged (written_old rows net (papers.Full p) judged h few ways fits said)
+
+pub valid_old_routing : (rows : NetRows) (net : ScaledNet) (r : Routing) (judged : Judged) → IsOf rows net → rows.skipped ≤ MAX_COUNT → net.options.links ≢ Bidirected → FitsRouting (old_sheet_of rows net) r → IsValidRouting net.net r → IsJudgement rows (routing_text (old_sheet_of rows net) r) judged → judged ≡ feasible_of net r
+valid_old_routing rows net r judged h few ways fits v said = said_feasible net r v judged (written_old rows net (papers.Routing r) judged h few ways fits said)
+
 -- ---- from what is said to the text
 
--- the network that the text's head asks for, and what is read with its names
+-- the network that the text's head asks for, and what is read with its names, which fits form 2
 record IsReached (rows : NetRows) (text : List ℕ) (judged : Judged) : Type 0 where
   net : ScaledNet
   paper : Paper
   scaled : scaled_of rows net.options ≡ Ok net
+  written : IsTextOf (sheets_of rows net) text paper
   fits : FitsPaper (sheet_of rows net) paper
-  spelled : text ≡ paper_text (sheet_of rows net) paper
   said : IsSaidOf net.options net.net paper judged
 
 -- the options of a network are those that it was scaled under
@@ -120,41 +145,41 @@ IsOfPaper (Invalid fault) = Unit {0}
 IsOfPaper (Feasible options value) = Unit {0}
 IsOfPaper (Valid options closed lower upper) = Unit {0}
 
-on_paper : (rows : NetRows) (text : List ℕ) (judged : Judged) (net : ScaledNet) → IsOfPaper judged → scaled_of rows net.options ≡ Ok net → (read : Result Paper CertRefusal) → paper_in (sheet_of rows net) (lines_of text) ≡ read → OnPaper net.options net.net read judged → IsReached rows text judged
-on_paper rows text judged net own scaled (Ok paper) e said = record { net = net; paper = paper; scaled = scaled; fits = papers_fit (sheet_of rows net) (lines_of text) paper e; spelled = text_is (sheet_of rows net) text paper e; said = said }
+on_paper : (rows : NetRows) (text : List ℕ) (judged : Judged) (net : ScaledNet) → IsOfPaper judged → scaled_of rows net.options ≡ Ok net → (read : Result Paper CertRefusal) → paper_in (sheets_of rows net) (lines_of text) ≡ read → OnPaper net.options net.net read judged → IsReached rows text judged
+on_paper rows text judged net own scaled (Ok paper) e said = record { net = net; paper = paper; scaled = scaled; written = text_of_read (sheets_of rows net) text paper (in_forms rows net) e; fits = new_fits rows net (lines_of text) paper e; said = said }
 on_paper rows text judged net own scaled (Err r) e said = absurd (subst IsOfPaper said own)
 
 on_net : (rows : NetRows) (text : List ℕ) (judged : Judged) (o : NetOptions) → IsOfPaper judged → (read : Result ScaledNet NetRefusal) → scaled_of rows o ≡ read → OnNet rows (lines_of text) o read judged → IsReached rows text judged
 on_net rows text judged o own (Ok net) e said =
     let is = its_options rows o net e in
-    on_paper rows text judged net own (subst (λ (q : NetOptions). scaled_of rows q ≡ Ok net) is e) (paper_in (sheet_of rows net) (lines_of text)) refl
-    (subst (λ (q : NetOptions). OnPaper q net.net (paper_in (sheet_of rows net) (lines_of text)) judged) is said)
+    on_paper rows text judged net own (subst (λ (q : NetOptions). scaled_of rows q ≡ Ok net) is e) (paper_in (sheets_of rows net) (lines_of text)) refl
+    (subst (λ (q : NetOptions). OnPaper q net.net (paper_in (sheets_of rows net) (lines_of text)) judged) is said)
 on_net rows text judged o own (Err r) e said = absurd (subst IsOfPaper said own)
 
 on_head : (rows : NetRows) (text : List ℕ) (judged : Judged) → IsOfPaper judged → (read : Result CertHead CertRefusal) → OnHead rows (lines_of text) read judged → IsReached rows text judged
 on_head rows text judged own (Ok head) said = on_net rows text judged (options_of head) own (scaled_of rows (options_of head)) refl said
 on_head rows text judged own (Err r) said = absurd (subst IsOfPaper said own)
 
-as_certificate : (rows : NetRows) (text : List ℕ) (net : ScaledNet) (options : NetOptions) (closed : Bool) (lower upper : Fraction) → scaled_of rows net.options ≡ Ok net → (paper : Paper) → FitsPaper (sheet_of rows net) paper → text ≡ paper_text (sheet_of rows net) paper
+as_certificate : (rows : NetRows) (text : List ℕ) (net : ScaledNet) (options : NetOptions) (closed : Bool) (lower upper : Fraction) → scaled_of rows net.options ≡ Ok net → (paper : Paper) → IsTextOf (sheets_of rows net) text paper → FitsPaper (sheet_of rows net) paper
     → IsSaidOf net.options net.net paper (Valid options closed lower upper) → IsValidText rows text (Valid options closed lower upper)
-as_certificate rows text net options closed lower upper scaled (papers.Full p) fits spelled said =
+as_certificate rows text net options closed lower upper scaled (papers.Full p) written fits said =
     let is : Valid options closed lower upper ≡ valid_of net p = (let o = said.0 in let c = said.1 in let l = said.2 in let u = said.3 in cc) in
-    record { net = net; proof = p; scaled = scaled; fits = fits; spelled = spelled; valid = said.4; certified = said.5; said = is }
-as_certificate rows text net options closed lower upper scaled (papers.Routing r) fits spelled said = absurd said
+    record { net = net; proof = p; form = written.0; scaled = scaled; written = written.1; fits = fits; valid = said.4; certified = said.5; said = is }
+as_certificate rows text net options closed lower upper scaled (papers.Routing r) written fits said = absurd said
 
 pub judged_certificate : (rows : NetRows) (text : List ℕ) (options : NetOptions) (closed : Bool) (lower upper : Fraction) → IsJudgement rows text (Valid options closed lower upper) → IsValidText rows text (Valid options closed lower upper)
 judged_certificate rows text options closed lower upper said =
     let r = on_head rows text (Valid options closed lower upper) tt (head_in (lines_of text)) said in
-    as_certificate rows text r.net options closed lower upper r.scaled r.paper r.fits r.spelled r.said
+    as_certificate rows text r.net options closed lower upper r.scaled r.paper r.written r.fits r.said
 
-as_routing : (rows : NetRows) (text : List ℕ) (net : ScaledNet) (options : NetOptions) (value : Fraction) → scaled_of rows net.options ≡ Ok net → (paper : Paper) → FitsPaper (sheet_of rows net) paper → text ≡ paper_text (sheet_of rows net) paper
+as_routing : (rows : NetRows) (text : List ℕ) (net : ScaledNet) (options : NetOptions) (value : Fraction) → scaled_of rows net.options ≡ Ok net → (paper : Paper) → IsTextOf (sheets_of rows net) text paper → FitsPaper (sheet_of rows net) paper
     → IsSaidOf net.options net.net paper (Feasible options value) → IsFeasibleText rows text (Feasible options value)
-as_routing rows text net options value scaled (papers.Routing r) fits spelled said =
+as_routing rows text net options value scaled (papers.Routing r) written fits said =
     let is : Feasible options value ≡ feasible_of net r = (let o = said.0 in let v = said.1 in cc) in
-    record { net = net; routing = r; scaled = scaled; fits = fits; spelled = spelled; valid = said.2; feasible = subst (λ (f : Fraction). IsFeasible net.net (routing_of r) f.num f.den) said.1 said.3; said = is }
-as_routing rows text net options value scaled (papers.Full p) fits spelled said = absurd said
+    record { net = net; routing = r; form = written.0; scaled = scaled; written = written.1; fits = fits; valid = said.2; feasible = subst (λ (f : Fraction). IsFeasible net.net (routing_of r) f.num f.den) said.1 said.3; said = is }
+as_routing rows text net options value scaled (papers.Full p) written fits said = absurd said
 
 pub judged_routing : (rows : NetRows) (text : List ℕ) (options : NetOptions) (value : Fraction) → IsJudgement rows text (Feasible options value) → IsFeasibleText rows text (Feasible options value)
 judged_routing rows text options value said =
     let r = on_head rows text (Feasible options value) tt (head_in (lines_of text)) said in
-    as_routing rows text r.net options value r.scaled r.paper r.fits r.spelled r.said
+    as_routing rows text r.net options value r.scaled r.paper r.written r.fits r.said

@@ -6,6 +6,7 @@ pub mod Exactly
 pub mod Fronts
 pub mod HeadAgain
 pub mod HeadTakes
+pub mod Headers
 pub mod HeadsAgain
 pub mod JudgedTexts
 pub mod NetworkWords

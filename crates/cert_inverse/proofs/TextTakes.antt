@@ -1,5 +1,5 @@
 -- Whole texts: what is read was spelled so.
-use Rattle.std.proofs.Common.{◌≡◌, ℕ, Bool, true, false, cond, List, [], ◌∷◌, ◌++◌, Option, Some, None, Ok, refl, sym, ap, subst, ◌∙◌, append_assoc, arith}
+use Rattle.std.proofs.Common.{◌≡◌, ℕ, Bool, List, [], ◌∷◌, ◌++◌, Some, Ok, refl, sym, ap, subst, ◌∙◌, append_assoc, arith}
 use Rattle.std.specs.Prelude.{codes, map}
 use Rattle.std.proofs.lemmas.List.Concat.{flat_map-cons}
 use Rattle.text_lines.specs.Lines.{Line, spelled, text_of}
@@ -10,30 +10,33 @@ use Rattle.flow_paths.specs.declared.certificate.Printed.{Printed}
 use Rattle.flow_paths.specs.declared.certificate.Proof.{Proof}
 use Rattle.gap_fraction.specs.declared.fraction.TheConstants.{MAX_PART}
 use Rattle.mcf_limits.specs.declared.TheConstants.{MAX_LENGTH}
-use Rattle.cert_names.specs.Sheet.{Sheet}
-use Rattle.cert_lines.specs.declared.refusal.CertKind.TheVariants.{Syntax}
+use Rattle.cert_names.specs.Sheet.{Sheet, Sheets, sheet_for}
+use Rattle.cert_names.specs.declared.form.Form.{Form}
 use Rattle.cert_lines.specs.declared.refusal.CertRefusal.{CertRefusal}
-use Rattle.cert_lines.specs.Forms.{◌>>=◌, is_fixed}
+use Rattle.cert_lines.specs.Forms.{◌>>=◌}
 use Rattle.cert_lines.specs.HeadLines.{verdict_line, counts_line, gap_line, phases_line, scale_line, value_line}
 use Rattle.cert_lines.specs.Rows.{path_row, length_row, potential_row}
 use Rattle.cert_lines.specs.Spelling.{verdict_words, links_words, modules_words, counts_words, gap_words, phases_words, scale_words, value_words, length_words, potential_words, path_words}
 use Rattle.cert_text.specs.declared.papers.Paper.{Paper}
 use Rattle.cert_text.specs.declared.papers.Paper.TheVariants as papers
-use Rattle.cert_text.specs.Reading.{Place, has_more, next_line, mode_line, rows_from, bytes_of, closing}
-use Rattle.cert_text.specs.Papers.{modes_at, scale_at, opening_at, values_at, dual_at, routing_at, proof_at, form_of, header_of, header}
+use Rattle.cert_text.specs.declared.opening.Kind.{Kind}
+use Rattle.cert_text.specs.declared.opening.Kind.TheVariants as kinds
+use Rattle.cert_text.specs.Reading.{Place, next_line, mode_line, rows_from, bytes_of, closing}
+use Rattle.cert_text.specs.Papers.{modes_at, scale_at, opening_at, values_at, dual_at, routing_at, proof_at, header}
 use Rattle.cert_text.specs.Whole.{paper_at, paper_in}
 use Rattle.cert_writer.specs.Text.{end_line}
-use Rattle.cert_laws.proofs.Steps.{bind_ok, done, ok_is, passed}
-use Rattle.cert_inverse.specs.Inverse.{paper_text}
-use Rattle.cert_inverse.proofs.Words.{same_bytes}
+use Rattle.cert_laws.proofs.Steps.{bind_ok, done, ok_is}
+use Rattle.cert_laws.proofs.PaperFits.{WordedFits, paper_ok}
+use Rattle.cert_inverse.specs.Inverse.{AreInForms, form_said, form_word, kind_of, paper_text}
+use Rattle.cert_inverse.proofs.Headers.{header_words, forms_are, header_take, header_said}
 use Rattle.cert_inverse.proofs.HeadTakes.{joined, verdict_takes, mode_takes, gap_takes, phases_takes, scale_takes, value_takes}
 use Rattle.cert_inverse.proofs.CountTakes.{counts_take}
 use Rattle.cert_inverse.proofs.RowTakes.{path_takes, length_takes, potential_takes}
-use Rattle.cert_inverse.proofs.Between.{Between, between_then, first_line, text_of-both, next_between, rows_between, closing_takes}
+use Rattle.cert_inverse.proofs.Between.{Between, between_then, text_of-both, next_between, rows_between, closing_takes}
 
 -- ---- parts
 
-modes_take : (sheet : Sheet) (place after : Place) → modes_at sheet place ≡ Ok after → Between (links_words sheet ∷ modules_words sheet ∷ []) place after
+pub modes_take : (sheet : Sheet) (place after : Place) → modes_at sheet place ≡ Ok after → Between (links_words sheet ∷ modules_words sheet ∷ []) place after
 unfolding modes_at
 modes_take sheet place after e =
     let a = bind_ok (next_line (mode_line (codes "links") sheet.link_mode) place) (λ links. next_line (mode_line (codes "modules") sheet.module_mode) links.1 >>= λ modules. done modules.1) after e in
@@ -43,13 +46,13 @@ modes_take sheet place after e =
     subst (Between (links_words sheet ∷ modules_words sheet ∷ []) place) (ok_is {E = CertRefusal} b.0.1 after b.2)
     (between_then (links_words sheet ∷ []) (modules_words sheet ∷ []) place a.0.1 b.0.1 links modules)
 
-abbrev Scale : Type 0
+abbrev pub Scale : Type 0
 Scale = ℕ × (ℕ × ℕ)
 
-abbrev scale_lines : Scale → List Line
+abbrev pub scale_lines : Scale → List Line
 scale_lines s = phases_words s.0 ∷ scale_words (s.1.0, s.1.1) ∷ []
 
-scale_take : (place : Place) (x : Scale × Place) → scale_at place ≡ Ok x → Between (scale_lines x.0) place x.1
+pub scale_take : (place : Place) (x : Scale × Place) → scale_at place ≡ Ok x → Between (scale_lines x.0) place x.1
 unfolding scale_at
 scale_take place x e =
     let a = bind_ok (next_line phases_line place) (λ phases. next_line scale_line phases.1 >>= λ scale. done {A = Scale × Place} {E = CertRefusal} ((phases.0, scale.0), scale.1)) x e in
@@ -59,10 +62,10 @@ scale_take place x e =
     subst (λ (y : Scale × Place). Between (scale_lines y.0) place y.1) (ok_is {E = CertRefusal} ((a.0.0, b.0.0), b.0.1) x b.2)
     (between_then (phases_words a.0.0 ∷ []) (scale_words b.0.0 ∷ []) place a.0.1 b.0.1 phases scale)
 
-abbrev value_lines : Printed × Printed → List Line
+abbrev pub value_lines : Printed × Printed → List Line
 value_lines v = value_words (codes "lower") v.0 ∷ value_words (codes "upper") v.1 ∷ []
 
-values_take : (place : Place) (x : (Printed × Printed) × Place) → values_at place ≡ Ok x → Between (value_lines x.0) place x.1
+pub values_take : (place : Place) (x : (Printed × Printed) × Place) → values_at place ≡ Ok x → Between (value_lines x.0) place x.1
 unfolding values_at
 values_take place x e =
     let low = value_line (codes "lower") MAX_LENGTH in
@@ -74,10 +77,10 @@ values_take place x e =
     subst (λ (y : (Printed × Printed) × Place). Between (value_lines y.0) place y.1) (ok_is {E = CertRefusal} ((a.0.0, b.0.0), b.0.1) x b.2)
     (between_then (value_words (codes "lower") a.0.0 ∷ []) (value_words (codes "upper") b.0.0 ∷ []) place a.0.1 b.0.1 lower upper)
 
-abbrev opened_lines : Sheet → Bool × ℕ → List Line
+abbrev pub opened_lines : Sheet → Bool × ℕ → List Line
 opened_lines sheet o = verdict_words o.0 ∷ links_words sheet ∷ modules_words sheet ∷ counts_words sheet ∷ gap_words o.1 ∷ []
 
-opening_take : (sheet : Sheet) (place : Place) (x : (Bool × ℕ) × Place) → opening_at sheet place ≡ Ok x → Between (opened_lines sheet x.0) place x.1
+pub opening_take : (sheet : Sheet) (place : Place) (x : (Bool × ℕ) × Place) → opening_at sheet place ≡ Ok x → Between (opened_lines sheet x.0) place x.1
 unfolding opening_at
 opening_take sheet place x e =
     let made = λ (v : Bool) (gap : ℕ × Place). done {A = (Bool × ℕ) × Place} {E = CertRefusal} ((v, gap.0), gap.1) in
@@ -94,10 +97,10 @@ opening_take sheet place x e =
     subst (λ (y : (Bool × ℕ) × Place). Between (opened_lines sheet y.0) place y.1) (ok_is {E = CertRefusal} ((a.0.0, d.0.0), d.0.1) x d.2)
     (between_then (verdict_words a.0.0 ∷ []) (links_words sheet ∷ modules_words sheet ∷ counts_words sheet ∷ gap_words d.0.0 ∷ []) place a.0.1 d.0.1 verdict most)
 
-abbrev dual_lines : Sheet → DualRows → List Line
+abbrev pub dual_lines : Sheet → DualRows → List Line
 dual_lines sheet d = map (length_words sheet) d.lengths ++ map (potential_words sheet) d.potentials
 
-dual_take : (sheet : Sheet) (place : Place) (x : DualRows × Place) → dual_at sheet place ≡ Ok x → Between (dual_lines sheet x.0) place x.1
+pub dual_take : (sheet : Sheet) (place : Place) (x : DualRows × Place) → dual_at sheet place ≡ Ok x → Between (dual_lines sheet x.0) place x.1
 unfolding dual_at
 dual_take sheet place x e =
     let made = λ (ls : List Length) (ps : List Potential × Place). done {A = DualRows × Place} {E = CertRefusal} (record { lengths = ls; potentials = ps.0 }, ps.1) in
@@ -110,7 +113,7 @@ dual_take sheet place x e =
 
 -- ---- what follows the header
 
-goes_to : (xs ys : List Line) (a b : Place) → Between xs a b → bytes_of b.rest ≡ text_of ys → bytes_of a.rest ≡ text_of (xs ++ ys)
+pub goes_to : (xs ys : List Line) (a b : Place) → Between xs a b → bytes_of b.rest ≡ text_of ys → bytes_of a.rest ≡ text_of (xs ++ ys)
 goes_to xs ys a b h rest = h.bytes ∙ ap (λ (l : List ℕ). text_of xs ++ l) rest ∙ text_of-both xs ys
 
 abbrev routing_made : Scale → List Row → Routing
@@ -168,71 +171,53 @@ proof_take sheet place p e =
     goes_to (opened_lines sheet a.0.0) (scale_lines b.0.0 ++ (value_lines c.0.0 ++ (map (path_words sheet) d.0.0 ++ (dual_lines sheet f.0.0 ++ end_line ∷ [])))) place a.0.1 (opening_take sheet place a.0 a.1) from_scale
     ∙ ap (λ (q : Proof). text_of (behind_proof sheet q)) (ok_is {E = CertRefusal} (proof_made a.0.0 b.0.0 c.0.0 d.0.0 f.0.0) p g.2)
 
--- ---- the header
-
-abbrev header_words : Bool → Line
-header_words full = cond full (codes "mcf-certificate") (codes "mcf-routing") ∷ codes "1" ∷ []
-
-form_is : (line : Line) (full : Bool) → form_of line ≡ Some full → joined line ≡ joined (header_words full)
-form_is line full e = by (is_fixed (codes "mcf-certificate 1") line) (is_fixed (codes "mcf-routing 1") line) refl refl e
-  where
-    by : (b c : Bool) → is_fixed (codes "mcf-certificate 1") line ≡ b → is_fixed (codes "mcf-routing 1") line ≡ c → cond b (Some true) (cond c (Some false) None) ≡ Some full → joined line ≡ joined (header_words full)
-    by true c h k s = let is : true ≡ full = cc in same_bytes (joined line) (codes "mcf-certificate 1") h ∙ ap (λ (f : Bool). joined (header_words f)) is
-    by false true h k s = let is : false ≡ full = cc in same_bytes (joined line) (codes "mcf-routing 1") k ∙ ap (λ (f : Bool). joined (header_words f)) is
-    by false false h k s = absurd cc
-
-header_take : (lines : List Line) (x : Bool × Place) → header lines ≡ Ok x → bytes_of lines ≡ spelled (header_words x.0) ++ bytes_of x.1.rest
-unfolding header
-header_take [] x e = absurd cc
-header_take (line ∷ lines) x e = by (form_of line) refl e
-  where
-    by : (o : Option Bool) → form_of line ≡ o → header_of o lines ≡ Ok x → bytes_of (line ∷ lines) ≡ spelled (header_words x.0) ++ bytes_of x.1.rest
-    by None h k = absurd cc
-    by (Some full) h k =
-        let p = passed (has_more lines) (done (full, record { at = 2; rest = lines })) (record { line = 1; kind = Syntax }) x k in
-        first_line line lines p.0 ∙ ap (λ (l : List ℕ). (l ++ 10 ∷ []) ++ bytes_of lines) (form_is line full h)
-        ∙ ap (λ (q : Bool × Place). spelled (header_words q.0) ++ bytes_of q.1.rest) (ok_is {E = CertRefusal} (full, record { at = 2; rest = lines }) x p.1)
-
 -- ---- the whole
 
 abbrev behind_header : Sheet → Paper → List Line
 behind_header sheet (papers.Full p) = behind_proof sheet p
 behind_header sheet (papers.Routing r) = behind_routing sheet r
 
-abbrev is_full_paper : Paper → Bool
-is_full_paper (papers.Full p) = true
-is_full_paper (papers.Routing r) = false
-
-record IsBehind (sheet : Sheet) (full : Bool) (place : Place) (paper : Paper) : Type 0 where
-  form : is_full_paper paper ≡ full
+record IsBehind (sheet : Sheet) (kind : Kind) (place : Place) (paper : Paper) : Type 0 where
+  kind_is : kind_of paper ≡ kind
   bytes : bytes_of place.rest ≡ text_of (behind_header sheet paper)
 
-paper_take : (sheet : Sheet) (full : Bool) (place : Place) (paper : Paper) → paper_at sheet full place ≡ Ok paper → IsBehind sheet full place paper
+paper_take : (sheet : Sheet) (kind : Kind) (place : Place) (paper : Paper) → paper_at sheet kind place ≡ Ok paper → IsBehind sheet kind place paper
 unfolding paper_at
-paper_take sheet true place paper e =
+paper_take sheet kinds.Certificate place paper e =
     let a = bind_ok (proof_at sheet place) (λ p. done {A = Paper} {E = CertRefusal} (papers.Full p)) paper e in
-    subst (IsBehind sheet true place) (ok_is {E = CertRefusal} (papers.Full a.0) paper a.2) (record { form = refl; bytes = proof_take sheet place a.0 a.1 })
-paper_take sheet false place paper e =
+    subst (IsBehind sheet kinds.Certificate place) (ok_is {E = CertRefusal} (papers.Full a.0) paper a.2) (record { kind_is = refl; bytes = proof_take sheet place a.0 a.1 })
+paper_take sheet kinds.Routing place paper e =
     let a = bind_ok (routing_at sheet place) (λ r. done {A = Paper} {E = CertRefusal} (papers.Routing r)) paper e in
-    subst (IsBehind sheet false place) (ok_is {E = CertRefusal} (papers.Routing a.0) paper a.2) (record { form = refl; bytes = routing_take sheet place a.0 a.1 })
+    subst (IsBehind sheet kinds.Routing place) (ok_is {E = CertRefusal} (papers.Routing a.0) paper a.2) (record { kind_is = refl; bytes = routing_take sheet place a.0 a.1 })
 
 -- the header, and the lines behind it
-whole_is : (sheet : Sheet) (paper : Paper) → spelled (header_words (is_full_paper paper)) ++ text_of (behind_header sheet paper) ≡ paper_text sheet paper
+whole_is : (sheet : Sheet) (paper : Paper) → spelled (header_words (kind_of paper) sheet.form) ++ text_of (behind_header sheet paper) ≡ paper_text sheet paper
 whole_is sheet (papers.Full p) =
+    let first = header_words kinds.Certificate sheet.form in
     let rows = map (path_words sheet) p.routing.paths in
     let lengths = map (length_words sheet) p.dual.lengths in
     let potentials = map (potential_words sheet) p.dual.potentials in
-    sym (flat_map-cons spelled (header_words true) (behind_proof sheet p))
-    ∙ ap (λ (ls : List Line). text_of (header_words true ∷ (opened_lines sheet (p.closed, p.gap) ++ (scale_lines (p.routing.phases, (p.routing.scale_cap, p.routing.scale_load)) ++ (value_lines (p.lower, p.upper) ++ (rows ++ ls)))))) (append_assoc lengths potentials (end_line ∷ []))
-whole_is sheet (papers.Routing r) = sym (flat_map-cons spelled (header_words false) (behind_routing sheet r))
+    sym (flat_map-cons spelled first (behind_proof sheet p))
+    ∙ ap (λ (ls : List Line). text_of (first ∷ (opened_lines sheet (p.closed, p.gap) ++ (scale_lines (p.routing.phases, (p.routing.scale_cap, p.routing.scale_load)) ++ (value_lines (p.lower, p.upper) ++ (rows ++ ls)))))) (append_assoc lengths potentials (end_line ∷ []))
+whole_is sheet (papers.Routing r) = sym (flat_map-cons spelled (header_words kinds.Routing sheet.form) (behind_routing sheet r))
+
+-- what was read: its form is said by the first line, its sheet has a word for how links are read, and it is spelled so
+pub record IsRead (sheets : Sheets) (lines : List Line) (paper : Paper) : Type 0 where
+  pub form : Form
+  pub said : form_said lines ≡ Some form
+  pub fits : WordedFits (sheet_for sheets form) paper
+  pub bytes : bytes_of lines ≡ paper_text (sheet_for sheets form) paper
+
+pub is_read : (sheets : Sheets) (lines : List Line) (paper : Paper) → AreInForms sheets → paper_in sheets lines ≡ Ok paper → IsRead sheets lines paper
+unfolding paper_in
+is_read sheets lines paper forms e =
+    let a = bind_ok (header lines) (λ first. paper_at (sheet_for sheets first.0.form) first.0.kind first.1) paper e in
+    let form = a.0.0.form in
+    let sheet = sheet_for sheets form in
+    let b = paper_take sheet a.0.0.kind a.0.1 paper a.2 in
+    let bytes = header_take lines a.0 a.1 ∙ ap (λ (k : Kind). spelled (header_words k (form_word form)) ++ bytes_of a.0.1.rest) (sym b.kind_is) ∙ ap (λ (w : List ℕ). spelled (header_words (kind_of paper) w) ++ bytes_of a.0.1.rest) (sym (forms_are sheets form forms)) ∙ ap (λ (l : List ℕ). spelled (header_words (kind_of paper) sheet.form) ++ l) b.bytes ∙ whole_is sheet paper in
+    record { form = form; said = header_said lines a.0 a.1; fits = paper_ok sheet a.0.0.kind a.0.1 paper a.2; bytes = bytes }
 
 -- the bytes of lines that are read are the text of what is read
-pub bytes_are : (sheet : Sheet) (lines : List Line) (paper : Paper) → paper_in sheet lines ≡ Ok paper → bytes_of lines ≡ paper_text sheet paper
-unfolding paper_in
-bytes_are sheet lines paper e =
-    let a = bind_ok (header lines) (λ first. paper_at sheet first.0 first.1) paper e in
-    let b = paper_take sheet a.0.0 a.0.1 paper a.2 in
-    header_take lines a.0 a.1
-    ∙ ap (λ (f : Bool). spelled (header_words f) ++ bytes_of a.0.1.rest) (sym b.form)
-    ∙ ap (λ (l : List ℕ). spelled (header_words (is_full_paper paper)) ++ l) b.bytes
-    ∙ whole_is sheet paper
+pub bytes_are : (sheets : Sheets) (lines : List Line) (paper : Paper) → AreInForms sheets → paper_in sheets lines ≡ Ok paper → (form : Form) × (form_said lines ≡ Some form) × (bytes_of lines ≡ paper_text (sheet_for sheets form) paper)
+bytes_are sheets lines paper forms e = let r = is_read sheets lines paper forms e in (r.form, r.said, r.bytes)

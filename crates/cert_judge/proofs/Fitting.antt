@@ -1,40 +1,44 @@
 -- What fits a text fits the network whose names the text cites.
-use Rattle.std.proofs.Common.{◌≡◌, ℕ, ◌+◌, ◌<◌, List, [], ◌∷◌, ◌++◌, length, Option, Some, None, Result, Ok, Err, arith, refl, ap, sym, subst, ◌∙◌}
+use Rattle.std.proofs.Common.{◌≡◌, ℕ, ◌+◌, ◌<◌, List, [], ◌∷◌, ◌++◌, length, map, Option, Some, None, Result, Ok, Err, refl, ap, sym, subst, ◌∙◌}
 use Rattle.std.specs.Prelude.{All}
 use Rattle.std.specs.List.{AllByRecursion, flat_map}
-use Rattle.std.proofs.lemmas.List.{length-map}
+use Rattle.std.proofs.lemmas.List.{length-append, length-map}
 use Rattle.std.proofs.lemmas.List.Elements.{All-from_recursion}
-use Rattle.flow_model.specs.declared.net.Cell.{Cell}
 use Rattle.flow_model.specs.Network.{Network}
 use Rattle.flow_model.specs.Routing.{Row}
 use Rattle.flow_paths.specs.DualRows.{Length, Potential}
 use Rattle.flow_paths.specs.declared.certificate.Routing.{Routing}
 use Rattle.flow_paths.specs.declared.certificate.Proof.{Proof}
 use Rattle.flow_paths.specs.Certificate.{IsRowOf, IsRoutingOf, IsPotentialOf, IsProofOf}
-use Rattle.net_options.specs.declared.modes.LinkMode.{LinkMode}
-use Rattle.net_options.specs.declared.modes.LinkMode.TheVariants.{Directed, Undirected}
+use Rattle.net_options.specs.Modes.{signs}
+use Rattle.net_options.specs.declared.modes.Sign.{Sign}
 use Rattle.net_options.specs.declared.options.NetOptions.{NetOptions}
-use Rattle.sndlib_grammar.specs.Rows.{NetRows, NetLink}
+use Rattle.sndlib_grammar.specs.Rows.{NetRows, NetLink, names_of_links}
 use Rattle.sndlib_grammar.specs.declared.refusal.NetRefusal.{NetRefusal}
-use Rattle.unit_scale.specs.Sizes.{decimals_of, sizes, in_units, capacity}
-use Rattle.unit_scale.specs.Scaling.{ScaledNet, scaled_of, scaled_with, unless_refused, refusal, link_cells, cells_of_link}
+use Rattle.unit_scale.specs.Sizes.{decimals_of, sizes}
+use Rattle.unit_scale.specs.Scaling.{ScaledNet, scaled_of, scaled_with, unless_refused, refusal, cell_going, capacity_in, cells_of_link}
 use Rattle.unit_scale.specs.ScaledFacts.{IsScaledNet}
-use Rattle.cert_names.specs.Sheet.{Sheet, sheet_of, demand_word}
+use Rattle.cert_names.specs.Sheet.{Sheet, sheet_of, sign_mark, signed_words, demand_word}
 use Rattle.cert_lines.specs.Spelling.{FitsLength, FitsPotential, FitsPath}
 use Rattle.cert_writer.specs.Text.{FitsRouting, FitsProof}
 
 -- ---- the network has the sizes of the sheet
 
-one_cell : (mode : LinkMode) (source target most : ℕ) (rest : List Cell) → length (link_cells mode source target most ++ rest) ≡ 1 + length rest
-one_cell Directed source target most rest = omega arith
-one_cell Undirected source target most rest = omega arith
-
-cell_count : (o : NetOptions) (s : ℕ) (links : List NetLink) → length (flat_map (cells_of_link o s) links) ≡ length links
-cell_count o s [] = refl
-cell_count o s (l ∷ links) =
-    let more = cell_count o s links in
-    let step : 1 + length (flat_map (cells_of_link o s) links) ≡ length (l ∷ links) = omega arith in
-    one_cell o.links l.source l.target (in_units s (capacity o.modules l)) (flat_map (cells_of_link o s) links) ∙ step
+-- the words and the cells of a link are as many as its signs
+same_count : (o : NetOptions) (s : ℕ) (links : List NetLink)
+    → length (flat_map (signed_words o.links) (map (λ (l : NetLink). l.id) links)) ≡ length (flat_map (cells_of_link o s) links)
+same_count o s [] = refl
+same_count o s (l ∷ links) =
+    let more = same_count o s links in
+    let ways = signs o.links in
+    let words = map (λ (sign : Sign). sign_mark sign ++ l.id) ways in
+    let cells = map (cell_going l.source l.target (capacity_in o s l)) ways in
+    let a = length-append words (flat_map (signed_words o.links) (map (λ (k : NetLink). k.id) links)) in
+    let b = length-append cells (flat_map (cells_of_link o s) links) in
+    let p = length-map ways (λ (sign : Sign). sign_mark sign ++ l.id) in
+    let q = length-map ways (cell_going l.source l.target (capacity_in o s l)) in
+    a ∙ ap (λ (n : ℕ). n + length (flat_map (signed_words o.links) (map (λ (k : NetLink). k.id) links))) (p ∙ sym q)
+    ∙ ap (λ (n : ℕ). length cells + n) more ∙ sym b
 
 abbrev net_or : ScaledNet → Result ScaledNet NetRefusal → ScaledNet
 net_or net (Ok other) = other
@@ -61,7 +65,7 @@ sized rows o net e facts =
     let is = is_scaled rows o net e in
     record {
       nodes = length-map rows.nodes (λ n. n.id) ∙ ap (λ (n : ScaledNet). n.net.nodes) is;
-      cells = length-map rows.links (λ l. l.id) ∙ sym (cell_count o s rows.links) ∙ ap (λ (n : ScaledNet). length n.net.cells) is;
+      cells = subst (λ (n : ScaledNet). length (flat_map (signed_words n.options.links) (names_of_links rows)) ≡ length n.net.cells) is (same_count o s rows.links);
       commodities = length-map net.kept (demand_word rows) ∙ facts.count;
     }
 

@@ -8,7 +8,7 @@ use Rattle.flow_paths.specs.Certificate.{lower_of, upper_of, routing_of, IsValid
 use Rattle.sndlib_grammar.specs.Rows.{NetRows}
 use Rattle.sndlib_grammar.specs.declared.refusal.NetRefusal.{NetRefusal}
 use Rattle.unit_scale.specs.Scaling.{ScaledNet, scaled_of}
-use Rattle.cert_names.specs.Sheet.{sheet_of}
+use Rattle.cert_names.specs.Sheet.{sheets_of}
 use Rattle.cert_lines.specs.declared.refusal.CertRefusal.{CertRefusal}
 use Rattle.cert_text.specs.declared.opening.CertHead.{CertHead}
 use Rattle.cert_text.specs.declared.papers.Paper.{Paper}
@@ -22,7 +22,8 @@ use Rattle.cert_judge.specs.declared.judged.Judged.TheVariants.{NetRefused, Cert
 abbrev pub options_of : CertHead → NetOptions
 options_of head = record { links = head.links; modules = head.modules }
 
--- feasible exactly where a routing's four conditions hold, valid exactly where a certificate's ten do, else the first that fails
+-- feasible exactly where a routing's four conditions hold, valid exactly where a certificate's ten
+-- do, else the first that fails
 abbrev pub IsSaidOf : NetOptions → Network → Paper → Judged → Type 0
 IsSaidOf o net (Routing r) (Feasible options value) = (options ≡ o) × (value ≡ lower_of r) × IsValidRouting net r × IsFeasible net (routing_of r) value.num value.den
 IsSaidOf o net (Routing r) (Invalid fault) = IsFirstRouteFault net r fault
@@ -35,10 +36,11 @@ abbrev pub OnPaper : NetOptions → Network → Result Paper CertRefusal → Jud
 OnPaper o net (Err r) judged = judged ≡ CertRefused r
 OnPaper o net (Ok paper) judged = IsSaidOf o net paper judged
 
--- behind the head: the network is refused under its options, or the rest of the text is read with the network's names
+-- behind the head: the network is refused under its options, or the rest of the text is read with
+-- the network's names, in either form
 abbrev pub OnNet : NetRows → List Line → NetOptions → Result ScaledNet NetRefusal → Judged → Type 0
 OnNet rows lines o (Err r) judged = judged ≡ NetRefused r
-OnNet rows lines o (Ok net) judged = OnPaper o net.net (paper_in (sheet_of rows net) lines) judged
+OnNet rows lines o (Ok net) judged = OnPaper o net.net (paper_in (sheets_of rows net) lines) judged
 
 abbrev pub OnHead : NetRows → List Line → Result CertHead CertRefusal → Judged → Type 0
 OnHead rows lines (Err r) judged = judged ≡ CertRefused r

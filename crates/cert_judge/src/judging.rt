@@ -6,7 +6,7 @@ ghost use Rattle.mcf_limits.specs.declared.TheConstants.{MAX_CERT_BYTES};
 ghost use Rattle.flow_paths.specs.Certificate.{IsProofOf, IsRoutingOf};
 ghost use Rattle.sndlib_grammar.specs.Rows.{AreNetRows};
 ghost use Rattle.unit_scale.specs.Scaling.{scaled_of};
-ghost use Rattle.cert_names.specs.Sheet.{sheet_of};
+ghost use Rattle.cert_names.specs.Sheet.{sheets_of};
 ghost use Rattle.cert_text.specs.Whole.{paper_in};
 ghost use Rattle.cert_text.specs.declared.papers.Paper.TheVariants as PaperIs;
 ghost use Rattle.cert_judge.specs.Judgement.{IsJudgement, IsSaidOf, OnPaper};
@@ -14,7 +14,6 @@ ghost use Rattle.cert_judge.specs.Judgement.{IsJudgement, IsSaidOf, OnPaper};
 use crate::judged::Judged;
 use cert_check::{RouteEnd, Verdict, check, check_routing};
 use cert_laws::papers_fit;
-use cert_names::Names;
 use cert_text::{CertEnd, Paper, cert_head, read_cert};
 use flow_model::Net;
 use flow_paths::{Proof, Routing};
@@ -74,11 +73,11 @@ fn on_paper(
     requires rows { AreNetRows rows.now }
     requires net { scaled_of rows.now options ≡ Ok net.now }
     requires text { length text.now ≤ MAX_CERT_BYTES }
-    ensures { IfOk result (OnPaper options net.now.net (paper_in (sheet_of rows.now net.now) (lines_of text.now))) }
+    ensures { IfOk result (OnPaper options net.now.net
+        (paper_in (sheets_of rows.now net.now) (lines_of text.now))) }
 {
     papers_fit();
-    let names = Names::new(rows, net);
-    match read_cert(alloc, &names, text) {
+    match read_cert(alloc, rows, net, text) {
         Ok(Paper::Routing(routing)) => on_routing(alloc, net.net(), &routing, options),
         Ok(Paper::Full(proof)) => on_proof(alloc, net.net(), &proof, options),
         Err(CertEnd::Refused(refusal)) => Ok(Judged::CertRefused(refusal)),
@@ -86,8 +85,8 @@ fn on_paper(
     }
 }
 
-/// What is said of a certificate's or a routing's text on the rows of a network: the first refusal, the first condition that
-/// fails, or that it stands.
+/// What is said of a certificate's or a routing's text on the rows of a network: the first refusal,
+/// the first condition that fails, or that it stands.
 pub fn judge(alloc: Global, rows: &RawNet<'_>, text: &[u8]) -> Result<Judged, AllocError>
     requires rows { AreNetRows rows.now }
     requires text { length text.now ≤ MAX_CERT_BYTES }

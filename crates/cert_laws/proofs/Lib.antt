@@ -1,3 +1,4 @@
 pub mod LineFits
+pub mod NewFits
 pub mod PaperFits
 pub mod Steps

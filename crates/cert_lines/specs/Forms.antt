@@ -46,17 +46,20 @@ one_behind key _ = None
 
 -- the two words behind the keyword, where the line is the keyword and two words that are not empty
 abbrev pub two_behind : List ℕ → Line → Option (List ℕ × List ℕ)
-two_behind key (word ∷ first ∷ second ∷ []) = if bytes_eq word key && is_full first && is_full second then Some (first, second) else None
+two_behind key (word ∷ first ∷ second ∷ []) =
+    if bytes_eq word key && is_full first && is_full second then Some (first, second) else None
 two_behind key _ = None
 
 -- the word behind the keyword and any number of words, none of them empty
 abbrev pub list_behind : List ℕ → Line → Option (List ℕ × Line)
-list_behind key (word ∷ first ∷ others) = if bytes_eq word key && list_all is_full (first ∷ others) then Some (first, others) else None
+list_behind key (word ∷ first ∷ others) =
+    if bytes_eq word key && list_all is_full (first ∷ others) then Some (first, others) else None
 list_behind key _ = None
 
 -- the two words behind the keyword and any number of words, none of them empty
 abbrev pub row_behind : List ℕ → Line → Option (List ℕ × List ℕ × Line)
-row_behind key (word ∷ first ∷ second ∷ others) = if bytes_eq word key && list_all is_full (first ∷ second ∷ others) then Some (first, second, others) else None
+row_behind key (word ∷ first ∷ second ∷ others) =
+    if bytes_eq word key && list_all is_full (first ∷ second ∷ others) then Some (first, second, others) else None
 row_behind key _ = None
 
 -- what stands before and behind the first stroke

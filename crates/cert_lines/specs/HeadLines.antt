@@ -14,7 +14,10 @@ use Rattle.cert_lines.specs.Numbers.{number_within, decimal_within}
 
 -- `verdict closed` or `verdict open`: whether it is closed
 abbrev pub verdict_line : Line → Result Bool CertKind
-verdict_line words = if is_fixed (codes "verdict closed") words then Ok true else if is_fixed (codes "verdict open") words then Ok false else Err Syntax
+verdict_line words =
+    if is_fixed (codes "verdict closed") words then Ok true
+    else (if is_fixed (codes "verdict open") words then Ok false
+    else Err Syntax)
 
 -- `gap` and a decimal: the gap in millionths
 unfoldable pub gap_line : Line → Result ℕ CertKind
@@ -55,11 +58,17 @@ value_line key most words = do
 
 -- the words behind the first four names
 unfoldable pub first_counts : Line → Option (List ℕ × List ℕ × List ℕ × List ℕ × Line)
-first_counts words = option_and_then (λ a. option_and_then (λ b. option_and_then (λ c. option_and_then (λ d. Some (a.0, b.0, c.0, d.0, d.1)) (named_first (codes "decimals") c.1)) (named_first (codes "commodities") b.1)) (named_first (codes "cells") a.1)) (named_first (codes "nodes") words)
+first_counts words =
+    option_and_then (λ a. option_and_then (λ b. option_and_then (λ c. option_and_then (λ d.
+    Some (a.0, b.0, c.0, d.0, d.1))
+    (named_first (codes "decimals") c.1)) (named_first (codes "commodities") b.1))
+    (named_first (codes "cells") a.1)) (named_first (codes "nodes") words)
 
 -- the words behind the last three names
 unfoldable pub last_counts : Line → Option (List ℕ × List ℕ × List ℕ × Line)
-last_counts words = option_and_then (λ a. option_and_then (λ b. option_and_then (λ c. Some (a.0, b.0, c.0, c.1)) (named_first (codes "hops") b.1)) (named_first (codes "left") a.1)) (named_first (codes "skipped") words)
+last_counts words =
+    option_and_then (λ a. option_and_then (λ b. option_and_then (λ c. Some (a.0, b.0, c.0, c.1))
+    (named_first (codes "hops") b.1)) (named_first (codes "left") a.1)) (named_first (codes "skipped") words)
 
 -- what follows `net`
 abbrev pub behind_net : Line → Option Line
@@ -91,7 +100,8 @@ abbrev pub are_counts : List ℕ → List ℕ → List ℕ → Bool
 are_counts first last counts = bytes_eq (take (length first) counts) first && bytes_eq (drop (length first) counts) last
 
 -- the words of the counts, where the line has its form
-unfoldable pub count_words : Line → Result ((List ℕ × List ℕ × List ℕ × List ℕ × Line) × (List ℕ × List ℕ × List ℕ × Line)) CertKind
+unfoldable pub count_words : Line
+    → Result ((List ℕ × List ℕ × List ℕ × List ℕ × Line) × (List ℕ × List ℕ × List ℕ × Line)) CertKind
 count_words words = do
   behind ← or_fault Syntax (behind_net words)
   first ← or_fault Syntax (first_counts behind)

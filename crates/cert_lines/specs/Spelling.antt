@@ -25,8 +25,10 @@ count_at sheet i = decimal (slice_index sheet.counts i)
 
 abbrev pub counts_words : Sheet → Line
 counts_words sheet =
-    codes "net" ∷ codes "nodes" ∷ count_at sheet 0 ∷ codes "cells" ∷ count_at sheet 1 ∷ codes "commodities" ∷ count_at sheet 2 ∷ codes "decimals" ∷ count_at sheet 3
-    ∷ codes "skipped" ∷ count_at sheet 4 ∷ codes "left" ∷ count_at sheet 5 ∷ codes "hops" ∷ count_at sheet 6 ∷ []
+    codes "net" ∷ codes "nodes" ∷ count_at sheet 0 ∷ codes "cells" ∷ count_at sheet 1
+    ∷ codes "commodities" ∷ count_at sheet 2 ∷ codes "decimals" ∷ count_at sheet 3
+    ∷ codes "skipped" ∷ count_at sheet 4 ∷ codes "left" ∷ count_at sheet 5
+    ∷ codes "hops" ∷ count_at sheet 6 ∷ []
 
 abbrev pub gap_words : ℕ → Line
 gap_words gap = codes "gap" ∷ decimal_word (gap / 1000000) (gap % 1000000) ∷ []

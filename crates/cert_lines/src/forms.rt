@@ -36,7 +36,7 @@ pub fn one_behind<'a>(key: &[u8], line: &'a [u8]) -> Option<&'a [u8]>
     Some(first)
 }
 
-// The two words behind the keyword, where the line has that form.
+/// The two words behind the keyword, where the line has that form.
 pub fn two_behind<'a>(key: &[u8], line: &'a [u8]) -> Option<(&'a [u8], &'a [u8])>
     ensures { option_map (λ p. (p.0.now, p.1.now)) result ≡ two_behind key.now (words_of line.now) }
 {
@@ -78,9 +78,10 @@ fn are_full(line: &[u8]) -> bool
     }
 }
 
-// The word behind the keyword and what follows it, where no word is empty.
+/// The word behind the keyword and what follows it, where no word is empty.
 pub fn list_behind<'a>(key: &[u8], line: &'a [u8]) -> Option<(&'a [u8], Option<&'a [u8]>)>
-    ensures { option_map (λ p. (p.0.now, words_in (option_map (λ w. w.now) p.1))) result ≡ list_behind key.now (words_of line.now) }
+    ensures { option_map (λ p. (p.0.now, words_in (option_map (λ w. w.now) p.1))) result
+        ≡ list_behind key.now (words_of line.now) }
 {
     let (word, rest) = split_word(line);
     let rest = match rest {
@@ -94,9 +95,10 @@ pub fn list_behind<'a>(key: &[u8], line: &'a [u8]) -> Option<(&'a [u8], Option<&
     Some((first, others))
 }
 
-// The two words behind the keyword and what follows them, where no word is empty.
+/// The two words behind the keyword and what follows them, where no word is empty.
 pub fn row_behind<'a>(key: &[u8], line: &'a [u8]) -> Option<(&'a [u8], &'a [u8], Option<&'a [u8]>)>
-    ensures { option_map (λ p. (p.0.now, p.1.now, words_in (option_map (λ w. w.now) p.2))) result ≡ row_behind key.now (words_of line.now) }
+    ensures { option_map (λ p. (p.0.now, p.1.now, words_in (option_map (λ w. w.now) p.2))) result
+        ≡ row_behind key.now (words_of line.now) }
 {
     let (word, rest) = split_word(line);
     let rest = match rest {
@@ -133,7 +135,8 @@ pub fn stroke_parts(word: &[u8]) -> Option<(&[u8], &[u8])>
 
 // The word behind the name at the front, and what follows.
 pub fn named_first<'a>(name: &[u8], words: Option<&'a [u8]>) -> Option<(&'a [u8], Option<&'a [u8]>)>
-    ensures { option_map (λ p. (p.0.now, words_in (option_map (λ w. w.now) p.1))) result ≡ named_first name.now (words_in (option_map (λ w. w.now) words.entry)) }
+    ensures { option_map (λ p. (p.0.now, words_in (option_map (λ w. w.now) p.1))) result
+        ≡ named_first name.now (words_in (option_map (λ w. w.now) words.entry)) }
 {
     let line = match words {
         Some(line) => line,

@@ -105,7 +105,8 @@ fn fraction_parts<'a>(
     key: &[u8],
     line: &'a [u8],
 ) -> Result<(&'a [u8], &'a [u8], &'a [u8]), CertKind>
-    ensures { seen (λ p. (p.0.now, p.1.now, p.2.now)) result ≡ fraction_parts key.now (words_of line.now) }
+    ensures { seen (λ p. (p.0.now, p.1.now, p.2.now)) result
+        ≡ fraction_parts key.now (words_of line.now) }
 {
     let (fraction, decimal) = match two_behind(key, line) {
         Some(parts) => parts,

@@ -10,10 +10,11 @@ mod potentials;
 mod refusal;
 mod rows;
 
-pub use forms::{begins, one_behind};
+pub use forms::{begins, list_behind, one_behind, row_behind, two_behind};
 pub use head_lines::{gap_line, is_fixed, phases_line, scale_line, value_line, verdict_line};
 pub use net_line::counts_line;
+pub use numbers::{decimal_within, number_within};
 pub use paths::path_row;
-pub use potentials::potential_row;
+pub use potentials::{of_that_many, potential_row, potentials_of};
 pub use refusal::{CertEnd, CertKind, CertRefusal};
 pub use rows::length_row;

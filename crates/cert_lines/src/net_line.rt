@@ -53,7 +53,8 @@ pub struct LastCounts<'a> {
 
 // What follows `net`.
 fn behind_net(line: &[u8]) -> Option<Option<&[u8]>>
-    ensures { option_map (λ r. words_in (option_map (λ w. w.now) r)) result ≡ behind_net (words_of line.now) }
+    ensures { option_map (λ r. words_in (option_map (λ w. w.now) r)) result
+        ≡ behind_net (words_of line.now) }
 {
     let (word, rest) = split_word(line);
     if word != NET {
@@ -65,7 +66,8 @@ fn behind_net(line: &[u8]) -> Option<Option<&[u8]>>
 // The words behind the first four names.
 #[tactic(auto, unfolding(crate::specs::HeadLines::first_counts))]
 fn first_counts(words: Option<&[u8]>) -> Option<FirstCounts<'_>>
-    ensures { option_map first_seen result ≡ first_counts (words_in (option_map (λ w. w.now) words.entry)) }
+    ensures { option_map first_seen result
+        ≡ first_counts (words_in (option_map (λ w. w.now) words.entry)) }
 {
     let (nodes, rest) = match named_first(NODES, words) {
         Some(parts) => parts,
@@ -95,7 +97,8 @@ fn first_counts(words: Option<&[u8]>) -> Option<FirstCounts<'_>>
 // The words behind the last three names.
 #[tactic(auto, unfolding(crate::specs::HeadLines::last_counts))]
 fn last_counts(words: Option<&[u8]>) -> Option<LastCounts<'_>>
-    ensures { option_map last_seen result ≡ last_counts (words_in (option_map (λ w. w.now) words.entry)) }
+    ensures { option_map last_seen result
+        ≡ last_counts (words_in (option_map (λ w. w.now) words.entry)) }
 {
     let (skipped, rest) = match named_first(SKIPPED, words) {
         Some(parts) => parts,

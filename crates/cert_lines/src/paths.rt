@@ -18,7 +18,8 @@ const PATH: &[u8] = b"path";
 // The cells of the words, put into `cells`, and how many they are.
 fn cells_of(names: &Names<'_>, words: Option<&[u8]>, cells: &mut [u16]) -> Result<usize, CertKind>
     requires { length cells.old ≡ MAX_PATH_CELLS }
-    ensures exact { seen (λ n. take n cells.new) result ≡ cells_from names.now 0 (words_in (option_map (λ w. w.now) words.entry)) }
+    ensures exact { seen (λ n. take n cells.new) result
+        ≡ cells_from names.now 0 (words_in (option_map (λ w. w.now) words.entry)) }
     ensures within { IfOk result (λ n. n ≤ MAX_PATH_CELLS) }
 {
     let mut count = 0usize;
@@ -49,7 +50,8 @@ pub fn path_row(
     cells: &mut [u16],
 ) -> Result<(u32, u64, usize), CertKind>
     requires { length cells.old ≡ MAX_PATH_CELLS }
-    ensures exact { seen (λ p. record { commodity = p.0; walk = take p.2 cells.new; weight = p.1 }) result ≡ path_row names.now (words_of line.now) }
+    ensures exact { seen (λ p. record { commodity = p.0; walk = take p.2 cells.new; weight = p.1 }) result
+        ≡ path_row names.now (words_of line.now) }
     ensures weight { IfOk result (λ p. p.1 ≤ MAX_LENGTH) }
     ensures within { IfOk result (λ p. p.2 ≤ MAX_PATH_CELLS) }
 {

@@ -39,11 +39,16 @@ fn count_of(words: Option<&[u8]>) -> usize
     }
 }
 
-// The word behind the keyword and that many words, none of them empty.
-fn of_that_many<'a>(count: usize, line: &'a [u8]) -> Option<(&'a [u8], Option<&'a [u8]>)>
-    ensures { option_map (λ p. (p.0.now, words_in (option_map (λ w. w.now) p.1))) result ≡ of_that_many count (list_behind (codes "potential") (words_of line.now)) }
+/// The word behind the keyword and that many words, none of them empty.
+pub fn of_that_many<'a>(
+    key: &[u8],
+    count: usize,
+    line: &'a [u8],
+) -> Option<(&'a [u8], Option<&'a [u8]>)>
+    ensures { option_map (λ p. (p.0.now, words_in (option_map (λ w. w.now) p.1))) result
+        ≡ of_that_many count (list_behind key.now (words_of line.now)) }
 {
-    let (first, others) = match list_behind(POTENTIAL, line) {
+    let (first, others) = match list_behind(key, line) {
         Some(parts) => parts,
         None => return None,
     };
@@ -53,12 +58,11 @@ fn of_that_many<'a>(count: usize, line: &'a [u8]) -> Option<(&'a [u8], Option<&'
     Some((first, others))
 }
 
-ghost use Rattle.std.specs.Prelude.{codes};
-
-// The potentials of the words, put into `values`.
-fn potentials_of(words: Option<&[u8]>, values: &mut [u64]) -> Result<(), CertKind>
+/// The potentials of the words, each up to 2^62, put into `values`; or the first fault.
+pub fn potentials_of(words: Option<&[u8]>, values: &mut [u64]) -> Result<(), CertKind>
     requires { length values.old ≡ length (words_in (option_map (λ w. w.now) words)) }
-    ensures exact { seen (λ _. values.new) result ≡ potentials_from (words_in (option_map (λ w. w.now) words.entry)) }
+    ensures exact { seen (λ _. values.new) result
+        ≡ potentials_from (words_in (option_map (λ w. w.now) words.entry)) }
     ensures within { OnOk result (All (λ n. n ≤ MAX_LENGTH) values.new) }
 {
     let mut count = 0usize;
@@ -82,10 +86,11 @@ fn potentials_of(words: Option<&[u8]>, values: &mut [u64]) -> Result<(), CertKin
 #[tactic(auto, unfolding(crate::specs::Rows::potential_row))]
 pub fn potential_row(names: &Names<'_>, line: &[u8], values: &mut [u64]) -> Result<u16, CertKind>
     requires { length values.old ≡ length names.now.nodes }
-    ensures exact { seen (λ n. record { node = n; values = values.new }) result ≡ potential_row names.now (words_of line.now) }
+    ensures exact { seen (λ n. record { node = n; values = values.new }) result
+        ≡ potential_row names.now (words_of line.now) }
     ensures within { OnOk result (All (λ n. n ≤ MAX_LENGTH) values.new) }
 {
-    let (id, words) = match of_that_many(values.len(), line) {
+    let (id, words) = match of_that_many(POTENTIAL, values.len(), line) {
         Some(parts) => parts,
         None => return Err(CertKind::Syntax),
     };

@@ -13,8 +13,8 @@ use Rattle.unit_scale.specs.Scaling.{ScaledNet, scaled_of}
 use Rattle.cert_names.specs.declared.form.Form.{Form}
 use Rattle.cert_names.specs.declared.form.Form.TheVariants.{First, Second}
 
--- the form, the words for how links and modules are read, the words of nodes, cells and commodities in their order,
--- and the counts
+-- the form, the words for how links and modules are read, the words of nodes, cells and commodities
+-- in their order, and the counts
 pub record Sheet : Type 0 where
   pub form : List ℕ
   pub link_mode : List ℕ
@@ -68,11 +68,12 @@ sign_mark Both = codes "="
 abbrev pub signed_words : LinkMode → List ℕ → List (List ℕ)
 signed_words mode id = map (λ sign. sign_mark sign ++ id) (signs mode)
 
--- the nodes, cells and commodities, the decimals, the skipped sections, the demands left out, the demands with a
--- longest path
+-- the nodes, cells and commodities, the decimals, the skipped sections, the demands left out, the
+-- demands with a longest path
 abbrev pub counts_of : NetRows → ScaledNet → List ℕ
 counts_of rows net =
-    length rows.nodes ∷ length net.net.cells ∷ length net.kept ∷ net.decimals ∷ rows.skipped ∷ net.left ∷ net.hops ∷ []
+    length rows.nodes ∷ length net.net.cells ∷ length net.kept ∷ net.decimals ∷ rows.skipped ∷ net.left
+    ∷ net.hops ∷ []
 
 -- what is cited in form 2, in which certificates are written
 abbrev pub sheet_of : NetRows → ScaledNet → Sheet
@@ -123,4 +124,5 @@ pub record IsWithin (sheet : Sheet) : Type 0 where
 -- each word once, and none empty
 abbrev pub AreNames : List (List ℕ) → Type 0
 AreNames [] = Unit {0}
-AreNames (word ∷ words) = (0 < length word) × AllByRecursion (λ other. bytes_eq other word ≡ false) words × AreNames words
+AreNames (word ∷ words) =
+    (0 < length word) × AllByRecursion (λ other. bytes_eq other word ≡ false) words × AreNames words

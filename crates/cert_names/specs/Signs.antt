@@ -7,10 +7,11 @@ use Rattle.cell_dir.specs.Names.{cell_of}
 
 -- the sign of that mark
 abbrev pub sign_marked : ℕ → Option Sign
-sign_marked b = if b == 43 then Some Along else (if b == 45 then Some Against else (if b == 61 then Some Both else None))
+sign_marked b =
+    if b == 43 then Some Along else (if b == 45 then Some Against else (if b == 61 then Some Both else None))
 
 -- the cell that goes over that link as the mark says, where there are both
 abbrev pub marked_cell : LinkMode → ℕ → Option ℕ → Option ℕ
 marked_cell mode mark link =
     option_and_then (λ sign. option_and_then (λ l. cell_of mode (record { link = l; sign = sign })) link)
-        (sign_marked mark)
+    (sign_marked mark)

@@ -1,6 +1,7 @@
 //! The two forms of a certificate's text.
 
-/// How a text spells cells: by the id of their link in the first form, by a sign and that id in the second.
+/// How a text spells cells: by the id of their link in the first form, by a sign and that id in the
+/// second.
 #[derive(Clone, Copy, Debug, PartialEq, Eq)]
 pub enum Form {
     First,

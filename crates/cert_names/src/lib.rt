@@ -1,4 +1,5 @@
-//! What a certificate's text cites of a network: the words of nodes, cells and commodities, and counts, in either form.
+//! What a certificate's text cites of a network in either form: the words of nodes, cells and
+//! commodities, and counts.
 #![tactic(auto)]
 
 mod form;

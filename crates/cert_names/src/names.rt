@@ -8,8 +8,9 @@ use sndlib_read::RawNet;
 use std::marker::Model;
 use unit_scale::Scaled;
 
-/// What a certificate's text cites of a network in one form: a view of its rows and of its network in units, which takes
-/// no memory. In form 1 there are no words for bidirected links: such names serve reading alone.
+/// What a certificate's text cites of a network in one form: a view of its rows and of its network in
+/// units, which takes no memory. In form 1 there are no words for bidirected links: names of form 1
+/// serve reading alone.
 #[derive(Drop)]
 pub struct Names<'a> {
     rows: &'a RawNet<'a>,
@@ -50,7 +51,8 @@ impl<'a> Names<'a> {
         }
     }
 
-    /// How links are read, as line 3 or 2 says it. For bidirected links in form 1 it is empty, which no line says.
+    /// How links are read, as line 3 or 2 says it. For bidirected links in form 1 it is empty, which no
+    /// line says.
     pub fn link_mode(&self) -> &'static [u8]
         ensures { result.now ≡ self.now.link_mode }
     {
@@ -75,7 +77,8 @@ impl<'a> Names<'a> {
         self.rows.nodes() as usize
     }
 
-    /// The counts of nodes, cells, commodities, decimals, skipped sections, demands left out and demands with a longest path.
+    /// The counts of nodes, cells, commodities, decimals, skipped sections, demands left out and demands
+    /// with a longest path.
     pub fn counts(&self) -> [u32; 7]
         ensures { result ≡ self.now.counts }
     {
@@ -125,7 +128,8 @@ impl<'a> Names<'a> {
         self.rows.node_id(v)
     }
 
-    /// What the word of a cell begins with, before the id of its link: nothing in form 1, a sign in form 2.
+    /// What the word of a cell begins with, before the id of its link: nothing in form 1, a sign in
+    /// form 2.
     pub fn cell_sign(&self, c: u16) -> &'static [u8]
         requires { c < length self.now.cells }
         ensures { result.now ≡ cell_sign self.now c }

@@ -52,7 +52,8 @@ pub fn sign_of_cell(mode: LinkMode, cell: u16) -> &'static [u8]
 // The cell that goes over the link of that id as the mark says.
 fn marked_cell(rows: &RawNet<'_>, mode: LinkMode, mark: u8, id: &[u8]) -> Option<u16>
     requires { length rows.now.links ≤ MAX_LINKS }
-    ensures { result ≡ marked_cell mode mark (position (bytes_eq id.now) (names_of_links rows.now)) }
+    ensures { result
+        ≡ marked_cell mode mark (position (bytes_eq id.now) (names_of_links rows.now)) }
 {
     let sign = match sign_marked(mark) {
         Some(sign) => sign,

@@ -1,9 +1,8 @@
 -- Form 1 has no word for bidirected links.
-use Rattle.std.proofs.Common.{◌≡◌, ℕ, Bool, true, false, List, [], ◌∷◌, Option, Some, None, Ok, Err, refl}
+use Rattle.std.proofs.Common.{◌≡◌, ℕ, Bool, true, false, List, [], ◌∷◌, Option, Some, None, Result, Ok, Err, refl}
 use Rattle.std.specs.Prelude.{◌&&◌, if◌then◌else◌, codes}
 use Rattle.std.specs.Str.{bytes_eq}
 use Rattle.text_lines.specs.Lines.{Line}
-use Rattle.net_options.specs.declared.modes.LinkMode.{LinkMode}
 use Rattle.net_options.specs.declared.modes.LinkMode.TheVariants.{Directed, Undirected, Bidirected}
 use Rattle.cert_names.specs.declared.form.Form.TheVariants.{First}
 use Rattle.cert_lines.specs.declared.refusal.CertKind.{CertKind}
@@ -12,6 +11,9 @@ use Rattle.cert_lines.specs.Forms.{◌>>=◌, or_fault, one_behind, is_full}
 use Rattle.cert_text.specs.Reading.{mode_line}
 use Rattle.cert_text.specs.Whole.{link_mode_line}
 
+abbrev is_empty_mode : List ℕ → Result (Unit {0}) CertKind
+is_empty_mode word = if bytes_eq word [] then Ok tt else Err Syntax
+
 -- no line says the empty word
 pub no_empty_mode : (key : List ℕ) (words : Line) → mode_line key [] words ≡ Err Syntax
 unfolding mode_line
@@ -19,12 +21,12 @@ no_empty_mode key [] = refl
 no_empty_mode key (word ∷ []) = refl
 no_empty_mode key (word ∷ [] ∷ []) = none (bytes_eq word key)
   where
-    none : (b : Bool) → (or_fault Syntax (if b && false then Some [] else None) >>= λ (w : List ℕ). if bytes_eq w [] then Ok tt else Err Syntax) ≡ Err Syntax
+    none : (b : Bool) → (or_fault Syntax (if b && false then Some [] else None) >>= is_empty_mode) ≡ Err Syntax
     none true = refl
     none false = refl
-no_empty_mode key (word ∷ (c ∷ cs) ∷ []) = none (bytes_eq word key)
+no_empty_mode key (word ∷ (c ∷ cs) ∷ []) = none (bytes_eq word key && is_full (c ∷ cs))
   where
-    none : (b : Bool) → (or_fault Syntax (if b && is_full (c ∷ cs) then Some (c ∷ cs) else None) >>= λ (w : List ℕ). if bytes_eq w [] then Ok tt else Err Syntax) ≡ Err Syntax
+    none : (b : Bool) → (or_fault Syntax (if b then Some (c ∷ cs) else None) >>= is_empty_mode) ≡ Err Syntax
     none true = refl
     none false = refl
 no_empty_mode key (word ∷ first ∷ next ∷ words) = refl

@@ -1,5 +1,5 @@
 -- The whole certificate and the whole routing, read.
-use Rattle.std.specs.Prelude.{ℕ, Bool, true, false, List, [], ◌∷◌, Option, Some, None, Result, Ok, Err, codes, if◌then◌else◌}
+use Rattle.std.specs.Prelude.{ℕ, Bool, List, [], ◌∷◌, Option, Some, None, Result, Ok, Err, codes, if◌then◌else◌}
 use Rattle.text_lines.specs.Lines.{Line}
 use Rattle.flow_paths.specs.DualRows.{DualRows}
 use Rattle.flow_paths.specs.declared.certificate.Routing.{Routing as RoutingIs}
@@ -95,7 +95,8 @@ form_of line =
 abbrev pub header_of : Option Opening → List Line → Result (Opening × Place) CertRefusal
 header_of None lines = Err (record { line = 1; kind = NoHeader })
 header_of (Some opening) lines =
-    if has_more lines then Ok (opening, record { at = 2; rest = lines }) else Err (record { line = 1; kind = Syntax })
+    if has_more lines then Ok (opening, record { at = 2; rest = lines })
+    else Err (record { line = 1; kind = Syntax })
 
 -- the first line: whether it is that of a certificate or of a routing, and of which form
 unfoldable pub header : List Line → Result (Opening × Place) CertRefusal

@@ -36,7 +36,8 @@ unfoldable pub next_line : {X : Type 0} → (Line → Result X CertKind) → Pla
 next_line read place = line_from read place.at place.rest
 
 -- the rows with that keyword that stand at the front, and the place behind them; a line that no line feed ends is none
-unfoldable pub rows_from : {X : Type 0} → List ℕ → (Line → Result X CertKind) → ℕ → List Line → Result (List X × Place) CertRefusal
+unfoldable pub rows_from : {X : Type 0} → List ℕ → (Line → Result X CertKind) → ℕ → List Line
+    → Result (List X × Place) CertRefusal
 rows_from key row at [] = Ok ([], record { at = at; rest = [] })
 rows_from key row at (line ∷ lines) = if has_more lines && begins key line
     then (do

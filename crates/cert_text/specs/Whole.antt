@@ -31,7 +31,8 @@ paper_at sheet Routing place = do
   routing ← routing_at sheet place
   Ok (papers.Routing routing)
 
--- the certificate or the routing that the lines spell, in the form that the first of them says, or the first fault
+-- the certificate or the routing that the lines spell, in the form that the first of them says, or the
+-- first fault
 unfoldable pub paper_in : Sheets → List Line → Result Paper CertRefusal
 paper_in sheets lines = do
   first ← header lines

@@ -37,7 +37,8 @@ fn mode_line(key: &[u8], mode: &[u8], line: &[u8]) -> Result<(), CertKind>
 #[tactic(auto, using(crate::proofs::LineSteps::has_line), unfolding(crate::specs::Reading::next_line))]
 fn next_mode<'a>(key: &[u8], mode: &[u8], place: Place<'a>) -> Result<Place<'a>, CertEnd>
     requires { HasRoom place }
-    ensures exact { Gives (λ p. (tt, place_view p)) result (next_line (mode_line key.now mode.now) (place_view place.entry)) }
+    ensures exact { Gives (λ p. (tt, place_view p)) result
+        (next_line (mode_line key.now mode.now) (place_view place.entry)) }
     ensures room { IfOk result HasRoom }
 {
     let (line, after) = match split(place) {
@@ -75,7 +76,8 @@ pub fn next_modes<'a>(names: &Names<'_>, place: Place<'a>) -> Result<Place<'a>, 
 #[tactic(auto, using(crate::proofs::LineSteps::has_line), unfolding(crate::specs::Reading::next_line))]
 fn next_verdict<'a>(place: Place<'a>) -> Result<(bool, Place<'a>), CertEnd>
     requires { HasRoom place }
-    ensures exact { Gives (λ x. (x.0, place_view x.1)) result (next_line verdict_line (place_view place.entry)) }
+    ensures exact { Gives (λ x. (x.0, place_view x.1)) result
+        (next_line verdict_line (place_view place.entry)) }
     ensures room { IfOk result (λ x. HasRoom x.1) }
 {
     let (line, after) = match split(place) {
@@ -92,7 +94,8 @@ fn next_verdict<'a>(place: Place<'a>) -> Result<(bool, Place<'a>), CertEnd>
 #[tactic(auto, using(crate::proofs::LineSteps::has_line), unfolding(crate::specs::Reading::next_line))]
 fn next_counts<'a>(names: &Names<'_>, place: Place<'a>) -> Result<((), Place<'a>), CertEnd>
     requires { HasRoom place }
-    ensures exact { Gives (λ x. (x.0, place_view x.1)) result (next_line (counts_line names.now) (place_view place.entry)) }
+    ensures exact { Gives (λ x. (x.0, place_view x.1)) result
+        (next_line (counts_line names.now) (place_view place.entry)) }
     ensures room { IfOk result (λ x. HasRoom x.1) }
 {
     let (line, after) = match split(place) {
@@ -109,7 +112,8 @@ fn next_counts<'a>(names: &Names<'_>, place: Place<'a>) -> Result<((), Place<'a>
 #[tactic(auto, using(crate::proofs::LineSteps::has_line), unfolding(crate::specs::Reading::next_line))]
 fn next_gap<'a>(place: Place<'a>) -> Result<(u64, Place<'a>), CertEnd>
     requires { HasRoom place }
-    ensures exact { Gives (λ x. (x.0, place_view x.1)) result (next_line gap_line (place_view place.entry)) }
+    ensures exact { Gives (λ x. (x.0, place_view x.1)) result
+        (next_line gap_line (place_view place.entry)) }
     ensures room { IfOk result (λ x. HasRoom x.1) }
 {
     let (line, after) = match split(place) {
@@ -126,7 +130,8 @@ fn next_gap<'a>(place: Place<'a>) -> Result<(u64, Place<'a>), CertEnd>
 #[tactic(auto, using(crate::proofs::LineSteps::has_line), unfolding(crate::specs::Reading::next_line))]
 fn next_phases<'a>(place: Place<'a>) -> Result<(u32, Place<'a>), CertEnd>
     requires { HasRoom place }
-    ensures exact { Gives (λ x. (x.0, place_view x.1)) result (next_line phases_line (place_view place.entry)) }
+    ensures exact { Gives (λ x. (x.0, place_view x.1)) result
+        (next_line phases_line (place_view place.entry)) }
     ensures room { IfOk result (λ x. HasRoom x.1) }
 {
     let (line, after) = match split(place) {
@@ -143,7 +148,8 @@ fn next_phases<'a>(place: Place<'a>) -> Result<(u32, Place<'a>), CertEnd>
 #[tactic(auto, using(crate::proofs::LineSteps::has_line), unfolding(crate::specs::Reading::next_line))]
 fn next_scale<'a>(place: Place<'a>) -> Result<((u64, u64), Place<'a>), CertEnd>
     requires { HasRoom place }
-    ensures exact { Gives (λ x. (x.0, place_view x.1)) result (next_line scale_line (place_view place.entry)) }
+    ensures exact { Gives (λ x. (x.0, place_view x.1)) result
+        (next_line scale_line (place_view place.entry)) }
     ensures room { IfOk result (λ x. HasRoom x.1) }
 {
     let (line, after) = match split(place) {
@@ -158,10 +164,15 @@ fn next_scale<'a>(place: Place<'a>) -> Result<((u64, u64), Place<'a>), CertEnd>
 
 /// A fraction whose parts are up to that limit, and its decimals, behind that keyword.
 #[tactic(auto, using(crate::proofs::LineSteps::has_line), unfolding(crate::specs::Reading::next_line))]
-pub fn next_value<'a>(key: &[u8], most: u128, place: Place<'a>) -> Result<(Printed, Place<'a>), CertEnd>
+pub fn next_value<'a>(
+    key: &[u8],
+    most: u128,
+    place: Place<'a>,
+) -> Result<(Printed, Place<'a>), CertEnd>
     requires place { HasRoom place }
     requires most { most ≤ MAX_PART }
-    ensures exact { Gives (λ x. (x.0, place_view x.1)) result (next_line (value_line key.now most) (place_view place.entry)) }
+    ensures exact { Gives (λ x. (x.0, place_view x.1)) result
+        (next_line (value_line key.now most) (place_view place.entry)) }
     ensures room { IfOk result (λ x. HasRoom x.1) }
 {
     let (line, after) = match split(place) {
@@ -219,7 +230,8 @@ pub fn next_opening<'a>(
     place: Place<'a>,
 ) -> Result<((bool, u64), Place<'a>), CertEnd>
     requires { HasRoom place }
-    ensures exact { Gives (λ x. (x.0, place_view x.1)) result (opening_at names.now (place_view place.entry)) }
+    ensures exact { Gives (λ x. (x.0, place_view x.1)) result
+        (opening_at names.now (place_view place.entry)) }
     ensures room { IfOk result (λ x. HasRoom x.1) }
 {
     let (closed, place) = match next_verdict(place) {

@@ -12,7 +12,9 @@ use crate::place::{Place, split};
 use cert_lines::{CertKind, CertRefusal, is_fixed, one_behind, verdict_line};
 use cert_names::Form;
 use mcf_limits::MAX_CERT_BYTES;
-use net_options::{LinkMode, ModuleMode, NetOptions, link_mode_of, module_mode_of, old_link_mode_of};
+use net_options::{
+    LinkMode, ModuleMode, NetOptions, link_mode_of, module_mode_of, old_link_mode_of,
+};
 
 /// What a text is of: a certificate, or a routing alone.
 #[derive(Clone, Copy, Debug, PartialEq, Eq)]
@@ -152,7 +154,8 @@ fn module_mode_line(line: &[u8]) -> Result<ModuleMode, CertKind>
 #[tactic(auto, using(crate::proofs::LineSteps::has_line), unfolding(crate::specs::Reading::next_line))]
 fn next_links(form: Form, place: Place<'_>) -> Result<(LinkMode, Place<'_>), CertRefusal>
     requires { HasRoom place }
-    ensures exact { seen (λ x. (x.0, place_view x.1)) result ≡ next_line (link_mode_line form) (place_view place.entry) }
+    ensures exact { seen (λ x. (x.0, place_view x.1)) result
+        ≡ next_line (link_mode_line form) (place_view place.entry) }
     ensures room { IfOk result (λ x. HasRoom x.1) }
 {
     let (line, after) = match split(place) {
@@ -177,7 +180,8 @@ fn next_links(form: Form, place: Place<'_>) -> Result<(LinkMode, Place<'_>), Cer
 #[tactic(auto, using(crate::proofs::LineSteps::has_line), unfolding(crate::specs::Reading::next_line))]
 fn next_modules(place: Place<'_>) -> Result<(ModuleMode, Place<'_>), CertRefusal>
     requires { HasRoom place }
-    ensures { seen (λ x. (x.0, place_view x.1)) result ≡ next_line module_mode_line (place_view place.entry) }
+    ensures { seen (λ x. (x.0, place_view x.1)) result
+        ≡ next_line module_mode_line (place_view place.entry) }
 {
     let (line, after) = match split(place) {
         Some(parts) => parts,
@@ -226,8 +230,8 @@ fn behind_verdict(kind: Kind, place: Place<'_>) -> Result<Place<'_>, CertRefusal
     }
 }
 
-/// How links and modules are read, from the lines behind a first line that says this: the verdict, where there is one,
-/// and the two lines of the modes. Else the first of these lines that has a fault.
+/// How links and modules are read, from the lines behind a first line that says this: the verdict,
+/// where there is one, and the two lines of the modes. Else the first of these lines with a fault.
 #[tactic(auto, unfolding(crate::specs::Whole::modes_head))]
 pub fn modes_head(opening: Opening, place: Place<'_>) -> Result<NetOptions, CertRefusal>
     requires { HasRoom place }
@@ -247,8 +251,8 @@ pub fn modes_head(opening: Opening, place: Place<'_>) -> Result<NetOptions, Cert
     }
 }
 
-/// The kind of a text, its form and its modes, from lines 1 to 4 of a certificate or 1 to 3 of a routing: else the first
-/// of these lines that has a fault.
+/// The kind of a text, its form and its modes, from lines 1 to 4 of a certificate or 1 to 3 of a
+/// routing: else the first of these lines that has a fault.
 #[tactic(auto, unfolding(crate::specs::Whole::head_in))]
 pub fn cert_head(text: &[u8]) -> Result<CertHead, CertRefusal>
     requires { length text.now ≤ MAX_CERT_BYTES }

@@ -34,7 +34,8 @@ fn paths_of<'a>(
     place: Place<'a>,
 ) -> Result<(PathStore, Place<'a>), CertEnd>
     requires { HasRoom place }
-    ensures exact { Gives (λ x. (x.0, place_view x.1)) result (rows_at (codes "path") (path_row names.now) (place_view place.entry)) }
+    ensures exact { Gives (λ x. (x.0, place_view x.1)) result
+        (rows_at (codes "path") (path_row names.now) (place_view place.entry)) }
     ensures room { IfOk result (λ x. HasRoom x.1) }
 {
     let mut cells = [0u16; MAX_PATH_CELLS];
@@ -57,7 +58,8 @@ fn dual_of<'a>(
     place: Place<'a>,
 ) -> Result<(Dual, Place<'a>), CertEnd>
     requires { HasRoom place }
-    ensures exact { Gives (λ x. (x.0, place_view x.1)) result (dual_at names.now (place_view place.entry)) }
+    ensures exact { Gives (λ x. (x.0, place_view x.1)) result
+        (dual_at names.now (place_view place.entry)) }
     ensures room { IfOk result (λ x. HasRoom x.1) }
 {
     let mut dual = Dual::new(alloc);
@@ -171,8 +173,8 @@ fn paper_of(
     }
 }
 
-/// The certificate or the routing that the text spells of these rows and their network in units, in the form that its
-/// first line says, or the first line with a fault.
+/// The certificate or the routing that the text spells of these rows and their network in units, in
+/// the form that its first line says, or the first line with a fault.
 #[tactic(auto, unfolding(crate::specs::Whole::paper_in))]
 pub fn read_cert<'a>(
     alloc: Global,

@@ -26,7 +26,9 @@ pub fn refused(line: u32, kind: CertKind) -> CertEnd
 /// The first line, without its line feed, and the place behind it.
 pub fn split<'a>(place: Place<'a>) -> Option<(&'a [u8], Place<'a>)>
     requires { HasRoom place }
-    ensures lines { MatchOption result (lines_of place.entry.rest.now ≡ words_of place.entry.rest.now ∷ []) (λ x. lines_of place.entry.rest.now ≡ words_of x.0.now ∷ lines_of x.1.rest.now) }
+    ensures lines { MatchOption result
+        (lines_of place.entry.rest.now ≡ words_of place.entry.rest.now ∷ [])
+        (λ x. lines_of place.entry.rest.now ≡ words_of x.0.now ∷ lines_of x.1.rest.now) }
     ensures at { IfSome result (λ x. x.1.at ≡ place.entry.at + 1) }
     ensures room { IfSome result (λ x. HasRoom x.1) }
     ensures shorter { IfSome result (λ x. length x.1.rest.now < length place.entry.rest.now) }
@@ -47,7 +49,8 @@ pub fn split<'a>(place: Place<'a>) -> Option<(&'a [u8], Place<'a>)>
 #[tactic(auto, using(crate::proofs::LineSteps::has_line), unfolding(crate::specs::Reading::next_line))]
 pub fn fixed<'a>(text: &[u8], place: Place<'a>) -> Result<Place<'a>, CertEnd>
     requires { HasRoom place }
-    ensures exact { Gives (λ p. (tt, place_view p)) result (next_line (fixed_line text.now) (place_view place.entry)) }
+    ensures exact { Gives (λ p. (tt, place_view p)) result
+        (next_line (fixed_line text.now) (place_view place.entry)) }
     ensures room { IfOk result HasRoom }
 {
     let (line, after) = match split(place) {

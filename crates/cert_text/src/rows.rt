@@ -28,7 +28,8 @@ pub fn next_paths<'a>(
     requires room { HasRoom place }
     requires buffer { length cells.old ≡ MAX_PATH_CELLS }
     requires none { paths.old ≡ [] }
-    ensures rows { Gives (λ p. (paths.new, place_view p)) result (rows_at (codes "path") (path_row names.now) (place_view place.entry)) }
+    ensures rows { Gives (λ p. (paths.new, place_view p)) result
+        (rows_at (codes "path") (path_row names.now) (place_view place.entry)) }
     ensures room { IfOk result HasRoom }
 {
     let mut at = place;
@@ -61,7 +62,8 @@ pub fn next_lengths<'a>(
 ) -> Result<Place<'a>, CertEnd>
     requires room { HasRoom place }
     requires none { dual.old.lengths ≡ [] }
-    ensures rows { Gives (λ p. (dual.new.lengths, place_view p)) result (rows_at (codes "length") (length_row names.now) (place_view place.entry)) }
+    ensures rows { Gives (λ p. (dual.new.lengths, place_view p)) result
+        (rows_at (codes "length") (length_row names.now) (place_view place.entry)) }
     ensures others { dual.new.potentials ≡ dual.old.potentials }
     ensures room { IfOk result HasRoom }
 {
@@ -99,7 +101,8 @@ pub fn next_potentials<'a>(
     requires room { HasRoom place }
     requires buffer { length values.old ≡ length names.now.nodes }
     requires none { dual.old.potentials ≡ [] }
-    ensures rows { Gives (λ p. (dual.new.potentials, place_view p)) result (rows_at (codes "potential") (potential_row names.now) (place_view place.entry)) }
+    ensures rows { Gives (λ p. (dual.new.potentials, place_view p)) result
+        (rows_at (codes "potential") (potential_row names.now) (place_view place.entry)) }
     ensures others { dual.new.lengths ≡ dual.old.lengths }
     ensures room { IfOk result HasRoom }
 {

@@ -1,7 +1,6 @@
 -- Lines and rows, put one after the other.
-use Rattle.std.proofs.Common.{◌≡◌, ℕ, ◌+◌, ◌<◌, List, [], ◌∷◌, ◌++◌, length, get_or, take, drop, Option, Result, Ok, Err, refl, sym, ap, subst, ◌∙◌, append_assoc}
+use Rattle.std.proofs.Common.{◌≡◌, ℕ, ◌+◌, ◌<◌, List, [], ◌∷◌, ◌++◌, length, get_or, take, drop, Result, refl, sym, ap, subst, ◌∙◌, append_assoc}
 use Rattle.std.specs.Prelude.{map}
-use Rattle.std.specs.List.{flat_map}
 use Rattle.std.proofs.lemmas.List.{append-nil, take-append-drop, take_more}
 use Rattle.std.proofs.lemmas.List.Concat.{flat_map-cons}
 use Rattle.text_lines.specs.Lines.{Line, spelled, text_of}
@@ -9,7 +8,6 @@ use Rattle.line_writer.specs.Spelling.{behind}
 use Rattle.mcf_base.specs.Sink.{SinkView}
 use Rattle.line_writer.specs.Writing.{Puts, ended, failed}
 use Rattle.line_writer.proofs.Putting.{puts_then, puts_stop}
-use Rattle.line_writer.proofs.Joining.{behind-append, line_put, line_first_stops, line_words_stop}
 
 pub text_of-append : {X : Type 0} (f : X → Line) (xs ys : List X) → text_of (map f (xs ++ ys)) ≡ text_of (map f xs) ++ text_of (map f ys)
 text_of-append f [] ys = refl

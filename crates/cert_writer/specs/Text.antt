@@ -12,11 +12,14 @@ use Rattle.cert_lines.specs.Spelling.{verdict_words, links_words, modules_words,
 -- the form, the verdict and the modes
 abbrev pub opening_lines : Sheet → Proof → List Line
 opening_lines sheet p =
-    (codes "mcf-certificate" ∷ sheet.form ∷ []) ∷ verdict_words p.closed ∷ links_words sheet ∷ modules_words sheet ∷ []
+    (codes "mcf-certificate" ∷ sheet.form ∷ []) ∷ verdict_words p.closed
+    ∷ links_words sheet ∷ modules_words sheet ∷ []
 
 -- the gap, phases, scale and the two fractions
 abbrev pub figure_lines : Proof → List Line
-figure_lines p = gap_words p.gap ∷ phases_words p.routing.phases ∷ scale_words (p.routing.scale_cap, p.routing.scale_load) ∷ value_words (codes "lower") p.lower ∷ value_words (codes "upper") p.upper ∷ []
+figure_lines p =
+    gap_words p.gap ∷ phases_words p.routing.phases ∷ scale_words (p.routing.scale_cap, p.routing.scale_load)
+    ∷ value_words (codes "lower") p.lower ∷ value_words (codes "upper") p.upper ∷ []
 
 abbrev pub path_lines : Sheet → Routing → List Line
 path_lines sheet r = map (path_words sheet) r.paths

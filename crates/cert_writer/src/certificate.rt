@@ -21,12 +21,9 @@ fn verdict_word(closed: bool) -> &'static [u8]
 }
 
 // Puts the first line.
-fn put_form<'a, K: Sink>(
-    buffer: &mut Buffer,
-    out: &mut K,
-    form: &'a [u8],
-) -> Result<(), WriteFault>
-    ensures { Puts (K.seen out.old) (K.seen out.new) buffer.old buffer.new result (text_of ((codes "mcf-certificate" ∷ form.now ∷ []) ∷ [])) }
+fn put_form<'a, K: Sink>(buffer: &mut Buffer, out: &mut K, form: &'a [u8]) -> Result<(), WriteFault>
+    ensures { Puts (K.seen out.old) (K.seen out.new) buffer.old buffer.new result
+        (text_of ((codes "mcf-certificate" ∷ form.now ∷ []) ∷ [])) }
 {
     let first: [&'a [u8]; 2] = [b"mcf-certificate", form];
     put_lines(buffer, out, &[&first])
@@ -41,7 +38,8 @@ pub fn put_modes<'a, K: Sink>(
     modules: &'a [u8],
 ) -> Result<(), WriteFault>
     ensures { Puts (K.seen out.old) (K.seen out.new) buffer.old buffer.new result
-        (text_of ((codes "verdict" ∷ verdict.now ∷ []) ∷ (codes "links" ∷ links.now ∷ []) ∷ (codes "modules" ∷ modules.now ∷ []) ∷ [])) }
+        (text_of ((codes "verdict" ∷ verdict.now ∷ []) ∷ (codes "links" ∷ links.now ∷ [])
+        ∷ (codes "modules" ∷ modules.now ∷ []) ∷ [])) }
 {
     let verdict_line: [&'a [u8]; 2] = [b"verdict", verdict];
     let links_line: [&'a [u8]; 2] = [b"links", links];
@@ -56,7 +54,8 @@ fn put_opening<K: Sink>(
     names: &Names<'_>,
     proof: &Proof,
 ) -> Result<(), WriteFault>
-    ensures { Puts (K.seen out.old) (K.seen out.new) buffer.old buffer.new result (text_of (opening_lines names.now proof.now)) }
+    ensures { Puts (K.seen out.old) (K.seen out.new) buffer.old buffer.new result
+        (text_of (opening_lines names.now proof.now)) }
 {
     match put_form(buffer, out, names.form()) {
         Ok(()) => {}
@@ -81,7 +80,8 @@ pub fn put_counts<K: Sink>(
     out: &mut K,
     names: &Names<'_>,
 ) -> Result<(), WriteFault>
-    ensures { Puts (K.seen out.old) (K.seen out.new) buffer.old buffer.new result (text_of (counts_words names.now ∷ [])) }
+    ensures { Puts (K.seen out.old) (K.seen out.new) buffer.old buffer.new result
+        (text_of (counts_words names.now ∷ [])) }
 {
     let nodes = count_word(names, 0);
     let cells = count_word(names, 1);
@@ -118,7 +118,8 @@ pub fn put_figures<K: Sink>(
 ) -> Result<(), WriteFault>
     requires lower { proof.now.lower.micro < 1000000 }
     requires upper { proof.now.upper.micro < 1000000 }
-    ensures { Puts (K.seen out.old) (K.seen out.new) buffer.old buffer.new result (text_of (figure_lines proof.now)) }
+    ensures { Puts (K.seen out.old) (K.seen out.new) buffer.old buffer.new result
+        (text_of (figure_lines proof.now)) }
 {
     let gap = Word::decimal(proof.gap as u128 / 1000000, (proof.gap % 1000000) as u32);
     let phases = Word::number(proof.routing.phases as u128);
@@ -148,7 +149,8 @@ pub fn put_figures<K: Sink>(
 
 /// Puts the last line.
 pub fn put_end<K: Sink>(buffer: &mut Buffer, out: &mut K) -> Result<(), WriteFault>
-    ensures { Puts (K.seen out.old) (K.seen out.new) buffer.old buffer.new result (text_of (end_line ∷ [])) }
+    ensures { Puts (K.seen out.old) (K.seen out.new) buffer.old buffer.new result
+        (text_of (end_line ∷ [])) }
 {
     let end: [&[u8]; 1] = [b"end"];
     put_lines(buffer, out, &[&end])
@@ -162,7 +164,8 @@ fn put_from_potentials<K: Sink>(
     proof: &Proof,
 ) -> Result<(), WriteFault>
     requires { IsWritable names.now proof.now }
-    ensures { Puts (K.seen out.old) (K.seen out.new) buffer.old buffer.new result (text_of (from_potentials names.now proof.now)) }
+    ensures { Puts (K.seen out.old) (K.seen out.new) buffer.old buffer.new result
+        (text_of (from_potentials names.now proof.now)) }
 {
     match put_potentials(buffer, out, names, &proof.dual) {
         Ok(()) => {}
@@ -179,7 +182,8 @@ fn put_from_lengths<K: Sink>(
     proof: &Proof,
 ) -> Result<(), WriteFault>
     requires { IsWritable names.now proof.now }
-    ensures { Puts (K.seen out.old) (K.seen out.new) buffer.old buffer.new result (text_of (from_lengths names.now proof.now)) }
+    ensures { Puts (K.seen out.old) (K.seen out.new) buffer.old buffer.new result
+        (text_of (from_lengths names.now proof.now)) }
 {
     match put_lengths(buffer, out, names, &proof.dual) {
         Ok(()) => {}
@@ -196,7 +200,8 @@ fn put_from_paths<K: Sink>(
     proof: &Proof,
 ) -> Result<(), WriteFault>
     requires { IsWritable names.now proof.now }
-    ensures { Puts (K.seen out.old) (K.seen out.new) buffer.old buffer.new result (text_of (from_paths names.now proof.now)) }
+    ensures { Puts (K.seen out.old) (K.seen out.new) buffer.old buffer.new result
+        (text_of (from_paths names.now proof.now)) }
 {
     match put_paths(buffer, out, names, &proof.routing.paths) {
         Ok(()) => {}
@@ -213,7 +218,8 @@ fn put_from_figures<K: Sink>(
     proof: &Proof,
 ) -> Result<(), WriteFault>
     requires { IsWritable names.now proof.now }
-    ensures { Puts (K.seen out.old) (K.seen out.new) buffer.old buffer.new result (text_of (from_figures names.now proof.now)) }
+    ensures { Puts (K.seen out.old) (K.seen out.new) buffer.old buffer.new result
+        (text_of (from_figures names.now proof.now)) }
 {
     match put_figures(buffer, out, proof) {
         Ok(()) => {}
@@ -230,7 +236,8 @@ fn put_from_counts<K: Sink>(
     proof: &Proof,
 ) -> Result<(), WriteFault>
     requires { IsWritable names.now proof.now }
-    ensures { Puts (K.seen out.old) (K.seen out.new) buffer.old buffer.new result (text_of (from_counts names.now proof.now)) }
+    ensures { Puts (K.seen out.old) (K.seen out.new) buffer.old buffer.new result
+        (text_of (from_counts names.now proof.now)) }
 {
     match put_counts(buffer, out, names) {
         Ok(()) => {}
@@ -247,7 +254,8 @@ fn put_certificate<K: Sink>(
     proof: &Proof,
 ) -> Result<(), WriteFault>
     requires { IsWritable names.now proof.now }
-    ensures { Puts (K.seen out.old) (K.seen out.new) buffer.old buffer.new result (text_of (certificate_lines names.now proof.now)) }
+    ensures { Puts (K.seen out.old) (K.seen out.new) buffer.old buffer.new result
+        (text_of (certificate_lines names.now proof.now)) }
 {
     match put_opening(buffer, out, names, proof) {
         Ok(()) => {}
@@ -265,7 +273,8 @@ fn put_whole<K: Sink>(
 ) -> Result<(), WriteFault>
     requires proof { IsWritable names.now proof.now }
     requires none { buffer.old ≡ [] }
-    ensures { Wrote (K.seen out.old) (K.seen out.new) result (certificate_text names.now proof.now) }
+    ensures { Wrote (K.seen out.old) (K.seen out.new) result
+        (certificate_text names.now proof.now) }
 {
     match put_certificate(buffer, out, names, proof) {
         Ok(()) => {}
@@ -274,11 +283,12 @@ fn put_whole<K: Sink>(
     buffer.flush(out)
 }
 
-/// Appends the text of the certificate, in the form of the names. After a fault some front of it was appended. It takes
-/// no memory.
+/// Appends the text of the certificate, in the form of the names. After a fault some front of it was
+/// appended. It takes no memory.
 pub fn write_cert<K: Sink>(names: &Names<'_>, proof: &Proof, out: &mut K) -> Result<(), WriteFault>
     requires { FitsProof names.now proof.now }
-    ensures { Wrote (K.seen out.old) (K.seen out.new) result (certificate_text names.now proof.now) }
+    ensures { Wrote (K.seen out.old) (K.seen out.new) result
+        (certificate_text names.now proof.now) }
 {
     let mut buffer = Buffer::new();
     put_whole(&mut buffer, out, names, proof)

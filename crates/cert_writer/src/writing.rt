@@ -18,7 +18,8 @@ use mcf_base::{Sink, WriteFault};
 // Puts a line of words.
 fn put_line<K: Sink>(buffer: &mut Buffer, out: &mut K, words: &[&[u8]]) -> Result<(), WriteFault>
     requires { 0 < length words.now }
-    ensures { Puts (K.seen out.old) (K.seen out.new) buffer.old buffer.new result (spelled (map (λ w. w.now) words.now)) }
+    ensures { Puts (K.seen out.old) (K.seen out.new) buffer.old buffer.new result
+        (spelled (map (λ w. w.now) words.now)) }
 {
     let first = words[0];
     buffer.put_line(out, first, &words[1..])
@@ -31,7 +32,8 @@ pub fn put_lines<K: Sink>(
     lines: &[&[&[u8]]],
 ) -> Result<(), WriteFault>
     requires { All (λ l. 0 < length l.now) lines.now }
-    ensures { Puts (K.seen out.old) (K.seen out.new) buffer.old buffer.new result (text_of (map (λ l. map (λ w. w.now) l.now) lines.now)) }
+    ensures { Puts (K.seen out.old) (K.seen out.new) buffer.old buffer.new result
+        (text_of (map (λ l. map (λ w. w.now) l.now) lines.now)) }
 {
     for line in lines {
         match put_line(buffer, out, *line) {
@@ -42,14 +44,15 @@ pub fn put_lines<K: Sink>(
     Ok(())
 }
 
-// Puts the first word and the words behind it, and no line feed.
-fn put_front<K: Sink>(
+/// Puts the first word and the words behind it, and no line feed.
+pub fn put_front<K: Sink>(
     buffer: &mut Buffer,
     out: &mut K,
     first: &[u8],
     words: &[&[u8]],
 ) -> Result<(), WriteFault>
-    ensures { Puts (K.seen out.old) (K.seen out.new) buffer.old buffer.new result (first.now ++ behind (map (λ w. w.now) words.now)) }
+    ensures { Puts (K.seen out.old) (K.seen out.new) buffer.old buffer.new result
+        (first.now ++ behind (map (λ w. w.now) words.now)) }
 {
     match buffer.put(out, first) {
         Ok(()) => {}
@@ -66,7 +69,8 @@ fn put_cell<K: Sink>(
     cell: u16,
 ) -> Result<(), WriteFault>
     requires { cell < length names.now.cells }
-    ensures { Puts (K.seen out.old) (K.seen out.new) buffer.old buffer.new result (32 ∷ cell_word names.now cell) }
+    ensures { Puts (K.seen out.old) (K.seen out.new) buffer.old buffer.new result
+        (32 ∷ cell_word names.now cell) }
 {
     match buffer.put_word(out, names.cell_sign(cell)) {
         Ok(()) => {}
@@ -84,7 +88,8 @@ fn put_cell_front<K: Sink>(
     cell: u16,
 ) -> Result<(), WriteFault>
     requires { cell < length names.now.cells }
-    ensures { Puts (K.seen out.old) (K.seen out.new) buffer.old buffer.new result (first.now ++ behind (cell_word names.now cell ∷ [])) }
+    ensures { Puts (K.seen out.old) (K.seen out.new) buffer.old buffer.new result
+        (first.now ++ behind (cell_word names.now cell ∷ [])) }
 {
     match buffer.put(out, first) {
         Ok(()) => {}
@@ -101,7 +106,8 @@ fn put_cells<K: Sink>(
     cells: &[u16],
 ) -> Result<(), WriteFault>
     requires { All (λ c. c < length names.now.cells) cells.now }
-    ensures { Puts (K.seen out.old) (K.seen out.new) buffer.old buffer.new result (behind (map (cell_word names.now) cells.now)) }
+    ensures { Puts (K.seen out.old) (K.seen out.new) buffer.old buffer.new result
+        (behind (map (cell_word names.now) cells.now)) }
 {
     for cell in cells {
         match put_cell(buffer, out, names, *cell) {
@@ -112,9 +118,14 @@ fn put_cells<K: Sink>(
     Ok(())
 }
 
-// Puts the numbers, a space before each.
-fn put_numbers<K: Sink>(buffer: &mut Buffer, out: &mut K, numbers: &[u64]) -> Result<(), WriteFault>
-    ensures { Puts (K.seen out.old) (K.seen out.new) buffer.old buffer.new result (behind (map decimal numbers.now)) }
+/// Puts the numbers, a space before each.
+pub fn put_numbers<K: Sink>(
+    buffer: &mut Buffer,
+    out: &mut K,
+    numbers: &[u64],
+) -> Result<(), WriteFault>
+    ensures { Puts (K.seen out.old) (K.seen out.new) buffer.old buffer.new result
+        (behind (map decimal numbers.now)) }
 {
     for number in numbers {
         match buffer.put_word(out, Word::number(*number as u128).bytes()) {
@@ -142,7 +153,8 @@ fn put_path<K: Sink>(
     requires row { row < length paths.now }
     requires commodity { (row_at paths.now row).commodity < length names.now.commodities }
     requires cells { All (λ c. c < length names.now.cells) (row_at paths.now row).walk }
-    ensures { Puts (K.seen out.old) (K.seen out.new) buffer.old buffer.new result (spelled (path_words names.now (row_at paths.now row))) }
+    ensures { Puts (K.seen out.old) (K.seen out.new) buffer.old buffer.new result
+        (spelled (path_words names.now (row_at paths.now row))) }
 {
     let weight = Word::number(paths.weight(row) as u128);
     let words = [names.commodity_word(paths.commodity(row)), weight.bytes()];
@@ -167,7 +179,8 @@ fn put_potential<K: Sink>(
 ) -> Result<(), WriteFault>
     requires row { row < length dual.now.potentials }
     requires node { (potential_at dual.now.potentials row).node < length names.now.nodes }
-    ensures { Puts (K.seen out.old) (K.seen out.new) buffer.old buffer.new result (spelled (potential_words names.now (potential_at dual.now.potentials row))) }
+    ensures { Puts (K.seen out.old) (K.seen out.new) buffer.old buffer.new result
+        (spelled (potential_words names.now (potential_at dual.now.potentials row))) }
 {
     let words = [names.node_word(dual.row_node(row))];
     match put_front(buffer, out, POTENTIAL, &words) {
@@ -191,7 +204,8 @@ fn put_length<K: Sink>(
 ) -> Result<(), WriteFault>
     requires row { row < length dual.now.lengths }
     requires cell { (length_at dual.now.lengths row).cell < length names.now.cells }
-    ensures { Puts (K.seen out.old) (K.seen out.new) buffer.old buffer.new result (spelled (length_words names.now (length_at dual.now.lengths row))) }
+    ensures { Puts (K.seen out.old) (K.seen out.new) buffer.old buffer.new result
+        (spelled (length_words names.now (length_at dual.now.lengths row))) }
 {
     let (cell, value) = dual.length(row);
     match put_cell_front(buffer, out, LENGTH, names, cell) {
@@ -214,7 +228,8 @@ pub fn put_paths<K: Sink>(
 ) -> Result<(), WriteFault>
     requires commodities { All (λ r. r.commodity < length names.now.commodities) paths.now }
     requires cells { All (λ r. All (λ c. c < length names.now.cells) r.walk) paths.now }
-    ensures { Puts (K.seen out.old) (K.seen out.new) buffer.old buffer.new result (text_of (map (path_words names.now) paths.now)) }
+    ensures { Puts (K.seen out.old) (K.seen out.new) buffer.old buffer.new result
+        (text_of (map (path_words names.now) paths.now)) }
 {
     for row in 0..paths.rows() {
         match put_path(buffer, out, names, paths, row) {
@@ -233,7 +248,8 @@ pub fn put_lengths<K: Sink>(
     dual: &Dual,
 ) -> Result<(), WriteFault>
     requires { All (λ r. r.cell < length names.now.cells) dual.now.lengths }
-    ensures { Puts (K.seen out.old) (K.seen out.new) buffer.old buffer.new result (text_of (map (length_words names.now) dual.now.lengths)) }
+    ensures { Puts (K.seen out.old) (K.seen out.new) buffer.old buffer.new result
+        (text_of (map (length_words names.now) dual.now.lengths)) }
 {
     for row in 0..dual.lengths() {
         match put_length(buffer, out, names, dual, row) {
@@ -252,7 +268,8 @@ pub fn put_potentials<K: Sink>(
     dual: &Dual,
 ) -> Result<(), WriteFault>
     requires { All (λ r. r.node < length names.now.nodes) dual.now.potentials }
-    ensures { Puts (K.seen out.old) (K.seen out.new) buffer.old buffer.new result (text_of (map (potential_words names.now) dual.now.potentials)) }
+    ensures { Puts (K.seen out.old) (K.seen out.new) buffer.old buffer.new result
+        (text_of (map (potential_words names.now) dual.now.potentials)) }
 {
     for row in 0..dual.rows() {
         match put_potential(buffer, out, names, dual, row) {

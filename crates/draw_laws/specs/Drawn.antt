@@ -23,8 +23,10 @@ drawn_commodity g nodes i = record { from = (drawn_ends g nodes).0; to = (drawn_
 abbrev pub drawn_network : LinkMode → ℕ → ℕ → ℕ → ℕ → Network
 drawn_network mode seed nodes links demands = record {
   nodes = nodes;
-  cells = flat_map (λ i. drawn_cells mode (past (words_before_link nodes i) (generator_of seed)) nodes i) (range_with_len 0 links);
-  commodities = map (λ i. drawn_commodity (past (2 * i) (past (words_before_link nodes links) (generator_of seed))) nodes i) (range_with_len 0 demands);
+  cells = flat_map (λ i. drawn_cells mode (past (words_before_link nodes i) (generator_of seed)) nodes i)
+      (range_with_len 0 links);
+  commodities = map (λ i. drawn_commodity (past (2 * i) (past (words_before_link nodes links) (generator_of seed))) nodes i)
+      (range_with_len 0 demands);
 }
 
 -- in whole numbers, with every demand kept

@@ -13,20 +13,30 @@ ghost use Rattle.net_gen.specs.Generated.{AreCounts, generated_text};
 ghost use Rattle.cell_dir.specs.Names.{cells_of};
 ghost use Rattle.draw_laws.specs.Drawn.{drawn_network, drawn_net};
 
-/// The rows of a generated text stand for the network that was drawn, whatever the options are, and are never refused.
+/// The rows of a generated text stand for the network that was drawn, whatever the options are, and are never
+/// refused.
 pub fn drawn_networks_are_scaled()
-    ensures network { (seed nodes links demands : ℕ) (rows : NetRows) (o : NetOptions) → AreCounts nodes links demands → rows_of (generated_text seed nodes links demands) ≡ Ok rows → scaled_of rows o ≡ Ok (drawn_net o seed nodes links demands) }
-    ensures accepted { (seed nodes links demands : ℕ) (rows : NetRows) (o : NetOptions) (r : NetRefusal) → AreCounts nodes links demands → rows_of (generated_text seed nodes links demands) ≡ Ok rows → scaled_of rows o ≢ Err r }
+    ensures network { (seed nodes links demands : ℕ) (rows : NetRows) (o : NetOptions) → AreCounts nodes links demands
+        → rows_of (generated_text seed nodes links demands) ≡ Ok rows
+        → scaled_of rows o ≡ Ok (drawn_net o seed nodes links demands) }
+    ensures accepted { (seed nodes links demands : ℕ) (rows : NetRows) (o : NetOptions) (r : NetRefusal)
+        → AreCounts nodes links demands → rows_of (generated_text seed nodes links demands) ≡ Ok rows
+        → scaled_of rows o ≢ Err r }
 {}
 
 /// What is drawn is a network: its ends are nodes, those of a demand are two, and all numbers are within the limits.
 pub fn drawn_networks_are_networks()
-    ensures { (mode : LinkMode) (seed nodes links demands : ℕ) → AreCounts nodes links demands → IsNetwork (drawn_network mode seed nodes links demands) }
+    ensures { (mode : LinkMode) (seed nodes links demands : ℕ) → AreCounts nodes links demands
+        → IsNetwork (drawn_network mode seed nodes links demands) }
 {}
 
 /// It has the cells of as many links and as many commodities as were asked for, and its amounts repeat 1 to 10.
 pub fn drawn_networks_have_counts()
-    ensures cells { (mode : LinkMode) (seed nodes links demands : ℕ) → length (drawn_network mode seed nodes links demands).cells ≡ cells_of mode links }
-    ensures commodities { (mode : LinkMode) (seed nodes links demands : ℕ) → length (drawn_network mode seed nodes links demands).commodities ≡ demands }
-    ensures amounts { (mode : LinkMode) (seed nodes links demands : ℕ) → sum_by (λ k. k.amount) (drawn_network mode seed nodes links demands).commodities ≡ sum_by (λ i. 1 + i % 10) (range_with_len 0 demands) }
+    ensures cells { (mode : LinkMode) (seed nodes links demands : ℕ)
+        → length (drawn_network mode seed nodes links demands).cells ≡ cells_of mode links }
+    ensures commodities { (mode : LinkMode) (seed nodes links demands : ℕ)
+        → length (drawn_network mode seed nodes links demands).commodities ≡ demands }
+    ensures amounts { (mode : LinkMode) (seed nodes links demands : ℕ)
+        → sum_by (λ k. k.amount) (drawn_network mode seed nodes links demands).commodities
+        ≡ sum_by (λ i. 1 + i % 10) (range_with_len 0 demands) }
 {}

@@ -1,7 +1,7 @@
 -- Rows that are filled make a dual that shows its bound.
 use Rattle.std.proofs.Common.{◌≡◌, inl, inr, ℕ, zero, suc, ◌+◌, ◌<◌, ◌≤◌, List, [], ◌∷◌, Bool, true, false, cond, eqb, length, get_or, map, refl, sym, ap, subst, ◌∙◌, arith}
 use Rattle.gap_fraction.specs.Fraction.{Fraction}
-use Rattle.std.specs.Prelude.{◌||◌, All, IfOk, Result, Ok, Err, IsTrue, count_by, slice_get, Some}
+use Rattle.std.specs.Prelude.{◌||◌, All, IfOk, Result, Ok, Err, count_by, slice_get, Some}
 use Rattle.std.proofs.lemmas.List.Elements.{All-map, All-weaker}
 use Rattle.std.proofs.lemmas.Bool.{cases_eq, eq-eqb}
 use Rattle.std.proofs.lemmas.Option.{slice_get-get_or}
@@ -21,7 +21,7 @@ use Rattle.flow_paths.specs.Certificate.{IsPotentialOf, distances_in, lengths_in
 use Rattle.mcf_limits.specs.declared.TheConstants.{MAX_LENGTH}
 use Rattle.dual_bound.specs.declared.rows.Row.{Row}
 use Rattle.dual_bound.specs.Bounds.{length_rows, IsRowWith, IsDualWith, IsDistance, IsCutPotential, ShowsBound, CanDivide, cut_lengths}
-use Rattle.dual_bound.specs.Rows.{potential_of, potentials_of, dual_of, sources_of, IsFilledWith, Fills}
+use Rattle.dual_bound.specs.Rows.{potential_of, potentials_of, dual_of, sources_of, IsFilledWith}
 use Rattle.dual_bound.proofs.DualRows.{source-count, cells-have, lengths-found, row-found}
 use Rattle.dual_bound.proofs.Distances.{distances-are, marks-are, distance-positive, cut-positive, cut-volume, distance-by, weighted-positive}
 

@@ -29,7 +29,12 @@ pub struct Bounded {
 
 /// The dual of these lengths and filled rows, with its value: volume over weighted distance, not reduced. Lengths, and the
 /// numbers of the rows, are at most 2^62.
-pub fn finished(alloc: Global, net: &Net, lengths: &[u64], rows: &[Row]) -> Result<Bounded, AllocError>
+pub fn finished(
+    alloc: Global,
+    net: &Net,
+    lengths: &[u64],
+    rows: &[Row],
+) -> Result<Bounded, AllocError>
     requires rows { All (λ row. All (λ n. n ≤ MAX_LENGTH) row.values.items) rows.now }
     requires divides { CanDivide net.now lengths.now (dual_of lengths.now rows.now) }
     ensures dual { IfOk result (λ b. b.dual ≡ dual_of lengths.now rows.now) }

@@ -8,3 +8,4 @@ pub mod Parsing
 pub mod Adding
 pub mod Refusing
 pub mod Telling
+pub mod Counted

@@ -1,6 +1,6 @@
 -- What the words of the command line ask for.
 use Rattle.std.specs.Prelude.{ℕ, IfSome, ◌≤◌, ◌^◌, ◌-◌, Bool, List, [], ◌∷◌, length, slice_index, Option, Some, None, codes, ◌==◌, if◌then◌else◌}
-use Rattle.std.specs.List.{list_all, list_any}
+use Rattle.std.specs.List.{find, list_all, list_any}
 use Rattle.std.specs.Option.{option_map}
 use Rattle.std.specs.Str.{bytes_eq}
 use Rattle.mcf_limits.specs.declared.TheConstants.{DEFAULT_GAP, DEFAULT_STEP, DEFAULT_WORKERS, MAX_GAP, MAX_NODES, MAX_LINKS, MAX_DEMANDS, MAX_PHASES, MAX_WORKERS, MAX_STEP}
@@ -8,7 +8,7 @@ use Rattle.net_options.specs.declared.modes.LinkMode.TheVariants.{Undirected}
 use Rattle.net_options.specs.declared.modes.ModuleMode.TheVariants.{Largest}
 use Rattle.net_options.specs.declared.options.NetOptions.{NetOptions}
 use Rattle.mcf_words.specs.declared.request.Command.{Command}
-use Rattle.mcf_words.specs.declared.request.Command.TheVariants.{Solve, Check, WhatIf, Print, Gen, Trial}
+use Rattle.mcf_words.specs.declared.request.Command.TheVariants.{Solve, Check, WhatIf, Upgrade, Print, Gen, Trial}
 use Rattle.mcf_words.specs.declared.request.Request.{Request}
 use Rattle.mcf_words.specs.Items.{Setting, Items, items_of}
 use Rattle.mcf_words.specs.Values.{number_in, gap_of, values_of, choice}
@@ -18,9 +18,6 @@ infixl 10 ◌>>=◌
 abbrev pub ◌>>=◌ : {A B : Type 0} → Option A → (A → Option B) → Option B
 None >>= f = None
 (Some x) >>= f = f x
-
-abbrev pub command_of : List ℕ → Option Command
-command_of word = if bytes_eq word (codes "solve") then Some Solve else if bytes_eq word (codes "check") then Some Check else if bytes_eq word (codes "whatif") then Some WhatIf else if bytes_eq word (codes "print") then Some Print else if bytes_eq word (codes "gen") then Some Gen else if bytes_eq word (codes "trial") then Some Trial else None
 
 -- the phase budget, where one was given, is within its limits
 abbrev pub IsBudget : Option ℕ → Type 0
@@ -43,26 +40,43 @@ IsWithinLimits r = AreWithinLimits r.gap r.phases r.workers r.step
 abbrev pub AreDrawn : List ℕ → Type 0
 AreDrawn numbers = (2 ≤ slice_index numbers 1) × (slice_index numbers 1 ≤ MAX_NODES) × (slice_index numbers 1 ≤ slice_index numbers 2) × (slice_index numbers 2 ≤ MAX_LINKS) × (1 ≤ slice_index numbers 3) × (slice_index numbers 3 ≤ MAX_DEMANDS)
 
--- how many files the command reads; none where it takes numbers
-abbrev pub file_count : Command → ℕ
-file_count Solve = 1
-file_count Check = 2
-file_count WhatIf = 3
-file_count Print = 1
-file_count Gen = 0
-file_count Trial = 0
-
--- the options of the command
 abbrev pub solver_options : List (List ℕ)
 solver_options = codes "--links" ∷ codes "--modules" ∷ codes "--gap" ∷ codes "--phases" ∷ codes "--workers" ∷ codes "--step" ∷ []
 
+-- a command's word, how many files it reads, none where it takes numbers, and its options
+pub record Form : Type 0 where
+  pub word : List ℕ
+  pub files : ℕ
+  pub options : List (List ℕ)
+
+abbrev pub form_of : Command → Form
+form_of Solve = record { word = codes "solve"; files = 1; options = solver_options }
+form_of Check = record { word = codes "check"; files = 2; options = [] }
+form_of WhatIf = record { word = codes "whatif"; files = 3; options = [] }
+form_of Upgrade = record { word = codes "upgrade"; files = 2; options = [] }
+form_of Print = record { word = codes "print"; files = 1; options = [] }
+form_of Gen = record { word = codes "gen"; files = 0; options = [] }
+form_of Trial = record { word = codes "trial"; files = 0; options = solver_options }
+
+-- the commands that there are
+abbrev pub commands : List Command
+commands = Solve ∷ Check ∷ WhatIf ∷ Upgrade ∷ Print ∷ Gen ∷ Trial ∷ []
+
+-- the word is that of the command
+abbrev pub has_word : List ℕ → Command → Bool
+has_word word command = bytes_eq word (form_of command).word
+
+-- the command of that word
+abbrev pub command_of : List ℕ → Option Command
+command_of word = find (has_word word) commands
+
+-- how many files the command reads
+abbrev pub file_count : Command → ℕ
+file_count command = (form_of command).files
+
+-- the options of the command
 abbrev pub options_of : Command → List (List ℕ)
-options_of Solve = solver_options
-options_of Check = []
-options_of WhatIf = []
-options_of Print = []
-options_of Gen = []
-options_of Trial = solver_options
+options_of command = (form_of command).options
 
 -- every option is one of the command's
 abbrev pub are_known : Command → List Setting → Bool

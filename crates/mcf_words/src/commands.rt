@@ -45,7 +45,9 @@ pub struct Form {
 }
 
 fn takes(word: &'static [u8], files: usize, options: &'static [&'static str]) -> Form
-    ensures { result ≡ record { word = word; files = files; options = options } }
+    ensures word { result.word.now ≡ word.entry.now }
+    ensures files { result.files ≡ files }
+    ensures options { result.options.now ≡ options.entry.now }
 {
     Form {
         word,

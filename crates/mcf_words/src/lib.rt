@@ -1,6 +1,7 @@
 //! The words of the command line, and what they ask for.
 #![tactic(auto)]
 
+mod commands;
 mod parse;
 mod read;
 mod request;

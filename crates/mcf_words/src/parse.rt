@@ -2,43 +2,16 @@
 
 ghost use Rattle.std.specs.Prelude.{◌≡◌, [], map, string_bytes, IfOk, false};
 ghost use Rattle.clap.specs.Words.{app_of, rule_of};
-ghost use Rattle.mcf_words.specs.Parse.{Parses, app_of_names, app_with, names_of, option_rule};
+ghost use Rattle.mcf_words.specs.Parse.{Parses, app_of_names, app_with, option_rule};
 
+use crate::commands::form_of;
 use crate::request::{Command, WordsEnd};
 use clap::error::ErrorKind;
 use clap::{Arg, ArgAction, ArgMatches};
 use std::alloc::{AllocError, Global};
 
-// The options by their names, which are also their ids.
-
-pub const LINKS: &str = "links";
-
-pub const MODULES: &str = "modules";
-
-pub const GAP: &str = "gap";
-
-pub const PHASES: &str = "phases";
-
-pub const WORKERS: &str = "workers";
-
-pub const STEP: &str = "step";
-
 /// The id of the positional words.
 pub const WORDS: &str = "WORDS";
-
-static SOLVER_OPTIONS: [&str; 6] = [LINKS, MODULES, GAP, PHASES, WORKERS, STEP];
-
-static NO_OPTIONS: [&str; 0] = [];
-
-// The names of the command's options, without their dashes.
-fn option_names(command: Command) -> &'static [&'static str]
-    ensures { map (λ n. n.now) result.now ≡ names_of command }
-{
-    match command {
-        Command::Solve | Command::Trial => SOLVER_OPTIONS.as_slice(),
-        Command::Check | Command::WhatIf | Command::Print | Command::Gen => NO_OPTIONS.as_slice(),
-    }
-}
 
 // An option that takes one value.
 fn option<'a>(alloc: Global, name: &'static str) -> Arg<'a>
@@ -77,7 +50,7 @@ pub fn parsed<'a>(
 ) -> Result<ArgMatches<'a>, WordsEnd>
     ensures { Parses command (map string_bytes words.now) result }
 {
-    let parser = command_with(alloc, option_names(command))?;
+    let parser = command_with(alloc, form_of(command).options)?;
     match parser.try_get_matches_from(words) {
         Ok(matches) => Ok(matches),
         Err(error) => match error.kind() {

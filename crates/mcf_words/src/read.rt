@@ -5,14 +5,15 @@ ghost use Rattle.std.specs.Option.{option_map};
 ghost use Rattle.clap.specs.Words.{found_of};
 ghost use Rattle.mcf_words.specs.Answers.{Answers};
 ghost use Rattle.mcf_words.specs.Parse.{choices_in, read_in, request_in, words_in};
-ghost use Rattle.mcf_words.specs.Request.{command_of as command_of_lem, file_count as file_count_lem, IsBudget, AreWithinLimits, IsWithinLimits, AreDrawn, four_numbers as four_numbers_lem, numbers_of as numbers_of_lem, files_of as files_of_lem, request_of};
+ghost use Rattle.mcf_words.specs.Request.{file_count as file_count_lem, IsBudget, AreWithinLimits, IsWithinLimits, AreDrawn, four_numbers as four_numbers_lem, numbers_of as numbers_of_lem, files_of as files_of_lem, request_of};
 ghost use Rattle.mcf_words.specs.Values.{gap_of as gap_of_lem, number_in as number_in_lem};
 ghost use Rattle.net_options.specs.Modes.{link_mode_of as link_mode_of_lem, module_mode_of as module_mode_of_lem};
 ghost use Rattle.mcf_words.specs.Views.{choices_view};
 ghost use Rattle.net_options.specs.declared.modes.LinkMode.TheVariants.{Undirected};
 ghost use Rattle.net_options.specs.declared.modes.ModuleMode.TheVariants.{Largest};
 
-use crate::parse::{GAP, LINKS, MODULES, PHASES, STEP, WORDS, WORKERS, parsed};
+use crate::commands::{GAP, LINKS, MODULES, PHASES, STEP, WORKERS, command_of, form_of};
+use crate::parse::{WORDS, parsed};
 use crate::request::{Command, Names, Request, WordsEnd};
 use crate::values::{gap_of, number_in};
 use clap::ArgMatches;
@@ -23,18 +24,6 @@ use mcf_limits::{
 use net_options::{LinkMode, ModuleMode, NetOptions, link_mode_of, module_mode_of};
 use std::alloc::{AllocError, Global};
 
-const SOLVE: &[u8] = b"solve";
-
-const CHECK: &[u8] = b"check";
-
-const WHAT_IF: &[u8] = b"whatif";
-
-const PRINT: &[u8] = b"print";
-
-const GEN: &[u8] = b"gen";
-
-const TRIAL: &[u8] = b"trial";
-
 /// What the options say, and the defaults of those that do not stand.
 #[derive(Clone, Copy, Debug)]
 pub struct Choices {
@@ -43,41 +32,6 @@ pub struct Choices {
     pub phases: Option<u32>,
     pub workers: u16,
     pub step: u32,
-}
-
-fn command_of(word: &[u8]) -> Option<Command>
-    ensures { result ≡ command_of_lem word.now }
-{
-    if word == SOLVE {
-        return Some(Command::Solve);
-    }
-    if word == CHECK {
-        return Some(Command::Check);
-    }
-    if word == WHAT_IF {
-        return Some(Command::WhatIf);
-    }
-    if word == PRINT {
-        return Some(Command::Print);
-    }
-    if word == GEN {
-        return Some(Command::Gen);
-    }
-    if word == TRIAL {
-        return Some(Command::Trial);
-    }
-    None
-}
-
-fn file_count(command: Command) -> usize
-    ensures { result ≡ file_count_lem command }
-{
-    match command {
-        Command::Solve | Command::Print => 1,
-        Command::Check => 2,
-        Command::WhatIf => 3,
-        Command::Gen | Command::Trial => 0,
-    }
 }
 
 fn links_choice(matches: &ArgMatches<'_>) -> Option<LinkMode>
@@ -215,7 +169,7 @@ fn numbers_of(command: Command, positional: &[&str]) -> Option<[u64; 4]>
     ensures value { result ≡ numbers_of_lem command (map (λ w. w.now) positional.now) }
     ensures drawn { IfSome result (λ n. file_count_lem command ≡ 0 → AreDrawn n) }
 {
-    if file_count(command) == 0 {
+    if form_of(command).files == 0 {
         return four_numbers(positional);
     }
     Some([0; 4])
@@ -237,10 +191,10 @@ fn files_of(alloc: Global, command: Command, positional: &[&str]) -> Result<Name
     ensures count { IfOk result (λ names. length names ≡ file_count_lem command) }
     ensures value { Answers (λ n. n) result (files_of_lem command (map (λ w. w.now) positional.now)) }
 {
-    if file_count(command) == 0 {
+    if form_of(command).files == 0 {
         return Ok(Names::new(alloc));
     }
-    if positional.len() != file_count(command) {
+    if positional.len() != form_of(command).files {
         return Err(WordsEnd::Usage);
     }
     Ok(names_of(alloc, positional)?)

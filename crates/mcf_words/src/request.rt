@@ -13,6 +13,7 @@ pub enum Command {
     Solve,
     Check,
     WhatIf,
+    Upgrade,
     Print,
     Gen,
     Trial,

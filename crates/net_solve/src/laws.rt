@@ -19,23 +19,35 @@ ghost use Rattle.net_solve.specs.Tally.{total_of, routes_of, carried_of};
 
 use solve_texts::solved_is_judged_valid;
 
-/// The certificate of a solve checks: its text is judged valid on the same rows, with its verdict and its fractions, and
-/// nothing else is said of it.
+/// The certificate of a solve checks: its text is judged valid on the same rows, with its verdict
+/// and its fractions, and nothing else is said of it.
 pub fn solves_check()
-    ensures valid { (rows : NetRows) (o : NetOptions) (asked : Asked) (net : ScaledNet) (s : SolvedView) → IsDone rows o asked net s → IsJudgement rows (certificate_text (sheet_of rows net) s.proof) (valid_of net s.proof) }
-    ensures alone { (rows : NetRows) (o : NetOptions) (asked : Asked) (net : ScaledNet) (s : SolvedView) (judged : Judged) → IsDone rows o asked net s → IsJudgement rows (certificate_text (sheet_of rows net) s.proof) judged → judged ≡ valid_of net s.proof }
+    ensures valid { (rows : NetRows) (o : NetOptions) (asked : Asked) (net : ScaledNet)
+        (s : SolvedView)
+        → IsDone rows o asked net s
+        → IsJudgement rows (certificate_text (sheet_of rows net) s.proof) (valid_of net s.proof) }
+    ensures alone { (rows : NetRows) (o : NetOptions) (asked : Asked) (net : ScaledNet)
+        (s : SolvedView) (judged : Judged)
+        → IsDone rows o asked net s
+        → IsJudgement rows (certificate_text (sheet_of rows net) s.proof) judged
+        → judged ≡ valid_of net s.proof }
 {
     solved_is_judged_valid();
 }
 
 /// Each phase routes each commodity once.
 pub fn routes_are_of_phases()
-    ensures { (net : Network) (o : SolveOptions) (s : SolvedView) → IsSolved net o s → routes_of s ≡ length net.commodities * length s.history }
+    ensures { (net : Network) (o : SolveOptions) (s : SolvedView) → IsSolved net o s
+        → routes_of s ≡ length net.commodities * length s.history }
 {}
 
-/// In the certificate's own number of phases: the history has as many, the routes are phases times commodities, and all rows together carry phases times the total amount.
+/// In the certificate's own number of phases: the history has as many, the routes are phases times
+/// commodities, and all rows together carry phases times the total amount.
 pub fn carried_is_of_phases()
-    ensures phases { (net : Network) (o : SolveOptions) (s : SolvedView) → IsSolved net o s → length s.history ≡ s.proof.routing.phases }
-    ensures routes { (net : Network) (o : SolveOptions) (s : SolvedView) → IsSolved net o s → routes_of s ≡ s.proof.routing.phases * length net.commodities }
-    ensures carried { (net : Network) (o : SolveOptions) (s : SolvedView) → IsSolved net o s → carried_of s.proof.routing.paths ≡ s.proof.routing.phases * total_of net }
+    ensures phases { (net : Network) (o : SolveOptions) (s : SolvedView) → IsSolved net o s
+        → length s.history ≡ s.proof.routing.phases }
+    ensures routes { (net : Network) (o : SolveOptions) (s : SolvedView) → IsSolved net o s
+        → routes_of s ≡ s.proof.routing.phases * length net.commodities }
+    ensures carried { (net : Network) (o : SolveOptions) (s : SolvedView) → IsSolved net o s
+        → carried_of s.proof.routing.paths ≡ s.proof.routing.phases * total_of net }
 {}

@@ -37,7 +37,8 @@ fn solve_net<G: Gate, R: Threads + Sync>(
     gate: &G,
 ) -> Result<Solving, AllocError>
     requires { IsAsked asked.now }
-    ensures { IfOk result (λ s. (rows : NetRows) → (o : NetOptions) → AreNetRows rows → rows.skipped ≤ MAX_COUNT → scaled_of rows o ≡ Ok net → IsSolving rows o asked.now s) }
+    ensures { IfOk result (λ s. (rows : NetRows) → (o : NetOptions) → AreNetRows rows
+        → rows.skipped ≤ MAX_COUNT → scaled_of rows o ≡ Ok net → IsSolving rows o asked.now s) }
 {
     let _nodes = net.net().nodes();
     let options = match options_of(net.net(), asked) {
@@ -48,7 +49,8 @@ fn solve_net<G: Gate, R: Threads + Sync>(
     Ok(Solving::Done(net, solved))
 }
 
-/// The solve of the network that the rows stand for under the options, or the first refusal of the rows, or the work where a given budget makes it too much.
+/// The solve of the network that the rows stand for under the options, or the first refusal of the
+/// rows, or the work where a given budget makes it too much.
 pub fn solve_rows<G: Gate, R: Threads + Sync>(
     rt: &R,
     alloc: Global,

@@ -18,12 +18,7 @@ use std::alloc::Global;
 use unit_scale::Scaled;
 
 // Writes the certificate in form 2, which it fits.
-fn write_upgraded<K: Sink>(
-    rows: &RawNet<'_>,
-    net: &Scaled,
-    proof: &Proof,
-    out: &mut K,
-) -> Ended
+fn write_upgraded<K: Sink>(rows: &RawNet<'_>, net: &Scaled, proof: &Proof, out: &mut K) -> Ended
     requires of { IsOf rows.now net.now }
     requires fits { FitsProof (sheet_of rows.now net.now) proof.now }
     ensures { Writes (K.seen out.old) (K.seen out.new) result (upgraded rows.now net.now proof.now) }

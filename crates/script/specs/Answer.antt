@@ -21,16 +21,16 @@ Reads view (Err (Refused r)) read = read ≡ Err r
 
 -- the link that is expected to change is one of so many
 abbrev pub IsExpected : ℕ → Expected → Type 0
-IsExpected cells Command = Unit {0}
-IsExpected cells (Link change) = Unit {0}
-IsExpected cells Closing = Unit {0}
-IsExpected cells (Number change cell) = cell < cells
+IsExpected links Command = Unit {0}
+IsExpected links (Link change) = Unit {0}
+IsExpected links Closing = Unit {0}
+IsExpected links (Number change link) = link < links
 
 -- the same of what a word means
 abbrev pub IsMeant : ℕ → Meaning → Type 0
-IsMeant cells (Expects e) = IsExpected cells e
-IsMeant cells (Edits cell cap) = (cell < cells) × (cap ≤ MAX_UNITS)
-IsMeant cells Shows = Unit {0}
+IsMeant links (Expects e) = IsExpected links e
+IsMeant links (Edits link cap) = (link < links) × (cap ≤ MAX_UNITS)
+IsMeant links Shows = Unit {0}
 
 -- what the reader keeps, without where it lies in memory
 abbrev pub sofar_of : Reading → Sofar

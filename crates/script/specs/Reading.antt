@@ -1,7 +1,9 @@
 -- What the text of a script stands for, or its first refusal.
 use Rattle.std.specs.Prelude.{ℕ, ◌+◌, ◌-◌, ◌==◌, List, [], ◌∷◌, ◌++◌, length, map, codes, count_by, Option, Some, None, Result, Ok, Err, nat_le, nat_lt, if◌then◌else◌, slice_index, slice_set, position}
 use Rattle.std.specs.Str.{bytes_eq}
+use Rattle.std.specs.List.{range_with_len}
 use Rattle.mcf_limits.specs.declared.TheConstants.{MAX_UNITS, MAX_WORD_BYTES}
+use Rattle.net_options.specs.declared.modes.LinkMode.{LinkMode}
 use Rattle.sndlib_lex.specs.Tokens.{Lexeme, lexemes}
 use Rattle.sndlib_lex.specs.declared.token.TokenKind.{TokenKind}
 use Rattle.sndlib_lex.specs.declared.token.TokenKind.TheVariants.{LeftParen, RightParen, Word}
@@ -11,6 +13,8 @@ use Rattle.unit_scale.specs.declared.decimal.UnitFault.{UnitFault}
 use Rattle.unit_scale.specs.declared.decimal.UnitFault.TheVariants as faults
 use Rattle.unit_scale.specs.Units.{units_read}
 use Rattle.unit_scale.specs.Scaling.{ScaledNet}
+use Rattle.cell_dir.specs.Names.{cells_of}
+use Rattle.cell_dir.specs.Closed.{caps_of}
 use Rattle.script.specs.declared.refusal.ScriptKind.{ScriptKind}
 use Rattle.script.specs.declared.refusal.ScriptKind.TheVariants.{Syntax, UnknownLink, BadNumber, TooFine, TooLarge, BelowZero}
 use Rattle.script.specs.declared.refusal.ScriptRefusal.{ScriptRefusal}
@@ -46,7 +50,7 @@ link_of terms w = position (bytes_eq w) terms.links
 
 abbrev pub linked : (ℕ → Meaning) → Option ℕ → Result Meaning ScriptKind
 linked f None = Err UnknownLink
-linked f (Some cell) = Ok (f cell)
+linked f (Some link) = Ok (f link)
 
 -- the capacity after a change by a number, or what is wrong with the number
 abbrev pub changed : Change → ℕ → ℕ → Result ℕ ScriptKind
@@ -55,26 +59,26 @@ changed Add cap n = if nat_le (cap + n) MAX_UNITS then Ok (cap + n) else Err Too
 changed Sub cap n = if nat_le n cap then Ok (cap - n) else Err BelowZero
 
 abbrev pub edits : ℕ → Result ℕ ScriptKind → Result Meaning ScriptKind
-edits cell (Ok cap) = Ok (Edits cell cap)
-edits cell (Err kind) = Err kind
+edits link (Ok cap) = Ok (Edits link cap)
+edits link (Err kind) = Err kind
 
 -- where a number stands, of a link of that capacity
 abbrev pub number : Change → ℕ → ℕ → Result ℕ UnitFault → Result Meaning ScriptKind
-number change cell cap (Ok n) = edits cell (changed change cap n)
-number change cell cap (Err faults.NotNumber) = Err BadNumber
-number change cell cap (Err faults.TooFine) = Err TooFine
-number change cell cap (Err faults.TooLarge) = Err TooLarge
+number change link cap (Ok n) = edits link (changed change cap n)
+number change link cap (Err faults.NotNumber) = Err BadNumber
+number change link cap (Err faults.TooFine) = Err TooFine
+number change link cap (Err faults.TooLarge) = Err TooLarge
 
--- what a word means where that is expected, under these capacities, or what is wrong with it
+-- what a word means where that is expected, under these capacities of links, or what is wrong with it
 abbrev pub meaning : Terms → List ℕ → Expected → List ℕ → Result Meaning ScriptKind
 meaning terms caps Command w = command w
-meaning terms caps (Link change) w = linked (λ cell. Expects (Number change cell)) (link_of terms w)
-meaning terms caps Closing w = linked (λ cell. Edits cell 0) (link_of terms w)
-meaning terms caps (Number change cell) w = number change cell (slice_index caps cell) (units_read terms.decimals (number_of w))
+meaning terms caps (Link change) w = linked (λ link. Expects (Number change link)) (link_of terms w)
+meaning terms caps Closing w = linked (λ link. Edits link 0) (link_of terms w)
+meaning terms caps (Number change link) w = number change link (slice_index caps link) (units_read terms.decimals (number_of w))
 
 -- ---- one token after the other
 
--- what is expected next, the capacities as they are now, and the steps so far
+-- what is expected next, the capacities of the links as they are now, and the steps so far
 pub record Sofar : Type 0 where
   pub expected : Expected
   pub caps : List ℕ
@@ -82,7 +86,7 @@ pub record Sofar : Type 0 where
 
 abbrev pub after : Sofar → Meaning → Sofar
 after s (Expects e) = record s { expected = e }
-after s (Edits cell cap) = record { expected = Command; caps = slice_set s.caps cell cap; steps = s.steps ++ Edit cell cap ∷ [] }
+after s (Edits link cap) = record { expected = Command; caps = slice_set s.caps link cap; steps = s.steps ++ Edit link cap ∷ [] }
 after s Shows = record { expected = Command; caps = s.caps; steps = s.steps ++ Show ∷ [] }
 
 -- what a token means: a parenthesis nothing, and a word of more than `MAX_WORD_BYTES` bytes neither
@@ -116,9 +120,17 @@ scan terms end s (t ∷ ts) = go_on t.line (λ m. scan terms end (after s m) ts)
 abbrev pub terms_of : NetRows → ScaledNet → Terms
 terms_of rows net = record { links = names_of_links rows; decimals = net.decimals }
 
+-- the capacities of so many links, each that of the link's first cell
+abbrev pub link_caps : LinkMode → List ℕ → ℕ → List ℕ
+link_caps mode caps links = map (λ link. slice_index caps (cells_of mode link)) (range_with_len 0 links)
+
 -- before the first token
-abbrev pub at_start : ScaledNet → Sofar
-at_start net = record { expected = Command; caps = map (λ c. c.cap) net.net.cells; steps = [] }
+abbrev pub at_start : NetRows → ScaledNet → Sofar
+at_start rows net = record {
+  expected = Command;
+  caps = link_caps net.options.links (caps_of net.net) (length rows.links);
+  steps = [];
+}
 
 -- one more than the number of line feeds
 abbrev pub end_of : List ℕ → ℕ
@@ -126,4 +138,4 @@ end_of text = count_by (λ b. b == 10) text + 1
 
 -- the steps that the text stands for, on the network of these rows, or its first refusal
 abbrev pub script_of : NetRows → ScaledNet → List ℕ → Result (List Step) ScriptRefusal
-script_of rows net text = scan (terms_of rows net) (end_of text) (at_start net) (lexemes 0 text 0 1)
+script_of rows net text = scan (terms_of rows net) (end_of text) (at_start rows net) (lexemes 0 text 0 1)

@@ -1,14 +1,28 @@
--- The steps of a script: cells that get a capacity, and places at which the bounds are shown.
+-- The steps of a script: links that get a capacity, and places at which the bounds are shown.
 use Rattle.std.specs.Prelude.{ℕ, ◌<◌, ◌≤◌, List, All}
-use Rattle.mcf_limits.specs.declared.TheConstants.{MAX_UNITS}
+use Rattle.mcf_limits.specs.declared.TheConstants.{MAX_LINKS, MAX_UNITS}
+use Rattle.net_options.specs.declared.modes.LinkMode.{LinkMode}
+use Rattle.cell_dir.specs.Names.{cells_of}
 use Rattle.script.specs.declared.step.Step.{Step}
 use Rattle.script.specs.declared.step.Step.TheVariants.{Edit, Show}
 
--- an edit names a cell below this number, and its capacity is within the limit
+-- how the links are read, and the steps
+pub record ScriptView : Type 0 where
+  pub mode : LinkMode
+  pub steps : List Step
+
+-- an edit names a link below this number, and its capacity is within the limit
 abbrev pub IsStep : ℕ → Step → Type 0
-IsStep cells (Edit cell cap) = (cell < cells) × (cap ≤ MAX_UNITS)
-IsStep cells Show = Unit {0}
+IsStep links (Edit link cap) = (link < links) × (cap ≤ MAX_UNITS)
+IsStep links Show = Unit {0}
 
 -- the same of each step
 abbrev pub AreSteps : ℕ → List Step → Type 0
-AreSteps cells steps = All (IsStep cells) steps
+AreSteps links steps = All (IsStep links) steps
+
+-- the cells of so many links, within the limit, are among so many cells, and the steps are of these links
+pub record AreStepsOfCells (mode : LinkMode) (cells : ℕ) (steps : List Step) : Type 0 where
+  pub links : ℕ
+  pub few : links ≤ MAX_LINKS
+  pub enough : cells_of mode links ≤ cells
+  pub each : AreSteps links steps

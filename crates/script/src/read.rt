@@ -1,9 +1,11 @@
 //! The text of a script, read.
 
-ghost use Rattle.std.specs.Prelude.{◌≡◌, ◌≤◌, ◌<◌, ◌^◌, All, IfOk, OnOk, length, map};
+ghost use Rattle.std.specs.Prelude.{◌≡◌, ◌≤◌, ◌<◌, ◌^◌, All, IfOk, OnOk, length};
 ghost use Rattle.sndlib_lex.specs.Tokens.{lexeme};
 ghost use Rattle.sndlib_grammar.specs.Rows.{names_of_links};
-ghost use Rattle.script.specs.Reading.{after, by_kind, scan, script_of};
+ghost use Rattle.cell_dir.specs.Names.{cells_of};
+ghost use Rattle.cell_dir.specs.Closed.{caps_of};
+ghost use Rattle.script.specs.Reading.{after, by_kind, link_caps, scan, script_of};
 ghost use Rattle.script.specs.Steps.{AreSteps};
 ghost use Rattle.script.specs.Answer.{IsExpected, IsMeant, Reads, sofar_of};
 
@@ -11,8 +13,8 @@ use crate::reading::{Reading, take};
 use crate::refusal::{ScriptEnd, ScriptKind, ScriptRefusal};
 use crate::step::Script;
 use crate::word::{Expected, Meaning, word_meaning};
-use flow_model::Net;
-use mcf_limits::{MAX_DECIMALS, MAX_SCRIPT_BYTES, MAX_UNITS};
+use cell_dir::cells_of;
+use mcf_limits::{MAX_DECIMALS, MAX_LINKS, MAX_SCRIPT_BYTES, MAX_UNITS};
 use sndlib_lex::{Token, TokenKind, Tokens, end_line};
 use sndlib_read::RawNet;
 use std::alloc::{AllocError, Global};
@@ -35,7 +37,8 @@ fn token_meaning(
     requires count { length reading.now.caps.items ≡ length raw.now.links }
     requires caps { All (λ cap. cap ≤ MAX_UNITS) reading.now.caps.items }
     requires expected { IsExpected (length reading.now.caps.items) reading.now.expected }
-    ensures value { result ≡ by_kind (record { links = names_of_links raw.now; decimals = decimals }) (sofar_of reading.now) (lexeme token.now).text (lexeme token.now).kind }
+    ensures value { result ≡ by_kind (record { links = names_of_links raw.now; decimals = decimals })
+        (sofar_of reading.now) (lexeme token.now).text (lexeme token.now).kind }
     ensures meant { IfOk result (IsMeant (length reading.now.caps.items)) }
 {
     match token.kind {
@@ -45,13 +48,22 @@ fn token_meaning(
     }
 }
 
-// The capacities of the cells.
-fn capacities(alloc: Global, net: &Net) -> Result<Vec<u64>, AllocError>
-    ensures value { IfOk result (λ caps. caps.items ≡ map (λ c. c.cap) net.now.cells) }
-    ensures count { IfOk result (λ caps. length caps.items ≡ length net.now.cells) }
+// The capacities of the links, each that of the link's first cell.
+fn capacities(alloc: Global, net: &Scaled, links: u16) -> Result<Vec<u64>, AllocError>
+    requires few { links ≤ MAX_LINKS }
+    requires cells { length net.now.net.cells ≡ cells_of net.now.options.links links }
+    ensures value { IfOk result (λ caps. caps.items ≡ link_caps net.now.options.links (caps_of net.now.net) links) }
+    ensures count { IfOk result (λ caps. length caps.items ≡ links) }
     ensures limit { IfOk result (λ caps. All (λ cap. cap ≤ MAX_UNITS) caps.items) }
 {
-    net.cells().iter().map(|c| c.cap).collect(alloc)
+    let mode = net.options().links;
+    let cells = net.net().cells();
+    let mut caps = Vec::with_capacity(alloc, links as usize)?;
+    for link in 0..links {
+        let first = cells_of(mode, link) as usize;
+        caps.push(cells[first].cap)?;
+    }
+    Ok(caps)
 }
 
 // The steps of the tokens, where `end` is the line of the end.
@@ -67,7 +79,9 @@ fn scan_tokens(
     requires caps { All (λ cap. cap ≤ MAX_UNITS) start.caps.items }
     requires steps { AreSteps (length start.caps.items) start.steps.items }
     requires expected { IsExpected (length start.caps.items) start.expected }
-    ensures value { Reads (λ r. r.steps.items) result (scan (record { links = names_of_links raw.now; decimals = decimals }) end (sofar_of start) tokens.entry.tokens) }
+    ensures value { Reads (λ r. r.steps.items) result
+        (scan (record { links = names_of_links raw.now; decimals = decimals }) end (sofar_of start)
+        tokens.entry.tokens) }
     ensures steps { IfOk result (λ r. AreSteps (length raw.now.links) r.steps.items) }
 {
     let mut rest = tokens;
@@ -94,7 +108,8 @@ fn scan_tokens(
 }
 
 impl Script {
-    /// The steps that the text stands for, on the network of these rows; or the first refusal, where the whole text is judged.
+    /// The steps that the text stands for, on the network of these rows; or the first refusal, where the whole text is
+    /// judged. Its steps are of links, in every mode.
     pub fn read(
         alloc: Global,
         raw: &RawNet<'_>,
@@ -102,11 +117,12 @@ impl Script {
         text: &[u8],
     ) -> Result<Script, ScriptEnd>
         requires text { length text.now ≤ MAX_SCRIPT_BYTES }
-        requires cells { length net.now.net.cells ≡ length raw.now.links }
-        ensures value { Reads (λ s. s) result (script_of raw.now net.now text.now) }
-        ensures steps { IfOk result (λ s. AreSteps (length net.now.net.cells) s) }
+        requires cells { length net.now.net.cells ≡ cells_of net.now.options.links (length raw.now.links) }
+        ensures value { Reads (λ s. s.steps) result (script_of raw.now net.now text.now) }
+        ensures links { IfOk result (λ s. s.mode ≡ net.now.options.links) }
+        ensures steps { IfOk result (λ s. AreSteps (length raw.now.links) s.steps) }
     {
-        let caps = match capacities(alloc, net.net()) {
+        let caps = match capacities(alloc, net, raw.links()) {
             Ok(caps) => caps,
             Err(_) => return Err(ScriptEnd::Memory),
         };
@@ -118,6 +134,7 @@ impl Script {
         let tokens = Tokens::new(text, 0, 1);
         match scan_tokens(raw, net.decimals(), start, tokens, end_line(text)) {
             Ok(reading) => Ok(Script {
+                links: net.options().links,
                 steps: reading.steps,
             }),
             Err(end) => Err(end),

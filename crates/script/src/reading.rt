@@ -10,7 +10,7 @@ use crate::word::{Expected, Meaning};
 use mcf_limits::MAX_UNITS;
 use std::alloc::AllocError;
 
-/// What is expected next, the capacities as they are now, and the steps so far.
+/// What is expected next, the capacities of the links as they are now, and the steps so far.
 #[derive(Drop)]
 pub struct Reading {
     pub expected: Expected,
@@ -33,9 +33,9 @@ pub fn take(reading: &mut Reading, meaning: Meaning) -> Result<(), AllocError>
         Meaning::Expects(expected) => {
             reading.expected = expected;
         }
-        Meaning::Edits(cell, cap) => {
-            reading.steps.push(Step::Edit { cell, cap })?;
-            reading.caps[cell as usize] = cap;
+        Meaning::Edits(link, cap) => {
+            reading.steps.push(Step::Edit { link, cap })?;
+            reading.caps[link as usize] = cap;
             reading.expected = Expected::Command;
         }
         Meaning::Shows => {

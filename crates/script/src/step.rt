@@ -2,34 +2,43 @@
 
 ghost use Rattle.std.specs.Prelude.{◌≡◌};
 
+use net_options::LinkMode;
 use std::marker::Model;
 
-/// One step: a cell gets this capacity, in units, or the bounds are shown.
+/// One step: a link gets this capacity, in units, or the bounds are shown. In bidirected mode the capacity is that of each
+/// of the link's cells.
 #[derive(Clone, Copy, Debug, PartialEq, Eq)]
 pub enum Step {
-    Edit { cell: u16, cap: u64 },
+    Edit { link: u16, cap: u64 },
     Show,
 }
 
-/// A script that was read. It is seen as its steps.
+/// A script that was read. It is seen as how its links are read, and its steps.
 #[derive(Drop)]
 pub struct Script {
+    pub(crate) links: LinkMode,
     pub(crate) steps: Vec<Step>,
 }
 
 impl Model for Script {
-    ghost use Rattle.std.specs.Prelude.{List};
-    ghost use Rattle.script.specs.declared.step.Step.{Step};
+    ghost use Rattle.script.specs.Steps.{ScriptView};
 
-    ghost Value = { List Step };
+    ghost Value = { ScriptView };
 
-    ghost view = { λ s. s.steps.items };
+    ghost view = { λ s. record { mode = s.links; steps = s.steps.items } };
 }
 
 impl Script {
+    /// How the links of its steps are read.
+    pub fn links(&self) -> LinkMode
+        ensures { result ≡ self.now.mode }
+    {
+        self.links
+    }
+
     /// The steps, in order.
     pub fn steps(&self) -> &[Step]
-        ensures { result.now ≡ self.now }
+        ensures { result.now ≡ self.now.steps }
     {
         &self.steps
     }

@@ -38,7 +38,7 @@ pub enum Expected {
     Link(Change),
     /// The link that is closed.
     Closing,
-    /// The number of a change of that cell.
+    /// The number of a change of that link.
     Number(Change, u16),
 }
 
@@ -47,7 +47,7 @@ pub enum Expected {
 pub enum Meaning {
     /// The command goes on.
     Expects(Expected),
-    /// The cell gets the capacity.
+    /// The link gets the capacity.
     Edits(u16, u64),
     Shows,
 }
@@ -100,18 +100,18 @@ fn changed(change: Change, cap: u64, n: u64) -> Result<u64, ScriptKind>
     }
 }
 
-// The number of a change of a cell with that capacity.
+// The number of a change of a link with that capacity.
 fn number(
     change: Change,
-    cell: u16,
+    link: u16,
     cap: u64,
     word: &[u8],
     decimals: u8,
 ) -> Result<Meaning, ScriptKind>
     requires cap { cap ≤ MAX_UNITS }
     requires decimals { decimals ≤ MAX_DECIMALS }
-    ensures value { result ≡ number_read change cell cap (units_read decimals (number_of word.now)) }
-    ensures meant { (n : ℕ) → cell < n → IfOk result (IsMeant n) }
+    ensures value { result ≡ number_read change link cap (units_read decimals (number_of word.now)) }
+    ensures meant { (n : ℕ) → link < n → IfOk result (IsMeant n) }
 {
     let n = match units(word, decimals) {
         Ok(n) => n,
@@ -120,12 +120,12 @@ fn number(
         Err(UnitFault::TooLarge) => return Err(ScriptKind::TooLarge),
     };
     match changed(change, cap, n) {
-        Ok(new) => Ok(Meaning::Edits(cell, new)),
+        Ok(new) => Ok(Meaning::Edits(link, new)),
         Err(kind) => Err(kind),
     }
 }
 
-/// What the word means where that is expected, under these capacities; or the first thing that is wrong with it.
+/// What the word means where that is expected, under these capacities of links; or the first thing that is wrong with it.
 pub fn word_meaning(
     raw: &RawNet<'_>,
     decimals: u8,
@@ -137,21 +137,22 @@ pub fn word_meaning(
     requires count { length caps.now ≡ length raw.now.links }
     requires caps { All (λ cap. cap ≤ MAX_UNITS) caps.now }
     requires expected { IsExpected (length caps.now) expected }
-    ensures value { result ≡ meaning_of (record { links = names_of_links raw.now; decimals = decimals }) caps.now expected word.now }
+    ensures value { result ≡ meaning_of (record { links = names_of_links raw.now; decimals = decimals }) caps.now
+        expected word.now }
     ensures meant { IfOk result (IsMeant (length caps.now)) }
 {
     match expected {
         Expected::Command => command(word),
         Expected::Link(change) => match raw.link_named(word) {
-            Some(cell) => Ok(Meaning::Expects(Expected::Number(change, cell))),
+            Some(link) => Ok(Meaning::Expects(Expected::Number(change, link))),
             None => Err(ScriptKind::UnknownLink),
         },
         Expected::Closing => match raw.link_named(word) {
-            Some(cell) => Ok(Meaning::Edits(cell, 0)),
+            Some(link) => Ok(Meaning::Edits(link, 0)),
             None => Err(ScriptKind::UnknownLink),
         },
-        Expected::Number(change, cell) => {
-            number(change, cell, caps[cell as usize], word, decimals)
+        Expected::Number(change, link) => {
+            number(change, link, caps[link as usize], word, decimals)
         }
     }
 }

@@ -86,19 +86,19 @@ verb_is w m e = elim (if_ok (bytes_eq w (codes "set")) (Ok (Expects (Link Set)))
   | inr h ↦ add_is w m h
 ]
 
-linked_is : (f : ℕ → Meaning) (o : Option ℕ) (m : Meaning) → linked f o ≡ Ok m → (cell : ℕ) × (o ≡ Some cell) × (f cell ≡ m)
+linked_is : (f : ℕ → Meaning) (o : Option ℕ) (m : Meaning) → linked f o ≡ Ok m → (link : ℕ) × (o ≡ Some link) × (f link ≡ m)
 linked_is f None m e = absurd cc
-linked_is f (Some cell) m e = (cell, refl, ok_is (f cell) m e)
+linked_is f (Some link) m e = (link, refl, ok_is (f link) m e)
 
-edits_is : (cell : ℕ) (r : Result ℕ ScriptKind) (m : Meaning) → edits cell r ≡ Ok m → (cap : ℕ) × (r ≡ Ok cap) × (Edits cell cap ≡ m)
-edits_is cell (Ok cap) m e = (cap, refl, ok_is (Edits cell cap) m e)
-edits_is cell (Err kind) m e = absurd cc
+edits_is : (link : ℕ) (r : Result ℕ ScriptKind) (m : Meaning) → edits link r ≡ Ok m → (cap : ℕ) × (r ≡ Ok cap) × (Edits link cap ≡ m)
+edits_is link (Ok cap) m e = (cap, refl, ok_is (Edits link cap) m e)
+edits_is link (Err kind) m e = absurd cc
 
-number_is : (change : Change) (cell cap : ℕ) (r : Result ℕ UnitFault) (m : Meaning) → number change cell cap r ≡ Ok m → (n : ℕ) × (r ≡ Ok n) × (new : ℕ) × (changed change cap n ≡ Ok new) × (Edits cell new ≡ m)
-number_is change cell cap (Ok n) m e = let h = edits_is cell (changed change cap n) m e in (n, refl, h.0, h.1, h.2)
-number_is change cell cap (Err faults.NotNumber) m e = absurd cc
-number_is change cell cap (Err faults.TooFine) m e = absurd cc
-number_is change cell cap (Err faults.TooLarge) m e = absurd cc
+number_is : (change : Change) (link cap : ℕ) (r : Result ℕ UnitFault) (m : Meaning) → number change link cap r ≡ Ok m → (n : ℕ) × (r ≡ Ok n) × (new : ℕ) × (changed change cap n ≡ Ok new) × (Edits link new ≡ m)
+number_is change link cap (Ok n) m e = let h = edits_is link (changed change cap n) m e in (n, refl, h.0, h.1, h.2)
+number_is change link cap (Err faults.NotNumber) m e = absurd cc
+number_is change link cap (Err faults.TooFine) m e = absurd cc
+number_is change link cap (Err faults.TooLarge) m e = absurd cc
 
 -- ---- a token that is not refused
 
@@ -134,7 +134,7 @@ abbrev Continues : Terms → List ℕ → Expected → List Lexeme → List Step
 Continues terms caps Command tokens steps = AreCommands terms caps tokens steps
 Continues terms caps (Link change) tokens steps = (verb : Lexeme) → IsWord verb → verb.text ≡ change_word change → AreCommands terms caps (verb ∷ tokens) steps
 Continues terms caps Closing tokens steps = (verb : Lexeme) → IsWord verb → verb.text ≡ codes "close" → AreCommands terms caps (verb ∷ tokens) steps
-Continues terms caps (Number change cell) tokens steps = (verb link : Lexeme) → IsWord verb → verb.text ≡ change_word change → IsWord link → link_of terms link.text ≡ Some cell → AreCommands terms caps (verb ∷ link ∷ tokens) steps
+Continues terms caps (Number change link) tokens steps = (verb id : Lexeme) → IsWord verb → verb.text ≡ change_word change → IsWord id → link_of terms id.text ≡ Some link → AreCommands terms caps (verb ∷ id ∷ tokens) steps
 
 record Found (terms : Terms) (caps : List ℕ) (acc : List Step) (e : Expected) (tokens : List Lexeme) (r : List Step) : Type 0 where
   steps : List Step
@@ -148,7 +148,7 @@ at_end : (terms : Terms) (end : ℕ) → Finds terms end []
 at_end terms end Command caps acc r e = record { steps = []; whole = sym (ok_is acc r e) ∙ sym (append-nil acc); continues = refl }
 at_end terms end (Link change) caps acc r e = absurd cc
 at_end terms end Closing caps acc r e = absurd cc
-at_end terms end (Number change cell) caps acc r e = absurd cc
+at_end terms end (Number change link) caps acc r e = absurd cc
 
 -- an edit or a `show` in front
 in_front : (acc steps r : List Step) (x : Step) → r ≡ (acc ++ x ∷ []) ++ steps → r ≡ acc ++ x ∷ steps
@@ -180,17 +180,17 @@ on_closing terms end t ts caps acc r ih g =
     record {
       steps = Edit l.0 0 ∷ f.steps;
       whole = in_front acc f.steps r (Edit l.0 0) f.whole;
-      continues = λ verb w is. (ts, inl (record { verb = verb; link = t; spelled = refl; word = w; closes = is; link_word = g.word; names = l.1 }, refl), f.continues);
+      continues = λ verb w is. (ts, inl (record { verb = verb; id = t; spelled = refl; word = w; closes = is; id_word = g.word; names = l.1 }, refl), f.continues);
     }
 
-on_number : (terms : Terms) (end : ℕ) (change : Change) (cell : ℕ) (t : Lexeme) (ts : List Lexeme) (caps : List ℕ) (acc r : List Step) → Finds terms end ts → Goes terms end (state (Number change cell) caps acc) t ts r → Found terms caps acc (Number change cell) (t ∷ ts) r
-on_number terms end change cell t ts caps acc r ih g =
-    let l = number_is change cell (get_or caps cell 0) (units_read terms.decimals (number_of t.text)) g.m g.means in
-    let f = ih Command (set caps cell l.2) (acc ++ Edit cell l.2 ∷ []) r (subst (λ (x : Meaning). scan terms end (after (state (Number change cell) caps acc) x) ts ≡ Ok r) (sym l.4) g.rest) in
+on_number : (terms : Terms) (end : ℕ) (change : Change) (link : ℕ) (t : Lexeme) (ts : List Lexeme) (caps : List ℕ) (acc r : List Step) → Finds terms end ts → Goes terms end (state (Number change link) caps acc) t ts r → Found terms caps acc (Number change link) (t ∷ ts) r
+on_number terms end change link t ts caps acc r ih g =
+    let l = number_is change link (get_or caps link 0) (units_read terms.decimals (number_of t.text)) g.m g.means in
+    let f = ih Command (set caps link l.2) (acc ++ Edit link l.2 ∷ []) r (subst (λ (x : Meaning). scan terms end (after (state (Number change link) caps acc) x) ts ≡ Ok r) (sym l.4) g.rest) in
     record {
-      steps = Edit cell l.2 ∷ f.steps;
-      whole = in_front acc f.steps r (Edit cell l.2) f.whole;
-      continues = λ verb link w is lw names. (ts, inr (change, record { verb = verb; link = link; number = t; spelled = refl; word = w; changes = is; link_word = lw; names = names; number_word = g.word; count = l.0; reads = l.1; gives = l.3 }), f.continues);
+      steps = Edit link l.2 ∷ f.steps;
+      whole = in_front acc f.steps r (Edit link l.2) f.whole;
+      continues = λ verb id w is iw names. (ts, inr (change, record { verb = verb; id = id; number = t; spelled = refl; word = w; changes = is; id_word = iw; names = names; number_word = g.word; count = l.0; reads = l.1; gives = l.3 }), f.continues);
     }
 
 finds : (terms : Terms) (end : ℕ) (tokens : List Lexeme) → Finds terms end tokens
@@ -198,7 +198,7 @@ finds terms end [] e caps acc r h = at_end terms end e caps acc r h
 finds terms end (t ∷ ts) Command caps acc r h = on_command terms end t ts caps acc r (finds terms end ts) (goes terms end (state Command caps acc) t ts r h)
 finds terms end (t ∷ ts) (Link change) caps acc r h = on_link terms end change t ts caps acc r (finds terms end ts) (goes terms end (state (Link change) caps acc) t ts r h)
 finds terms end (t ∷ ts) Closing caps acc r h = on_closing terms end t ts caps acc r (finds terms end ts) (goes terms end (state Closing caps acc) t ts r h)
-finds terms end (t ∷ ts) (Number change cell) caps acc r h = on_number terms end change cell t ts caps acc r (finds terms end ts) (goes terms end (state (Number change cell) caps acc) t ts r h)
+finds terms end (t ∷ ts) (Number change link) caps acc r h = on_number terms end change link t ts caps acc r (finds terms end ts) (goes terms end (state (Number change link) caps acc) t ts r h)
 
 pub read_commands : (terms : Terms) (end : ℕ) (caps : List ℕ) (tokens : List Lexeme) (steps : List Step) → scan terms end (state Command caps []) tokens ≡ Ok steps → AreCommands terms caps tokens steps
 read_commands terms end caps tokens steps h =

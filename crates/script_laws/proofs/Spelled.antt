@@ -41,20 +41,20 @@ show_read : (terms : Terms) (end : ℕ) (caps : List ℕ) (acc : List Step) (tok
 show_read terms end caps acc tokens rest h =
     ap (scan terms end (state Command caps acc)) h.spelled ∙ word_means terms end Command caps acc h.verb rest Shows h.word (ap command h.shows)
 
-close_read : (terms : Terms) (end : ℕ) (caps : List ℕ) (acc : List Step) (tokens rest : List Lexeme) (cell : ℕ) → IsClose terms tokens rest cell
-    → scan terms end (state Command caps acc) tokens ≡ scan terms end (state Command (set caps cell 0) (acc ++ Edit cell 0 ∷ [])) rest
-close_read terms end caps acc tokens rest cell h =
+close_read : (terms : Terms) (end : ℕ) (caps : List ℕ) (acc : List Step) (tokens rest : List Lexeme) (link : ℕ) → IsClose terms tokens rest link
+    → scan terms end (state Command caps acc) tokens ≡ scan terms end (state Command (set caps link 0) (acc ++ Edit link 0 ∷ [])) rest
+close_read terms end caps acc tokens rest link h =
     ap (scan terms end (state Command caps acc)) h.spelled
-    ∙ (word_means terms end Command caps acc h.verb (h.link ∷ rest) (Expects Closing) h.word (ap command h.closes)
-    ∙ word_means terms end Closing caps acc h.link rest (Edits cell 0) h.link_word (ap (linked (λ c. Edits c 0)) h.names))
+    ∙ (word_means terms end Command caps acc h.verb (h.id ∷ rest) (Expects Closing) h.word (ap command h.closes)
+    ∙ word_means terms end Closing caps acc h.id rest (Edits link 0) h.id_word (ap (linked (λ c. Edits c 0)) h.names))
 
-change_read : (terms : Terms) (end : ℕ) (caps : List ℕ) (acc : List Step) (change : Change) (tokens rest : List Lexeme) (cell cap : ℕ) → IsChange terms caps change tokens rest cell cap
-    → scan terms end (state Command caps acc) tokens ≡ scan terms end (state Command (set caps cell cap) (acc ++ Edit cell cap ∷ [])) rest
-change_read terms end caps acc change tokens rest cell cap h =
+change_read : (terms : Terms) (end : ℕ) (caps : List ℕ) (acc : List Step) (change : Change) (tokens rest : List Lexeme) (link cap : ℕ) → IsChange terms caps change tokens rest link cap
+    → scan terms end (state Command caps acc) tokens ≡ scan terms end (state Command (set caps link cap) (acc ++ Edit link cap ∷ [])) rest
+change_read terms end caps acc change tokens rest link cap h =
     ap (scan terms end (state Command caps acc)) h.spelled
-    ∙ (word_means terms end Command caps acc h.verb (h.link ∷ h.number ∷ rest) (Expects (Link change)) h.word (ap command h.changes ∙ change_command change)
-    ∙ (word_means terms end (Link change) caps acc h.link (h.number ∷ rest) (Expects (Number change cell)) h.link_word (ap (linked (λ c. Expects (Number change c))) h.names)
-    ∙ word_means terms end (Number change cell) caps acc h.number rest (Edits cell cap) h.number_word (ap (number change cell (get_or caps cell 0)) h.reads ∙ ap (edits cell) h.gives)))
+    ∙ (word_means terms end Command caps acc h.verb (h.id ∷ h.number ∷ rest) (Expects (Link change)) h.word (ap command h.changes ∙ change_command change)
+    ∙ (word_means terms end (Link change) caps acc h.id (h.number ∷ rest) (Expects (Number change link)) h.id_word (ap (linked (λ c. Expects (Number change c))) h.names)
+    ∙ word_means terms end (Number change link) caps acc h.number rest (Edits link cap) h.number_word (ap (number change link (get_or caps link 0)) h.reads ∙ ap (edits link) h.gives)))
 
 -- the steps behind those so far
 behind : (acc steps : List Step) (x : Step) (r : Result (List Step) ScriptRefusal) → r ≡ Ok ((acc ++ x ∷ []) ++ steps) → r ≡ Ok (acc ++ x ∷ steps)
@@ -64,11 +64,11 @@ all_read : (terms : Terms) (end : ℕ) (steps : List Step) (caps : List ℕ) (ac
 all_read terms end [] caps acc tokens h = ap (scan terms end (state Command caps acc)) h ∙ ap (λ (l : List Step). Ok l) (sym (append-nil acc))
 all_read terms end (Show ∷ steps) caps acc tokens (rest, here, more) =
     behind acc steps Show (scan terms end (state Command caps acc) tokens) (show_read terms end caps acc tokens rest here ∙ all_read terms end steps caps (acc ++ Show ∷ []) rest more)
-all_read terms end (Edit cell cap ∷ steps) caps acc tokens (rest, inl here, more) =
-    let zeroed : scan terms end (state Command (set caps cell 0) (acc ++ Edit cell 0 ∷ [])) rest ≡ scan terms end (state Command (set caps cell cap) (acc ++ Edit cell cap ∷ [])) rest = ap (λ n. scan terms end (state Command (set caps cell n) (acc ++ Edit cell n ∷ [])) rest) (sym here.1) in
-    behind acc steps (Edit cell cap) (scan terms end (state Command caps acc) tokens) (close_read terms end caps acc tokens rest cell here.0 ∙ (zeroed ∙ all_read terms end steps (set caps cell cap) (acc ++ Edit cell cap ∷ []) rest more))
-all_read terms end (Edit cell cap ∷ steps) caps acc tokens (rest, inr (change, here), more) =
-    behind acc steps (Edit cell cap) (scan terms end (state Command caps acc) tokens) (change_read terms end caps acc change tokens rest cell cap here ∙ all_read terms end steps (set caps cell cap) (acc ++ Edit cell cap ∷ []) rest more)
+all_read terms end (Edit link cap ∷ steps) caps acc tokens (rest, inl here, more) =
+    let zeroed : scan terms end (state Command (set caps link 0) (acc ++ Edit link 0 ∷ [])) rest ≡ scan terms end (state Command (set caps link cap) (acc ++ Edit link cap ∷ [])) rest = ap (λ n. scan terms end (state Command (set caps link n) (acc ++ Edit link n ∷ [])) rest) (sym here.1) in
+    behind acc steps (Edit link cap) (scan terms end (state Command caps acc) tokens) (close_read terms end caps acc tokens rest link here.0 ∙ (zeroed ∙ all_read terms end steps (set caps link cap) (acc ++ Edit link cap ∷ []) rest more))
+all_read terms end (Edit link cap ∷ steps) caps acc tokens (rest, inr (change, here), more) =
+    behind acc steps (Edit link cap) (scan terms end (state Command caps acc) tokens) (change_read terms end caps acc change tokens rest link cap here ∙ all_read terms end steps (set caps link cap) (acc ++ Edit link cap ∷ []) rest more)
 
 pub commands_read : (terms : Terms) (end : ℕ) (caps : List ℕ) (tokens : List Lexeme) (steps : List Step) → AreCommands terms caps tokens steps → scan terms end (state Command caps []) tokens ≡ Ok steps
 commands_read terms end caps tokens steps h = all_read terms end steps caps [] tokens h

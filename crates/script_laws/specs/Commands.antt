@@ -28,34 +28,35 @@ pub record IsShow (tokens rest : List Lexeme) : Type 0 where
   pub word : IsWord verb
   pub shows : verb.text ≡ codes "show"
 
--- the tokens begin with `close` and the link of the cell
-pub record IsClose (terms : Terms) (tokens rest : List Lexeme) (cell : ℕ) : Type 0 where
+-- the tokens begin with `close` and the id of the link
+pub record IsClose (terms : Terms) (tokens rest : List Lexeme) (link : ℕ) : Type 0 where
   pub verb : Lexeme
-  pub link : Lexeme
-  pub spelled : tokens ≡ verb ∷ link ∷ rest
+  pub id : Lexeme
+  pub spelled : tokens ≡ verb ∷ id ∷ rest
   pub word : IsWord verb
   pub closes : verb.text ≡ codes "close"
-  pub link_word : IsWord link
-  pub names : link_of terms link.text ≡ Some cell
+  pub id_word : IsWord id
+  pub names : link_of terms id.text ≡ Some link
 
--- the tokens begin with a change, the link of the cell and a number of units that changes its capacity to that
-pub record IsChange (terms : Terms) (caps : List ℕ) (change : Change) (tokens rest : List Lexeme) (cell cap : ℕ) : Type 0 where
+-- the tokens begin with a change, the id of the link and a number of units that changes its capacity to that
+pub record IsChange (terms : Terms) (caps : List ℕ) (change : Change) (tokens rest : List Lexeme) (link cap : ℕ) : Type 0 where
   pub verb : Lexeme
-  pub link : Lexeme
+  pub id : Lexeme
   pub number : Lexeme
-  pub spelled : tokens ≡ verb ∷ link ∷ number ∷ rest
+  pub spelled : tokens ≡ verb ∷ id ∷ number ∷ rest
   pub word : IsWord verb
   pub changes : verb.text ≡ change_word change
-  pub link_word : IsWord link
-  pub names : link_of terms link.text ≡ Some cell
+  pub id_word : IsWord id
+  pub names : link_of terms id.text ≡ Some link
   pub number_word : IsWord number
   pub count : ℕ
   pub reads : units_read terms.decimals (number_of number.text) ≡ Ok count
-  pub gives : changed change (slice_index caps cell) count ≡ Ok cap
+  pub gives : changed change (slice_index caps link) count ≡ Ok cap
 
--- the tokens are commands, one after the other, that do these steps under these capacities
+-- the tokens are commands, one after the other, that do these steps under these capacities of links
 abbrev pub AreCommands : Terms → List ℕ → List Lexeme → List Step → Type 0
 AreCommands terms caps tokens [] = tokens ≡ []
 AreCommands terms caps tokens (Show ∷ steps) = (rest : List Lexeme) × IsShow tokens rest × AreCommands terms caps rest steps
-AreCommands terms caps tokens (Edit cell cap ∷ steps) =
-    (rest : List Lexeme) × ((IsClose terms tokens rest cell × (cap ≡ 0)) ⊎ ((change : Change) × IsChange terms caps change tokens rest cell cap)) × AreCommands terms (slice_set caps cell cap) rest steps
+AreCommands terms caps tokens (Edit link cap ∷ steps) =
+    (rest : List Lexeme) × ((IsClose terms tokens rest link × (cap ≡ 0)) ⊎ ((change : Change) × IsChange terms caps change tokens rest link cap))
+    × AreCommands terms (slice_set caps link cap) rest steps

@@ -7,7 +7,8 @@ use Rattle.sndlib_grammar.specs.Rows.{NetRows}
 use Rattle.sndlib_grammar.specs.declared.refusal.NetRefusal.{NetRefusal}
 use Rattle.unit_scale.specs.Scaling.{ScaledNet, scaled_of}
 use Rattle.net_options.specs.declared.options.NetOptions.{NetOptions}
-use Rattle.cert_names.specs.Sheet.{IsOf, sheet_of}
+use Rattle.cert_names.specs.Sheet.{IsOf, sheet_of, sheets_of}
+use Rattle.cert_names.specs.declared.form.Form.TheVariants.{Second}
 use Rattle.cert_lines.specs.declared.net_line.TheConstants.{MAX_COUNT}
 use Rattle.cert_lines.specs.declared.refusal.CertRefusal.{CertRefusal}
 use Rattle.cert_text.specs.declared.papers.Paper.{Paper}
@@ -19,12 +20,13 @@ use Rattle.cert_laws.specs.Fits.{read}
 use Rattle.cert_check.proofs.Sound.{valid_certifies}
 use Rattle.cert_judge.specs.Judgement.{IsSaidOf, OnPaper, OnNet, OnHead, IsJudgement}
 use Rattle.cert_inverse.specs.Judging.{valid_of}
-use Rattle.cert_inverse.proofs.NetworkWords.{citable, is_scaled}
+use Rattle.cert_inverse.proofs.NetworkWords.{citable, in_forms, is_scaled}
 use Rattle.cert_inverse.proofs.HeadsAgain.{heads_again}
+use Rattle.cert_inverse.proofs.JudgedTexts.{modes_of}
 use Rattle.cert_inverse.proofs.TextAgain.{reads_back}
 
-pub read_back : (rows : NetRows) (net : ScaledNet) (p : Proof) → IsOf rows net → rows.skipped ≤ MAX_COUNT → FitsProof (sheet_of rows net) p → paper_in (sheet_of rows net) (lines_of (certificate_text (sheet_of rows net) p)) ≡ read (Full p)
-read_back rows net p of few fits = reads_back (sheet_of rows net) (Full p) (citable rows net of few) fits
+pub read_back : (rows : NetRows) (net : ScaledNet) (p : Proof) → IsOf rows net → rows.skipped ≤ MAX_COUNT → FitsProof (sheet_of rows net) p → paper_in (sheets_of rows net) (lines_of (certificate_text (sheet_of rows net) p)) ≡ read (Full p)
+read_back rows net p of few fits = reads_back (sheets_of rows net) Second (Full p) (in_forms rows net) (citable rows net of few) fits
 
 -- the network was scaled under its options
 under_options : (rows : NetRows) (net : ScaledNet) → IsOf rows net → scaled_of rows net.options ≡ Ok net
@@ -37,7 +39,7 @@ judged_valid rows net p of few fits valid =
     let lines = lines_of (certificate_text sheet p) in
     let judged = valid_of net p in
     let said : IsSaidOf net.options net.net (Full p) judged = (refl, refl, refl, refl, valid, valid_certifies net.net p valid) in
-    let at_paper : OnPaper net.options net.net (paper_in sheet lines) judged = subst (λ (r : Result Paper CertRefusal). OnPaper net.options net.net r judged) (sym (read_back rows net p of few fits)) said in
+    let at_paper : OnPaper net.options net.net (paper_in (sheets_of rows net) lines) judged = subst (λ (r : Result Paper CertRefusal). OnPaper net.options net.net r judged) (sym (read_back rows net p of few fits)) said in
     let at_net : OnNet rows lines net.options (scaled_of rows net.options) judged = subst (λ (r : Result ScaledNet NetRefusal). OnNet rows lines net.options r judged) (sym (under_options rows net of)) at_paper in
-    let head = heads_again sheet net.options (Full p) (citable rows net of few) fits (record { links = refl; modules = refl }) in
+    let head = heads_again sheet Second net.options (Full p) (citable rows net of few) fits (modes_of rows net) in
     subst (λ (r : Result CertHead CertRefusal). OnHead rows lines r judged) (sym head) at_net

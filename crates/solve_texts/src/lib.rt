@@ -1,4 +1,5 @@
-//! The texts of what is solved: the solver's own certificate can be written, is read back, and is judged valid.
+//! The texts of what is solved: the solver's own certificate can be written, is read back, and is
+//! judged valid.
 #![tactic(auto)]
 
 mod laws;

@@ -1,5 +1,5 @@
 -- What a solve answers, and what its phases have done.
-use Rattle.std.specs.Prelude.{◌≡◌, ℕ, ◌*◌, ◌<◌, ◌≤◌, ◌==◌, true, false, IsTrue, if◌then◌else◌, List, [], ◌∷◌, All, AllPairs, length, map, take, flat_map, sum_by, count_by, Some, slice_get}
+use Rattle.std.specs.Prelude.{◌≡◌, ℕ, ◌*◌, ◌<◌, ◌≤◌, ◌==◌, true, false, IsTrue, if◌then◌else◌, List, All, AllPairs, length, map, take, flat_map, sum_by, count_by, Some, slice_get}
 use Rattle.flow_model.specs.declared.net.Commodity.{Commodity}
 use Rattle.flow_model.specs.declared.setting.Setting.{Setting}
 use Rattle.flow_model.specs.Network.{Network}

@@ -1,5 +1,5 @@
 -- A run of the solver.
-use Rattle.std.specs.Prelude.{◌≡◌, ◌⊎◌, ◌↔◌, ℕ, ◌+◌, ◌<◌, ◌≤◌, true, false, IsTrue, if◌then◌else◌, List, [], ◌∷◌, length, take, slice_index_or}
+use Rattle.std.specs.Prelude.{◌≡◌, ◌⊎◌, ◌↔◌, ℕ, ◌+◌, ◌<◌, ◌≤◌, true, false, IsTrue, List, [], length, take, slice_index_or}
 use Rattle.flow_model.specs.Network.{Network}
 use Rattle.flow_model.specs.Least.{HasCut, HasNoCut}
 use Rattle.flow_model.specs.Lengths.{lengths_of}

@@ -7,7 +7,8 @@ mod small;
 
 pub use laws::{
     duals_show_their_bounds, kept_bound_is_first_of_the_least, least_walks_are_short,
-    phases_have_paths, rows_load_what_phases_load, run_keeps_the_gap, runs_are_solved, solved_is_certified,
+    phases_have_paths, rows_load_what_phases_load, run_keeps_the_gap, runs_are_solved,
+    solved_is_certified,
 };
 pub use options::{Entry, SolveOptions};
 pub use small::{

@@ -10,7 +10,11 @@ use Rattle.flow_paths.specs.Certificate.{length_of}
 use Rattle.flow_paths.specs.Evaluation.{with_caps}
 use Rattle.whatif.specs.declared.ratio.Ratio.{Ratio}
 use Rattle.whatif.specs.Ratios.{ratio_of}
-use Rattle.whatif.specs.Planned.{Planned, IsPlanned, IsKept, with_cap}
+use Rattle.net_options.specs.declared.modes.LinkMode.{LinkMode}
+use Rattle.script.specs.declared.step.Step.TheVariants.{Edit}
+use Rattle.whatif.specs.Planned.{Planned, IsPlanned, IsKept, after_step, with_cap}
+use Rattle.cell_dir.proofs.Links.{with_link_length}
+use Rattle.whatif.proofs.Links.{with_link-small}
 use Rattle.whatif.proofs.Sums.{with_caps-length, volume-set, volume-le, part-le, ratios-set}
 use Rattle.whatif.proofs.Filling.{ratios-length}
 
@@ -54,6 +58,16 @@ planned_set p c cap small h = record {
   valid = h.valid;
   count = length-set p.caps c cap ∙ h.count;
   caps = All-set (λ n. n ≤ MAX_UNITS) p.caps c cap small h.caps;
+}
+
+-- the same with each cell of a link
+pub planned_link : (mode : LinkMode) (p : Planned) (link cap : ℕ) → cap ≤ MAX_UNITS → IsPlanned p → IsPlanned (after_step mode p (Edit link cap))
+planned_link mode p link cap small h = record {
+  net = h.net;
+  proof = h.proof;
+  valid = h.valid;
+  count = with_link_length mode p.caps link cap ∙ h.count;
+  caps = with_link-small mode p.caps link cap small h.caps;
 }
 
 pub kept_set : (p : Planned) (loads lengths : List ℕ) (tree : List Ratio) (sum distance c cap next : ℕ) → IsKept p loads lengths tree sum distance → c < length p.caps → cap ≤ MAX_UNITS

@@ -1,3 +1,4 @@
+pub mod Links
 pub mod Trees
 pub mod Filling
 pub mod Sums

@@ -8,6 +8,8 @@ use Rattle.flow_model.specs.Bound.{volume}
 use Rattle.flow_paths.specs.declared.certificate.Proof.{Proof}
 use Rattle.flow_paths.specs.Certificate.{IsProofOf, IsValid, lengths_in, upper_of}
 use Rattle.flow_paths.specs.Evaluation.{Evaluation, evaluation, fill, loads_of, with_caps}
+use Rattle.net_options.specs.declared.modes.LinkMode.{LinkMode}
+use Rattle.cell_dir.specs.Closed.{with_link}
 use Rattle.script.specs.declared.step.Step.{Step}
 use Rattle.script.specs.declared.step.Step.TheVariants.{Edit, Show}
 use Rattle.whatif.specs.declared.bounds.Bounds.{Bounds}
@@ -29,14 +31,14 @@ shown_of p = evaluation p.net p.proof.routing.phases p.proof.routing.paths p.pro
 abbrev pub with_cap : Planned → ℕ → ℕ → Planned
 with_cap p cell cap = record p { caps = slice_set p.caps cell cap }
 
--- the plan after steps of a script
-abbrev pub after_step : Planned → Step → Planned
-after_step p (Edit cell cap) = with_cap p cell cap
-after_step p Show = p
+-- the plan after a step of a script: an edit gives each cell of its link the capacity
+abbrev pub after_step : LinkMode → Planned → Step → Planned
+after_step mode p (Edit link cap) = record p { caps = with_link mode p.caps link cap }
+after_step mode p Show = p
 
-abbrev pub after_steps : Planned → List Step → Planned
-after_steps p [] = p
-after_steps p (step ∷ steps) = after_steps (after_step p step) steps
+abbrev pub after_steps : LinkMode → Planned → List Step → Planned
+after_steps mode p [] = p
+after_steps mode p (step ∷ steps) = after_steps mode (after_step mode p step) steps
 
 -- the certificate is valid for the network, and there is one capacity within the limits for each cell
 pub record IsPlanned (p : Planned) : Type 0 where

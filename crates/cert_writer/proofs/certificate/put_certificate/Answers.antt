@@ -1,6 +1,4 @@
-use Rattle.std.proofs.Common.{◌∷◌, []}
-use Rattle.cert_lines.specs.Spelling.{counts_words}
-use Rattle.cert_writer.specs.Text.{opening_lines, figure_lines, path_lines, length_lines, potential_lines, end_line, from_potentials, from_lengths, from_paths, from_figures, from_counts}
+use Rattle.cert_writer.specs.Text.{opening_lines, from_counts}
 use Rattle.cert_writer.proofs.TextPuts.{part_then, part_stops}
 use Rattle.cert_writer.proofs.certificate.put_certificate.Goals as goal
 

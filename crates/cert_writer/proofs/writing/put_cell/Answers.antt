@@ -1,4 +1,3 @@
-use Rattle.std.proofs.Common.{◌≡◌}
 use Rattle.cert_names.specs.Sheet.{cell_word, cell_sign, cell_id}
 use Rattle.cert_names.proofs.Looked.{whole_word}
 use Rattle.cert_writer.proofs.LinePuts.{joined_put, joined_stops}

@@ -1,4 +1,4 @@
-use Rattle.std.proofs.Common.{◌≡◌, ◌∷◌, []}
+use Rattle.std.proofs.Common.{◌∷◌, []}
 use Rattle.line_writer.specs.Spelling.{behind}
 use Rattle.line_writer.proofs.Putting.{puts_then, puts_stop}
 use Rattle.cert_names.specs.Sheet.{cell_word}

@@ -1,12 +1,9 @@
 use Rattle.std.proofs.Common.{take}
 use Rattle.std.specs.Prelude.{map}
-use Rattle.std.specs.Fmt.{decimal}
 use Rattle.text_lines.specs.Lines.{text_of}
 use Rattle.mcf_base.specs.declared.writing.WriteFault.{WriteFault}
 use Rattle.line_writer.specs.Writing.{Puts, ended}
-use Rattle.line_writer.specs.Spelling.{behind}
-use Rattle.cert_names.specs.Sheet.{cell_word}
-use Rattle.cert_lines.specs.Spelling.{path_words, length_words, potential_words}
+use Rattle.cert_lines.specs.Spelling.{path_words}
 use Rattle.cert_writer.proofs.writing.put_paths.Given as goal
 
 abbrev pub invariant-loop-row : goal.invariant-loop-row

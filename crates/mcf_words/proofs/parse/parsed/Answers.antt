@@ -6,8 +6,8 @@ use Rattle.mcf_words.proofs.parse.parsed.Goals as goal
 
 pub returns-in-Ok : goal.returns-in-Ok
 returns-in-Ok c = taken c.args.command (map string_bytes c.args.words.now) (app_of c.in_ok-parser.parser) c.in-Ok.matches (strings_are_text c.args.words.now)
-    (c.in_ok-parser.ensures ∙ ap app_of_names c.option_names.ensures) c.in-Ok.ensures.matches c.in-Ok.ensures.kinds
+    (c.in_ok-parser.ensures ∙ ap app_of_names c.form_of.ensures.options) c.in-Ok.ensures.matches c.in-Ok.ensures.kinds
 
 pub returns : goal.returns
 returns c = refused c.args.command (map string_bytes c.args.words.now) (app_of c.in_ok-parser.parser) c.in-Err.error (strings_are_text c.args.words.now)
-    (c.in_ok-parser.ensures ∙ ap app_of_names c.option_names.ensures) c.in-Err.ensures.kinds (λ e. c.in_default.not-OutOfMemory (c.kind.ensures ∙ e))
+    (c.in_ok-parser.ensures ∙ ap app_of_names c.form_of.ensures.options) c.in-Err.ensures.kinds (λ e. c.in_default.not-OutOfMemory (c.kind.ensures ∙ e))

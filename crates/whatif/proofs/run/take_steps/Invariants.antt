@@ -10,6 +10,6 @@ abbrev pub invariant-loop-step : goal.invariant-loop-step
 invariant-loop-step g l =
     let sink = g.K.Sink in
     record {
-      wrote : Wrote (sink.seen l.fn.out) (sink.seen l.out) (ended (Unit {0}) WriteFault tt) (shown_text l.fn.plan (take l.step-index l.steps));
-      plan_is : l.plan ≡ after_steps l.fn.plan (take l.step-index l.steps);
+      wrote : Wrote (sink.seen l.fn.out) (sink.seen l.out) (ended (Unit {0}) WriteFault tt) (shown_text l.mode l.fn.plan (take l.step-index l.steps));
+      plan_is : l.plan ≡ after_steps l.mode l.fn.plan (take l.step-index l.steps);
     }

@@ -36,7 +36,7 @@ returns-in-Second-clause-word c =
     let lt : c.args.c < length (sheet_of rows net).cells = subst (λ (s : Sheet). c.args.c < length s.cells) (sym is) c.requires in
     let name = c.name_of.ensures ∙ ap (λ (o : NetOptions). name_of o.links c.args.c) c.options.ensures in
     let id = ap (λ (l : NetLink). l.id) c.link-in-Second.ensures
-        ∙ ap (λ (n : CellName). (link_at rows n.link).id) name
-        ∙ id_is rows net c.args.c lt
-        ∙ ap (λ (s : Sheet). cell_id s c.args.c) is in
+    ∙ ap (λ (n : CellName). (link_at rows n.link).id) name
+    ∙ id_is rows net c.args.c lt
+    ∙ ap (λ (s : Sheet). cell_id s c.args.c) is in
     ap (λ (w : List ℕ). cell_sign c.args.self.now c.args.c ++ w) id ∙ whole_word c.args.self.now c.args.c
