@@ -105,7 +105,7 @@ nothing_feasible net = record {
   within = λ c cell at. omega arith;
 }
 
-feasible_under : (net : Network) (caps : List ℕ) (proof : Proof) → IsNetwork net → IsValid net proof
+pub feasible_under : (net : Network) (caps : List ℕ) (proof : Proof) → IsNetwork net → IsValid net proof
     → IsFeasible (edited net caps) (routing_under (edited net caps) proof) (lower_under (edited net caps) proof.routing.phases proof.routing.paths).num (lower_under (edited net caps) proof.routing.phases proof.routing.paths).den
 feasible_under net caps proof n v = elim (eqb_tells proof.routing.phases 0)
     as (λ _. IsFeasible (edited net caps) (routing_under (edited net caps) proof) (lower_under (edited net caps) proof.routing.phases proof.routing.paths).num (lower_under (edited net caps) proof.routing.phases proof.routing.paths).den) [
@@ -113,19 +113,28 @@ feasible_under net caps proof n v = elim (eqb_tells proof.routing.phases 0)
       | inr p ↦ rw p.0 (scaled_feasible net caps proof n v p.1)
     ]
 
+-- ---- the upper one
+
+abbrev IsBoundUnder : Network → List ℕ → Proof → Type 0
+IsBoundUnder net caps proof = (rows : List Row) (a q : ℕ) → IsFeasible (edited net caps) rows a q
+    → a * (upper_of (edited net caps) proof.dual).den ≤ q * (upper_of (edited net caps) proof.dual).num
+
+pub bound_under : (net : Network) (caps : List ℕ) (proof : Proof) → IsValid net proof → IsBoundUnder net caps proof
+bound_under net caps proof v =
+    let now = edited net caps in
+    let dual = proof.dual in
+    let potentials : All (λ r. IsPotential now.cells (lengths_in now dual) r.values) dual.potentials =
+    subst (λ (l : List ℕ). All (λ r. IsPotential now.cells l r.values) dual.potentials) (sym (lengths_same net caps dual)) (λ k d lt. potential_edited net.cells caps (lengths_in net dual) (get_or dual.potentials k d).values (v.potentials.each k d lt)) in
+    λ rows a q feasible. duality now rows a q (lengths_in now dual) (distances_in now dual) (length-map-range_with_len (length_of dual.lengths) 0 (length now.cells)) (distances_below now dual potentials) feasible
+
 -- ---- both
 
 pub are_bounds : (p : Planned) → IsPlanned p → AreBounds (edited p.net p.caps) p.proof (shown_of p)
-are_bounds p h =
-    let net = edited p.net p.caps in
-    let dual = p.proof.dual in
-    let potentials : All (λ r. IsPotential net.cells (lengths_in net dual) r.values) dual.potentials =
-    subst (λ (l : List ℕ). All (λ r. IsPotential net.cells l r.values) dual.potentials) (sym (lengths_same p.net p.caps dual)) (λ k d lt. potential_edited p.net.cells p.caps (lengths_in p.net dual) (get_or dual.potentials k d).values (h.valid.potentials.each k d lt)) in
-    record {
-      feasible = feasible_under p.net p.caps p.proof h.net h.valid;
-      positive = low (upper_of net dual).den h.valid.distance.divides;
-      bounds = λ rows a q feasible. duality net rows a q (lengths_in net dual) (distances_in net dual) (length-map-range_with_len (length_of dual.lengths) 0 (length net.cells)) (distances_below net dual potentials) feasible;
-    }
+are_bounds p h = record {
+  feasible = feasible_under p.net p.caps p.proof h.net h.valid;
+  positive = low (upper_of (edited p.net p.caps) p.proof.dual).den h.valid.distance.divides;
+  bounds = bound_under p.net p.caps p.proof h.valid;
+}
   where
     low : (n : ℕ) → n ≢ 0 → 1 ≤ n
     low n ne = omega arith

@@ -6,6 +6,7 @@ use Rattle.mcf_base.specs.Sink.{AppendsFront, SinkView}
 use Rattle.text_lines.specs.Lines.{Line, spelled, text_of}
 use Rattle.line_writer.specs.Spelling.{fraction_word, millionths_word}
 use Rattle.net_options.specs.declared.modes.LinkMode.{LinkMode}
+use Rattle.gap_fraction.specs.Fraction.{Fraction}
 use Rattle.gap_fraction.specs.Decimals.{millionths_down, millionths_up}
 use Rattle.flow_paths.specs.Evaluation.{Evaluation}
 use Rattle.script.specs.declared.step.Step.{Step}
@@ -13,10 +14,14 @@ use Rattle.script.specs.declared.step.Step.TheVariants.{Edit, Show}
 use Rattle.whatif.specs.Planned.{Planned, after_step, after_steps, shown_of}
 
 -- the lower fraction and its value rounded down, the upper one and its value rounded up
+abbrev pub bounds_words : Fraction → Fraction → Line
+bounds_words lower upper =
+    codes "lower" ∷ fraction_word lower.num lower.den ∷ millionths_word (millionths_down lower)
+    ∷ codes "upper" ∷ fraction_word upper.num upper.den ∷ millionths_word (millionths_up upper) ∷ []
+
+-- `show`, and what the certificate is worth
 abbrev pub show_line : Evaluation → Line
-show_line e =
-    codes "show" ∷ codes "lower" ∷ fraction_word e.lower.num e.lower.den ∷ millionths_word (millionths_down e.lower)
-    ∷ codes "upper" ∷ fraction_word e.upper.num e.upper.den ∷ millionths_word (millionths_up e.upper) ∷ []
+show_line e = codes "show" ∷ bounds_words e.lower e.upper
 
 -- a line for each `show`, of what is shown after the steps before it
 abbrev pub shown_lines : LinkMode → Planned → List Step → List Line

@@ -9,4 +9,4 @@ mod tree;
 
 pub use bounds::Bounds;
 pub use plan::Plan;
-pub use run::run_script;
+pub use run::{run_script, value_down, value_up};

@@ -20,12 +20,21 @@ use net_options::LinkMode;
 use std::alloc::{AllocError, Global};
 use std::marker::Model;
 use std::snapshot::Snapshot;
+use std::sync::Arc;
 
-/// A valid certificate under capacities that are edited. It is seen as the network, the certificate and the capacities as they are now.
+// What a plan is of, which clauses alone read. It has no bytes.
 #[derive(Drop)]
-pub struct Plan {
+struct Source {
     net: Snapshot<Net>,
     proof: Snapshot<Proof>,
+}
+
+/// A valid certificate under capacities that are edited. It is seen as the network, the certificate and the capacities as they
+/// are now. Threads may share it.
+#[derive(Drop)]
+pub struct Plan {
+    // Copies of the plan share it.
+    source: Arc<Source>,
     phases: u32,
     caps: Vec<u64>,
     loads: Vec<u128>,
@@ -39,13 +48,24 @@ pub struct Plan {
 
 impl Model for Plan {
     ghost use Rattle.std.specs.Prelude.{◌≡◌};
+    ghost use Rattle.std.specs.Arc.{arc_value};
     ghost use Rattle.whatif.specs.Planned.{Planned, IsKept};
 
     ghost Value = { Planned };
 
-    ghost view = { λ p. record { net = p.net.value; proof = p.proof.value; caps = p.caps.items } };
+    ghost view = { λ p. record {
+      net = (arc_value p.source).net.value;
+      proof = (arc_value p.source).proof.value;
+      caps = p.caps.items;
+    } };
 
-    ghost invariant = { λ p. (p.phases ≡ p.proof.value.routing.phases) × IsKept (record { net = p.net.value; proof = p.proof.value; caps = p.caps.items }) p.loads.items p.lengths.items p.tree p.sum p.distance };
+    ghost invariant = { λ p. (p.phases ≡ (arc_value p.source).proof.value.routing.phases)
+        × IsKept (record {
+          net = (arc_value p.source).net.value;
+          proof = (arc_value p.source).proof.value;
+          caps = p.caps.items;
+        })
+        p.loads.items p.lengths.items p.tree p.sum p.distance };
 }
 
 // The capacities of the cells.
@@ -97,9 +117,12 @@ impl Plan {
         let loads = path_loads(alloc, cells.len(), &proof.routing.paths)?;
         let lengths = cell_lengths(alloc, cells.len(), &proof.dual)?;
         let tree = Tree::new(alloc, &ratios_of(alloc, cells, &loads)?)?;
-        Ok(Plan {
+        let source = Source {
             net: Snapshot::of(net),
             proof: Snapshot::of(proof),
+        };
+        Ok(Plan {
+            source: Arc::new(alloc, source)?,
             phases: proof.routing.phases,
             caps,
             loads,
@@ -107,6 +130,23 @@ impl Plan {
             tree,
             sum: proof.upper.num,
             distance: proof.upper.den,
+        })
+    }
+
+    /// A plan of its own that is seen as the same: an edit of one leaves the other as it is. Its time and memory go by the
+    /// number of cells, and not by the certificate.
+    pub fn copy(&self, alloc: Global) -> Result<Plan, AllocError>
+        ensures { IfOk result (λ p. p ≡ self.now) }
+    {
+        Ok(Plan {
+            source: Arc::try_clone(&self.source)?,
+            phases: self.phases,
+            caps: Vec::from_slice(alloc, &self.caps)?,
+            loads: Vec::from_slice(alloc, &self.loads)?,
+            lengths: Vec::from_slice(alloc, &self.lengths)?,
+            tree: self.tree.copy(alloc)?,
+            sum: self.sum,
+            distance: self.distance,
         })
     }
 
@@ -139,7 +179,8 @@ impl Plan {
     /// The capacity of the cell as it is now.
     pub fn cap(&self, cell: u16) -> u64
         requires { cell < length self.now.caps }
-        ensures { result ≡ slice_index self.now.caps cell }
+        ensures value { result ≡ slice_index self.now.caps cell }
+        ensures limit { result ≤ MAX_UNITS }
     {
         self.caps[cell as usize]
     }

@@ -17,16 +17,16 @@ use mcf_base::{Sink, WriteFault};
 use net_options::LinkMode;
 use script::{Script, Step};
 
-// The value of a fraction, rounded down.
-fn value_down(fraction: &Frac) -> Word
+/// The value of a fraction with six digits behind the point, rounded down.
+pub fn value_down(fraction: &Frac) -> Word
     ensures { result ≡ millionths_word (millionths_down fraction.now) }
 {
     let shown = fraction.digits_down();
     Word::decimal(shown.whole, shown.micro)
 }
 
-// The value of a fraction, rounded up.
-fn value_up(fraction: &Frac) -> Word
+/// The value of a fraction with six digits behind the point, rounded up.
+pub fn value_up(fraction: &Frac) -> Word
     ensures { result ≡ millionths_word (millionths_up fraction.now) }
 {
     let shown = fraction.digits_up();

@@ -95,6 +95,16 @@ impl Tree {
         Ok(Tree { nodes, leaves })
     }
 
+    /// A tree of its own with the same leaves.
+    pub fn copy(&self, alloc: Global) -> Result<Self, AllocError>
+        ensures { IfOk result (λ t. t ≡ self.now) }
+    {
+        Ok(Tree {
+            nodes: Vec::from_slice(alloc, &self.nodes)?,
+            leaves: self.leaves,
+        })
+    }
+
     /// Puts another ratio at that leaf. It takes no memory, and mends the one path from the leaf to the root.
     pub fn set(&mut self, leaf: usize, ratio: Ratio)
         requires leaf { leaf < length self.old }

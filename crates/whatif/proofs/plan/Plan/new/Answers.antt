@@ -1,4 +1,5 @@
 use Rattle.std.proofs.Common.{◌≡◌, ◌∙◌, ap, sym, subst, arith, length, ◌≤◌, map, List, ℕ, All}
+use Rattle.std.specs.Arc.{arc_value}
 use Rattle.std.specs.List.{range_with_len}
 use Rattle.flow_model.specs.declared.net.Cell.{Cell}
 use Rattle.flow_model.specs.Network.{Network}
@@ -46,6 +47,8 @@ invariant_of-result c =
     let kept = kept_new net proof loads lengths c.cells-cells.ensures.net c.requires.proof c.requires.valid c.see_potentials.ensures loads_are lengths_are c.in_ok-lengths.ensures.limit in
     let with_tree = subst (λ (t : List Ratio). IsKept (record { net = net; proof = proof; caps = map (λ c. c.cap) net.cells }) loads lengths t proof.upper.num proof.upper.den) (sym tree_is) kept in
     let with_caps = subst (λ (l : List ℕ). IsKept (record { net = net; proof = proof; caps = l }) loads lengths c.in_ok-tree.tree proof.upper.num proof.upper.den) (sym caps_are) with_tree in
-    let with_net = subst (λ (n : Network). IsKept (record { net = n; proof = proof; caps = c.in_ok-caps.caps.items }) loads lengths c.in_ok-tree.tree proof.upper.num proof.upper.den) (sym c.of.ensures) with_caps in
-    let with_proof = subst (λ (p : Proof). IsKept (record { net = c.of.result.value; proof = p; caps = c.in_ok-caps.caps.items }) loads lengths c.in_ok-tree.tree proof.upper.num proof.upper.den) (sym c.of-2.ensures) with_net in
-    (ap (λ (p : Proof). p.routing.phases) (sym c.of-2.ensures), with_proof)
+    let net_is : (arc_value c.in_ok-new.field-0).net.value ≡ net = ap (λ s. s.net.value) c.in_ok-new.ensures.ok ∙ c.of.ensures in
+    let proof_is : (arc_value c.in_ok-new.field-0).proof.value ≡ proof = ap (λ s. s.proof.value) c.in_ok-new.ensures.ok ∙ c.of-2.ensures in
+    let with_net = subst (λ (n : Network). IsKept (record { net = n; proof = proof; caps = c.in_ok-caps.caps.items }) loads lengths c.in_ok-tree.tree proof.upper.num proof.upper.den) (sym net_is) with_caps in
+    let with_proof = subst (λ (p : Proof). IsKept (record { net = (arc_value c.in_ok-new.field-0).net.value; proof = p; caps = c.in_ok-caps.caps.items }) loads lengths c.in_ok-tree.tree proof.upper.num proof.upper.den) (sym proof_is) with_net in
+    (ap (λ (p : Proof). p.routing.phases) (sym proof_is), with_proof)

@@ -1,3 +1,4 @@
+use Rattle.std.specs.Arc.{arc_value}
 use Rattle.std.proofs.Common.{◌≡◌, ◌-◌, ◌*◌, ◌<◌, ◌≤◌, ◌∙◌, ap, sym, subst, arith, length, get_or, ◌+◌, set, List, ℕ, refl}
 use Rattle.std.proofs.lemmas.List.{get_or_read}
 use Rattle.mcf_limits.specs.declared.TheConstants.{MAX_LENGTH}
@@ -64,8 +65,8 @@ invariant_of-self c =
     let k = c.self.invariant.1 in
     let p = c.self.inside in
     let i = c.args.cell in
-    let now : Planned = record { net = p.net.value; proof = p.proof.value; caps = p.caps.items } in
-    let next : Planned = record { net = p.net.value; proof = p.proof.value; caps = set p.caps.items i c.args.cap } in
+    let now : Planned = record { net = (arc_value p.source).net.value; proof = (arc_value p.source).proof.value; caps = p.caps.items } in
+    let next : Planned = record { net = (arc_value p.source).net.value; proof = (arc_value p.source).proof.value; caps = set p.caps.items i c.args.cap } in
     let sum = p.sum - c.index-2.result.now * c.index.result.now + c.args.cap * c.index.result.now in
     let s = sized now p.loads.items p.lengths.items p.tree p.sum p.distance k in
     let lt : i < length p.caps.items = omega (arith, c.requires.cell, ap (λ v. length v.caps) c.self.view_is) in
