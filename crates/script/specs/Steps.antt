@@ -1,5 +1,5 @@
 -- The steps of a script: links that get a capacity, and places at which the bounds are shown.
-use Rattle.std.specs.Prelude.{◌≡◌, ℕ, ◌<◌, ◌≤◌, List, All}
+use Rattle.std.specs.Prelude.{ℕ, ◌<◌, ◌≤◌, List, All}
 use Rattle.mcf_limits.specs.declared.TheConstants.{MAX_LINKS, MAX_UNITS}
 use Rattle.net_options.specs.declared.modes.LinkMode.{LinkMode}
 use Rattle.cell_dir.specs.Names.{cells_of}
@@ -20,9 +20,9 @@ IsStep links Show = Unit {0}
 abbrev pub AreSteps : ℕ → List Step → Type 0
 AreSteps links steps = All (IsStep links) steps
 
--- so many cells are those of links within the limit, and the steps are of these links
+-- the cells of so many links, within the limit, are among so many cells, and the steps are of these links
 pub record AreStepsOfCells (mode : LinkMode) (cells : ℕ) (steps : List Step) : Type 0 where
   pub links : ℕ
   pub few : links ≤ MAX_LINKS
-  pub count : cells ≡ cells_of mode links
+  pub enough : cells_of mode links ≤ cells
   pub each : AreSteps links steps

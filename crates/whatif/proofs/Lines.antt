@@ -108,7 +108,7 @@ step_of_cells mode p now steps i d lt e h =
     record {
       links = h.links;
       few = h.few;
-      count = count ∙ h.count;
+      enough = omega (arith, count, h.enough);
       each = All-cons (IsStep h.links) (get_or steps i d) [] (h.each i d lt) (All-nil (IsStep h.links));
     }
 
