@@ -143,7 +143,7 @@ fn refused(
     for (old, new, line, kind) in edits {
         let text = edited(alloc, cert, *old, *new)?;
         assert!(rt; text.len() <= MAX_CERT_BYTES);
-        match read_cert(alloc, rows, net, &text) {
+        match read_cert(alloc, &*rows, net, &text) {
             Err(CertEnd::Refused(refusal)) => {
                 assert_eq!(rt; refusal.line, *line, "{kind:?}");
                 assert_eq!(rt; refusal.kind, *kind, "at {line}");
