@@ -481,7 +481,7 @@ def test_the_command_writes_page_and_tables(tmp_path: Path, program: Program):
 
 def test_what_is_not_valid_is_not_shown(tmp_path: Path, program: Program):
     text = load_text(EXAMPLES / "polska.cert")
-    (tmp_path / "bad.cert").write_text(text.replace(" 98 Link_0_10", " 99 Link_0_10"))
+    (tmp_path / "bad.cert").write_text(text.replace(" 98 =Link_0_10", " 99 =Link_0_10"))
     _, said = report(EXAMPLES / "polska.net", tmp_path / "bad.cert", "--csv", "-", program=program, status=2)
     assert said == f"report: {tmp_path / 'bad.cert'} on {EXAMPLES / 'polska.net'}: mcf check says: invalid C2\n"
     _, said = report(EXAMPLES / "triangle.net", EXAMPLES / "polska.cert", "--csv", "-", program=program, status=2)
