@@ -1,5 +1,5 @@
 -- The words behind the command, as positional words and options.
-use Rattle.std.specs.Prelude.{◌≡◌, ℕ, Bool, false, List, [], ◌∷◌, ◌++◌, Option, Some, None, codes, unwrap_or, All, Contains}
+use Rattle.std.specs.Prelude.{◌≡◌, ℕ, false, List, [], ◌∷◌, ◌++◌, Option, Some, None, codes, unwrap_or, All, Contains}
 use Rattle.std.specs.List.{flat_map}
 use Rattle.mcf_words.specs.declared.request.Command.{Command}
 use Rattle.mcf_words.specs.Items.{Setting, is_option}
@@ -37,7 +37,7 @@ abbrev pub ending : Option (List (List ℕ)) → List (List ℕ)
 ending None = []
 ending (Some words) = codes "--" ∷ words
 
--- The words are these positional words and these options of the command, each kind in its order, in any order of both.
+-- The words are these positional words and these options of the command, each kind in its order, mixed in any way.
 pub record AreParts (command : Command) (words plain : List (List ℕ)) (settings : List Setting) : Type 0 where
   pub parts : List Part
   pub last : Option (List (List ℕ))
