@@ -116,7 +116,7 @@ joined_step name v is =
     let sum : length (name ++ 61 ∷ v) ≡ length name + length (61 ∷ v) = length-append name (61 ∷ v) in
     let there : nat_lt (length name) (length (name ++ 61 ∷ v)) ≡ true = lt-ltb (length name) (length (name ++ 61 ∷ v)) (omega arith) in
     let place : position is_equals (name ++ 61 ∷ v) ≡ Some (length name) =
-        ap (λ k. cond (nat_lt k (length (name ++ 61 ∷ v))) (Some k) None) (first_equals name v is.no_equals) ∙ ap (λ b. cond b (Some (length name)) None) there in
+    ap (λ k. cond (nat_lt k (length (name ++ 61 ∷ v))) (Some k) None) (first_equals name v is.no_equals) ∙ ap (λ b. cond b (Some (length name)) None) there in
     option_step (name ++ 61 ∷ v) (no_end name v is.dashed) (longer name v is.dashed) ∙ ap (step_at (name ++ 61 ∷ v)) place
     ∙ ap₂ (λ (n w : Text). record { items = setting_item n w; next = Open }) (take-append_seam name (61 ∷ v)) (drop-append-add name (61 ∷ v) 1)
 

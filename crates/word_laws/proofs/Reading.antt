@@ -320,7 +320,7 @@ read_again words r is =
     let items : Items = record { positional = is.plain; settings = is.settings } in
     let parts : AreParts r.command is.others is.plain is.settings = is.parts in
     let found : items_of is.others ≡ Some items = ap items_of parts.spelled ∙ parts_read r.command parts.parts parts.last parts.stand
-        ∙ ap₂ (λ (p : List (List ℕ)) (s : List Setting). Some (record { positional = p; settings = s })) (sym parts.positional) (sym parts.options) in
+    ∙ ap₂ (λ (p : List (List ℕ)) (s : List Setting). Some (record { positional = p; settings = s })) (sym parts.positional) (sym parts.options) in
     let known : are_known r.command is.settings ≡ true = ap (are_known r.command) parts.options ∙ known_test r.command _ (known_settings r.command parts.parts parts.stand) in
     ap request_of is.first ∙ ap (λ o. o >>= after_command is.others) (command_again r.command) ∙ ap (λ o. o >>= request_from r.command) found
     ∙ request_again r items known is.options is.positional

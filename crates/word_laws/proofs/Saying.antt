@@ -132,7 +132,7 @@ module _ (low high : ℕ) where
       let from_low : low ≤ digits_value 10 w = subst (λ k. low ≤ k) (sym is.value) is.from_low in
       let to_high : digits_value 10 w ≤ high = subst (λ k. k ≤ high) (sym is.value) is.to_high in
       let test : value_test w ≡ true = and_from (is_whole w && nat_le low (digits_value 10 w)) (nat_le (digits_value 10 w) high)
-          (and_from (is_whole w) (nat_le low (digits_value 10 w)) is.form (le-leb low (digits_value 10 w) from_low)) (le-leb (digits_value 10 w) high to_high) in
+      (and_from (is_whole w) (nat_le low (digits_value 10 w)) is.form (le-leb low (digits_value 10 w) from_low)) (le-leb (digits_value 10 w) high to_high) in
       ap (λ b. if_value b (digits_value 10 w)) test ∙ ap (λ v. Some v) is.value
 
   pub numbers_agree : Agrees (number_in low high) (IsNumberWord low high)

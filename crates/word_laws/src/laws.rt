@@ -1,8 +1,12 @@
 //! Laws, each proved for all words and requests.
 
 ghost use Rattle.word_laws.specs.Laws.{
-    RequestsAreSpelled, RequestsHaveWords, SpelledAreRead, UsageIsNoSpelling, WordsAreRead,
-    WordsSpellOne,
+  RequestsAreSpelled,
+  RequestsHaveWords,
+  SpelledAreRead,
+  UsageIsNoSpelling,
+  WordsAreRead,
+  WordsSpellOne,
 };
 
 /// The words ask for just the request that they spell.
