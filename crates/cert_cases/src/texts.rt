@@ -5,7 +5,7 @@ ghost use Rattle.sndlib_grammar.specs.Rows.{AreNetRows};
 ghost use Rattle.unit_scale.specs.Scaling.{scaled_of};
 
 use crate::one_link::{CERTIFICATE, ONE_LINK, ROUTING, SIGNED, SIGNED_ROUTING, edited};
-use cert_text::{CertEnd, CertHead, CertKind, Form, Kind, cert_head, read_cert};
+use cert_text::{CertEnd, CertKind, Form, Kind, cert_head, read_cert};
 use mcf_limits::MAX_CERT_BYTES;
 use net_options::{LinkMode, ModuleMode, NetOptions};
 use sndlib_read::{RawNet, read_net};
@@ -143,7 +143,7 @@ fn refused(
     for (old, new, line, kind) in edits {
         let text = edited(alloc, cert, *old, *new)?;
         assert!(rt; text.len() <= MAX_CERT_BYTES);
-        match read_cert(alloc, rows, net, &text) {
+        match read_cert(alloc, &*rows, net, &text) {
             Err(CertEnd::Refused(refusal)) => {
                 assert_eq!(rt; refusal.line, *line, "{kind:?}");
                 assert_eq!(rt; refusal.kind, *kind, "at {line}");
@@ -183,50 +183,35 @@ fn refusals_with_their_lines(rt: HostRuntime) -> Result<(), Fail> {
     }
 }
 
-// A head of directed links.
-const fn directed(kind: Kind, form: Form, modules: ModuleMode) -> CertHead {
-    CertHead {
-        kind,
-        form,
-        links: LinkMode::Directed,
-        modules,
+// How the text is headed.
+fn expect_head(rt: &impl Abort, text: &[u8], kind: Kind, form: Form, modules: ModuleMode) {
+    assert!(rt; text.len() <= MAX_CERT_BYTES);
+    match cert_head(text) {
+        Ok(head) => {
+            assert!(rt; head.kind == kind && head.form == form);
+            assert!(rt; head.links == LinkMode::Directed && head.modules == modules);
+        }
+        Err(_) => assert!(rt; false, "the head is refused"),
     }
 }
 
-const HEADS: &[(&[u8], CertHead)] = &[
-    (
-        CERTIFICATE,
-        directed(Kind::Certificate, Form::First, ModuleMode::Largest),
-    ),
-    (
-        SIGNED,
-        directed(Kind::Certificate, Form::Second, ModuleMode::Largest),
-    ),
-    (
-        ROUTING,
-        directed(Kind::Routing, Form::First, ModuleMode::Ignore),
-    ),
-    (
-        SIGNED_ROUTING,
-        directed(Kind::Routing, Form::Second, ModuleMode::Ignore),
-    ),
-    (
-        b"mcf-routing 2\nlinks bidirected\nmodules sum\n",
-        CertHead {
-            kind: Kind::Routing,
-            form: Form::Second,
-            links: LinkMode::Bidirected,
-            modules: ModuleMode::Sum,
-        },
-    ),
-];
-
 #[test]
 fn heads(rt: HostRuntime) {
-    for (text, head) in HEADS {
-        assert!(rt; text.len() <= MAX_CERT_BYTES);
-        assert!(rt; cert_head(text).is_ok_and(|h| h == *head));
-    }
+    let largest = ModuleMode::Largest;
+    expect_head(&rt, CERTIFICATE, Kind::Certificate, Form::First, largest);
+    expect_head(&rt, SIGNED, Kind::Certificate, Form::Second, largest);
+    let none = ModuleMode::Ignore;
+    expect_head(&rt, ROUTING, Kind::Routing, Form::First, none);
+    expect_head(&rt, SIGNED_ROUTING, Kind::Routing, Form::Second, none);
+}
+
+#[test]
+fn head_of_links_of_two_cells(rt: HostRuntime) {
+    let text = b"mcf-routing 2\nlinks bidirected\nmodules sum\n";
+    let head = cert_head(text);
+    assert!(rt;
+        head.is_ok_and(|h| h.links == LinkMode::Bidirected && h.modules == ModuleMode::Sum)
+    );
 }
 
 #[test]

@@ -1,8 +1,8 @@
 -- The dual of a cut is valid, and its bound is the cut's value.
-use Rattle.std.proofs.Common.{◌≡◌, ◌≢◌, inl, inr, ℕ, zero, suc, ◌+◌, ◌-◌, ◌*◌, ◌<◌, ◌≤◌, List, [], ◌∷◌, Bool, true, false, cond, eqb, length, get_or, map, Option, Some, refl, sym, ap, subst, ◌∙◌, arith}
-use Rattle.std.specs.Prelude.{◌&&◌, ◌||◌, not, All, IsTrue, find, slice_get}
+use Rattle.std.proofs.Common.{◌≡◌, ◌≢◌, inl, inr, ℕ, zero, suc, ◌+◌, ◌-◌, ◌*◌, ◌<◌, ◌≤◌, List, [], ◌∷◌, Bool, true, false, cond, eqb, get_or, map, Option, Some, refl, sym, ap, subst, ◌∙◌, arith}
+use Rattle.std.specs.Prelude.{◌&&◌, ◌||◌, not, All, find, slice_get}
 use Rattle.std.specs.Option.{option_map_or}
-use Rattle.std.specs.List.{filter, range_with_len, sum_by}
+use Rattle.std.specs.List.{filter, range_with_len}
 use Rattle.std.proofs.lemmas.List.{get_or-map, length-map}
 use Rattle.std.proofs.lemmas.List.Elements.{All-map}
 use Rattle.std.proofs.lemmas.List.FromFn.{get_or-map-range_with_len}
@@ -15,14 +15,13 @@ use Rattle.flow_model.specs.Network.{Network, IsNetwork, IsCell, IsCommodity}
 use Rattle.flow_model.specs.Groups.{is_source, group_sources}
 use Rattle.flow_model.specs.Walk.{Goes}
 use Rattle.flow_model.specs.Bound.{IsPotential, volume, weighted_distance}
-use Rattle.flow_model.proofs.Duality.{no_cell}
 use Rattle.flow_paths.specs.DualRows.{Potential}
 use Rattle.flow_paths.specs.Certificate.{lengths_in, distance_of, distances_in, upper_of, RowsArePotentials}
 use Rattle.dual_value.proofs.Products.{weighted_sum-map}
 use Rattle.cut_bound.specs.Cuts.{Side, leaves, crosses, cut_value, side_lengths, side_potential, side_row, cut_dual}
 use Rattle.cut_bound.specs.Laws.{GoBothWays, CutDualIsValid}
 use Rattle.cut_bound.proofs.DualRows.{source-count, source-is, cells-have, lengths-found}
-use Rattle.cut_bound.proofs.Sums.{sum-kept, sum-same}
+use Rattle.cut_bound.proofs.Adding.{sum-kept, sum-same}
 
 -- ---- its bound
 

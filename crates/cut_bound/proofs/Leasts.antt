@@ -1,11 +1,12 @@
 -- The first of the least, and one item more.
 use Rattle.std.proofs.Common.{◌≡◌, ℕ, zero, suc, ◌*◌, ◌<◌, ◌≤◌, Bool, true, false, nat_le, cond, List, [], ◌∷◌, ◌++◌, length, get_or, refl, sym, ap, ◌∙◌, arith}
-use Rattle.std.specs.Prelude.{All}
+use Rattle.std.specs.Prelude.{All, Some, slice_get}
+use Rattle.std.proofs.lemmas.Option.{same_Some}
 use Rattle.std.proofs.Math.Nat.{mul_right_comm, mul-le-mul_right, le_of_mul-le-mul_right}
 use Rattle.std.proofs.lemmas.Bool.Decides.{nat_tests}
 use Rattle.gap_fraction.specs.Fraction.{Fraction, FractionLe}
 use Rattle.flow_paths.specs.Evaluation.{fraction_le}
-use Rattle.cut_bound.specs.Least.{least_by}
+use Rattle.cut_bound.specs.Least.{least_by, IsFirstLeast}
 
 -- the order of fractions
 
@@ -117,3 +118,25 @@ module _ {X : Type 0} (value : X → Fraction) (none : X) where
       by_test true is low below (suc i) x l = le-trans (value d) (value (least_by value none (e ∷ ds))) (value (get_or (e ∷ ds) i x)) low (test-le (value d) (value (least_by value none (e ∷ ds))) is) (below i x (omega arith))
       by_test false is low below zero x l = test-gt (value d) (value (least_by value none (e ∷ ds))) is
       by_test false is low below (suc i) x l = below i x (omega arith)
+
+  -- the first of the least is what its name says
+  pub least-first : (xs : List X) → 1 ≤ length xs → All (λ x. 1 ≤ (value x).den) xs → IsFirstLeast value xs (least_by value none xs)
+  least-first [] some h = absurd (omega arith)
+  least-first (d ∷ []) some h = record { place = 0; here = refl; least = least-below (d ∷ []) h; before = λ i y l. absurd (omega arith) }
+  least-first (d ∷ e ∷ ds) some h =
+      by_test (fraction_le (value d) (value (least_by value none (e ∷ ds)))) refl (least-first (e ∷ ds) (omega arith) (λ j x l. h (suc j) x (omega arith))) (least-below (d ∷ e ∷ ds) h)
+    where
+      above : fraction_le (value d) (value (least_by value none (e ∷ ds))) ≡ false → (y : X) → Some d ≡ Some y → FractionLe (value y) (value (least_by value none (e ∷ ds))) → ⊥
+      above is y at le =
+          let same : d ≡ y = same_Some d y at in
+          let test : true ≡ false = sym (ap (λ (z : X). fraction_le (value z) (value (least_by value none (e ∷ ds)))) same ∙ le-test (value y) (value (least_by value none (e ∷ ds))) le) ∙ is in
+          cc
+
+      by_test : (t : Bool) → fraction_le (value d) (value (least_by value none (e ∷ ds))) ≡ t → IsFirstLeast value (e ∷ ds) (least_by value none (e ∷ ds))
+          → All (λ x. FractionLe (value (cond t d (least_by value none (e ∷ ds)))) (value x)) (d ∷ e ∷ ds) → IsFirstLeast value (d ∷ e ∷ ds) (cond t d (least_by value none (e ∷ ds)))
+      by_test true is rest all = record { place = 0; here = refl; least = all; before = λ i y l. absurd (omega arith) }
+      by_test false is rest all = record { place = suc rest.place; here = rest.here; least = all; before = earlier }
+        where
+          earlier : (i : ℕ) (y : X) → i < suc rest.place → slice_get (d ∷ e ∷ ds) i ≡ Some y → FractionLe (value y) (value (least_by value none (e ∷ ds))) → ⊥
+          earlier zero y l at = above is y at
+          earlier (suc i) y l at = rest.before i y (omega arith) at

@@ -1,5 +1,10 @@
+pub mod Adding
 pub mod Bounding
+pub mod Choosing
 pub mod CutDuals
 pub mod DualRows
 pub mod Leasts
-pub mod Sums
+pub mod Leaving
+pub mod Levelling
+pub mod Making
+pub mod Owning

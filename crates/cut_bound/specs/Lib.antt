@@ -2,3 +2,5 @@ pub mod Candidates
 pub mod Cuts
 pub mod Laws
 pub mod Least
+pub mod Search
+pub mod Sums

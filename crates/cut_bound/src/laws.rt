@@ -1,5 +1,7 @@
 //! Laws of cuts, each proved for all networks.
 
+ghost use Rattle.flow_paths.specs.DualRows.{DualRows};
+ghost use Rattle.cut_bound.specs.Least.{LeastIsFirst};
 ghost use Rattle.cut_bound.specs.Laws.{BestIsNotAbove, CutDualIsItsValue, CutDualsAreValid, CutsBoundRoutings};
 
 /// The dual of a cut that some commodity crosses meets the conditions of a certificate on lengths and potentials.
@@ -20,4 +22,10 @@ pub fn cuts_bound_routings()
 /// The best bound is not above that of any dual that was there.
 pub fn best_is_not_above()
     ensures { BestIsNotAbove }
+{}
+
+/// Of duals none of which divides by 0, `least_by` is the first of the least: none is below it, and all before it are above
+/// it.
+pub fn least_is_first()
+    ensures { LeastIsFirst DualRows }
 {}

@@ -1,8 +1,16 @@
 //! Cuts of a network, and the best bound that the duals of certificates and their cuts give.
 #![tactic(auto)]
 
+mod best;
+mod choice;
+mod cuts;
 mod laws;
+mod made;
+mod own;
+mod sums;
 
+pub use best::best_dual;
 pub use laws::{
     best_is_not_above, cut_dual_is_its_value, cut_duals_are_valid, cuts_bound_routings,
+    least_is_first,
 };

@@ -3,7 +3,7 @@ use Rattle.std.specs.Prelude.{◌≡◌, ℕ, List, [], Option, Some, None, slic
 use Rattle.mcf_base.specs.Shelf.{ShelfView}
 use Rattle.mcf_base.specs.Sink.{SinkView}
 use Rattle.mcf_words.specs.declared.request.Command.{Command}
-use Rattle.mcf_words.specs.declared.request.Command.TheVariants.{Solve, Check, WhatIf, Print, Gen, Trial}
+use Rattle.mcf_words.specs.declared.request.Command.TheVariants.{Solve, Check, WhatIf, Upgrade, Print, Gen, Trial}
 use Rattle.mcf_words.specs.declared.request.Request.{Request}
 use Rattle.mcf_words.specs.Request.{request_of}
 use Rattle.run_base.specs.declared.ended.Ended.{Ended}
@@ -14,21 +14,24 @@ use Rattle.run_solves.specs.Print.{OfPrint}
 use Rattle.run_solves.specs.Solve.{OfSolve}
 use Rattle.run_solves.specs.Drawn.{gen_answer, OfTrial}
 use Rattle.run_certs.specs.Check.{OfCheck}
+use Rattle.run_certs.specs.Upgrade.{OfUpgrade}
 use Rattle.run_certs.specs.WhatIf.{OfWhatIf}
 
 -- the file of that place among the words
 abbrev pub file_at : Request → ℕ → List ℕ
 file_at request i = slice_index_or request.names i []
 
--- the answer of a command, with what the shelf has seen before and behind it: so the files that were started are those which
--- the command comes to, in their order
+-- the answer of a command, with what the shelf has seen before and behind it: so the files that were started are those
+-- which the command comes to, in their order
 abbrev pub OfCommand : Command → Request → ShelfView → ShelfView → Answer → Type 0
 OfCommand Solve request old new answer = OfSolve (file_at request 0) request old new answer
 OfCommand Print request old new answer = OfPrint (file_at request 0) old new answer
 OfCommand Check request old new answer = OfCheck (file_at request 0) (file_at request 1) old new answer
 OfCommand Gen request old new answer = Ends (λ given. given ≡ gen_answer request.numbers) old new answer
 OfCommand Trial request old new answer = Ends (OfTrial request) old new answer
-OfCommand WhatIf request old new answer = OfWhatIf (file_at request 0) (file_at request 1) (file_at request 2) old new answer
+OfCommand Upgrade request old new answer = OfUpgrade (file_at request 0) (file_at request 1) old new answer
+OfCommand WhatIf request old new answer =
+    OfWhatIf (file_at request 0) (file_at request 1) (file_at request 2) old new answer
 
 -- usage exactly where the words ask for nothing, and else the answer of the command; want of memory alone is free
 abbrev pub OfRequest : Option Request → ShelfView → ShelfView → Answer → Type 0

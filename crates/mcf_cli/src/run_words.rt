@@ -8,7 +8,7 @@ ghost use Rattle.mcf_cli.specs.Run.{OfCommand, RunEnds};
 use mcf_base::{Gate, Shelf, Sink};
 use mcf_words::{Command, Request, WordsEnd, read_words};
 use run_base::{Ended, Outcome, tell};
-use run_certs::{check, whatif_files};
+use run_certs::{check, upgrade, whatif_files};
 use run_solves::{gen_net, print, solve_file, trial};
 use std::alloc::Global;
 use std::thread::Threads;
@@ -31,6 +31,13 @@ fn run_command<F: Shelf, K: Sink, G: Gate, R: Threads + Sync>(
     match request.command {
         Command::Solve => solve_file(rt, alloc, shelf, out, request.names.name(0), request, gate),
         Command::Check => check(
+            alloc,
+            shelf,
+            out,
+            request.names.name(0),
+            request.names.name(1),
+        ),
+        Command::Upgrade => upgrade(
             alloc,
             shelf,
             out,

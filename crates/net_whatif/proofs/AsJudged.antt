@@ -8,7 +8,7 @@ use Rattle.sndlib_grammar.specs.Rows.{NetRows}
 use Rattle.sndlib_grammar.specs.declared.refusal.NetRefusal.{NetRefusal}
 use Rattle.unit_scale.specs.Sizes.{decimals_of, sizes}
 use Rattle.unit_scale.specs.Scaling.{ScaledNet, scaled_of, scaled_with, unless_refused, refusal}
-use Rattle.cert_names.specs.Sheet.{sheet_of}
+use Rattle.cert_names.specs.Sheet.{sheets_of}
 use Rattle.cert_lines.specs.declared.refusal.CertRefusal.{CertRefusal}
 use Rattle.cert_text.specs.declared.opening.CertHead.{CertHead}
 use Rattle.cert_text.specs.declared.papers.Paper.{Paper}
@@ -53,7 +53,7 @@ paper_judged rows o net (Ok (Routing r)) c e h = absurd h
 
 net_judged : (rows : NetRows) (lines : List Line) (o : NetOptions) (r : Result ScaledNet NetRefusal) (c : Certified) → scaled_of rows o ≡ r → OnNet rows lines r c → IsOnNet rows lines o r (judged_of c)
 net_judged rows lines o (Err x) c e h = ap judged_of h
-net_judged rows lines o (Ok net) c e h = paper_judged rows o net (paper_in (sheet_of rows net) lines) c (scaled_options rows o net e) h
+net_judged rows lines o (Ok net) c e h = paper_judged rows o net (paper_in (sheets_of rows net) lines) c (scaled_options rows o net e) h
 
 head_judged : (rows : NetRows) (lines : List Line) (r : Result CertHead CertRefusal) (c : Certified) → OnHead rows lines r c → IsOnHead rows lines r (judged_of c)
 head_judged rows lines (Err x) c h = ap judged_of h

@@ -1,5 +1,5 @@
 -- What comes of a certificate's text where a routing's is none, on the rows of a network.
-use Rattle.std.specs.Prelude.{◌≡◌, ℕ, Bool, true, false, List, [], ◌∷◌, Result, Ok, Err, codes}
+use Rattle.std.specs.Prelude.{◌≡◌, ◌≤◌, ℕ, Bool, true, false, List, [], ◌∷◌, Result, Ok, Err, ◌||◌, codes}
 use Rattle.text_lines.specs.Lines.{Line, lines_of}
 use Rattle.flow_model.specs.Network.{IsNetwork}
 use Rattle.flow_paths.specs.declared.certificate.Proof.{Proof}
@@ -7,7 +7,9 @@ use Rattle.flow_paths.specs.Certificate.{IsProofOf, IsValid, IsCertified}
 use Rattle.sndlib_grammar.specs.Rows.{NetRows}
 use Rattle.sndlib_grammar.specs.declared.refusal.NetRefusal.{NetRefusal}
 use Rattle.unit_scale.specs.Scaling.{ScaledNet, scaled_of}
-use Rattle.cert_names.specs.Sheet.{IsOf, sheet_of}
+use Rattle.cert_names.specs.Sheet.{IsOf, sheet_of, sheets_of}
+use Rattle.cert_writer.specs.Text.{FitsProof}
+use Rattle.cert_lines.specs.declared.net_line.TheConstants.{MAX_COUNT}
 use Rattle.cert_lines.specs.Forms.{is_fixed}
 use Rattle.cert_lines.specs.declared.refusal.CertKind.TheVariants.{NoHeader}
 use Rattle.cert_lines.specs.declared.refusal.CertRefusal.{CertRefusal}
@@ -21,27 +23,39 @@ use Rattle.cert_judge.specs.declared.judged.Judged.TheVariants.{NetRefused, Cert
 use Rattle.net_whatif.specs.declared.certifying.Certified.{Certified}
 use Rattle.net_whatif.specs.declared.certifying.Certified.TheVariants.{Valid, Said}
 
+-- the line is the header of a routing, in either form
+abbrev pub is_routing_line : Line → Bool
+is_routing_line line = is_fixed (codes "mcf-routing 1") line || is_fixed (codes "mcf-routing 2") line
+
 -- the first line, up to its line feed or to the end, is the header of a routing
 abbrev pub is_routing : List Line → Bool
 is_routing [] = false
-is_routing (line ∷ lines) = is_fixed (codes "mcf-routing 1") line
+is_routing (line ∷ lines) = is_routing_line line
 
 -- the header is none that is known
 abbrev pub no_header : CertRefusal
 no_header = record { line = 1; kind = NoHeader }
 
--- the network in units is that of the rows, and the certificate is of it, valid, and what it is for
+-- the network in units is that of the rows, and the certificate is of it, valid, and what it is for; and it can be written
 pub record IsCertificate (rows : NetRows) (net : ScaledNet) (proof : Proof) : Type 0 where
   pub names : IsOf rows net
   pub network : IsNetwork net.net
   pub proof_of : IsProofOf net.net proof
   pub valid : IsValid net.net proof
   pub certified : IsCertified net.net proof
+  pub fits : FitsProof (sheet_of rows net) proof
+  pub counted : rows.skipped ≤ MAX_COUNT
 
--- a certificate that was read names what the network has
-abbrev pub IsOfNet : ScaledNet → Paper → Type 0
-IsOfNet net (Full proof) = IsProofOf net.net proof
-IsOfNet net (Routing r) = Unit {0}
+-- a certificate that was read names what the network has, and can be written with the names of the rows
+abbrev pub IsOfNet : NetRows → ScaledNet → Paper → Type 0
+IsOfNet rows net (Full proof) = IsProofOf net.net proof × FitsProof (sheet_of rows net) proof
+IsOfNet rows net (Routing r) = Unit {0}
+
+-- these are the rows of the network, and the certificate can be written with their names
+pub record IsReadOf (rows : NetRows) (net : ScaledNet) (proof : Proof) : Type 0 where
+  pub names : IsOf rows net
+  pub fits : FitsProof (sheet_of rows net) proof
+  pub counted : rows.skipped ≤ MAX_COUNT
 
 -- a certificate: it is valid, or this is the first of its conditions that fails
 abbrev pub OnCertificate : NetRows → ScaledNet → Proof → Certified → Type 0
@@ -58,7 +72,7 @@ OnPaper rows net (Ok (Routing r)) certified = ⊥
 -- behind the head: the network is refused under its options, or the rest of the text is read with the network's names
 abbrev pub OnNet : NetRows → List Line → Result ScaledNet NetRefusal → Certified → Type 0
 OnNet rows lines (Err r) certified = certified ≡ Said (NetRefused r)
-OnNet rows lines (Ok net) certified = OnPaper rows net (paper_in (sheet_of rows net) lines) certified
+OnNet rows lines (Ok net) certified = OnPaper rows net (paper_in (sheets_of rows net) lines) certified
 
 abbrev pub OnHead : NetRows → List Line → Result CertHead CertRefusal → Certified → Type 0
 OnHead rows lines (Err r) certified = certified ≡ Said (CertRefused r)

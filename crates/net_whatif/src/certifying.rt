@@ -1,22 +1,22 @@
 //! From the rows of a network and a text to a valid certificate.
 
 ghost use Rattle.std.specs.Prelude.{◌≡◌, ◌≤◌, IfOk, Ok, false, length};
-ghost use Rattle.text_lines.specs.Lines.{lines_of};
+ghost use Rattle.text_lines.specs.Lines.{lines_of, words_of};
 ghost use Rattle.mcf_limits.specs.declared.TheConstants.{MAX_CERT_BYTES};
 ghost use Rattle.flow_model.specs.Network.{IsNetwork};
 ghost use Rattle.flow_paths.specs.Certificate.{IsProofOf};
 ghost use Rattle.sndlib_grammar.specs.Rows.{AreNetRows};
 ghost use Rattle.unit_scale.specs.Scaling.{scaled_of};
-ghost use Rattle.cert_names.specs.Sheet.{IsOf, sheet_of};
+ghost use Rattle.cert_names.specs.Sheet.{IsOf, sheets_of};
+ghost use Rattle.cert_lines.specs.declared.net_line.TheConstants.{MAX_COUNT};
 ghost use Rattle.cert_text.specs.Reading.{Gives};
 ghost use Rattle.cert_text.specs.Whole.{head_in, paper_in};
-ghost use Rattle.net_whatif.specs.Certified.{IsCertifiedText, IsOfNet, IsSound, OnCertificate, OnHead, OnPaper, is_routing};
+ghost use Rattle.net_whatif.specs.Certified.{IsCertifiedText, IsOfNet, IsReadOf, IsSound, OnCertificate, OnHead, OnPaper, is_routing, is_routing_line};
 
 use cert_check::{Verdict, check};
 use cert_judge::Judged;
 use cert_laws::papers_fit;
 use cert_lines::is_fixed;
-use cert_names::Names;
 use cert_text::{CertEnd, CertKind, CertRefusal, Paper, cert_head, read_cert};
 use flow_paths::Proof;
 use net_options::NetOptions;
@@ -34,23 +34,32 @@ pub enum Certified {
     Said(Judged),
 }
 
-const ROUTING: &[u8] = b"mcf-routing 1";
+const OLD_ROUTING: &[u8] = b"mcf-routing 1";
+
+const ROUTING: &[u8] = b"mcf-routing 2";
+
+// Whether the line is the header of a routing, in either form.
+fn is_routing_line(line: &[u8]) -> bool
+    ensures { result ≡ is_routing_line (words_of line.now) }
+{
+    is_fixed(OLD_ROUTING, line) || is_fixed(ROUTING, line)
+}
 
 // Whether the first line is the header of a routing.
 fn is_routing(text: &[u8]) -> bool
     ensures { result ≡ is_routing (lines_of text.now) }
 {
     match split_line(text) {
-        Some((line, _)) => is_fixed(ROUTING, line),
-        None => is_fixed(ROUTING, text),
+        Some((line, _)) => is_routing_line(line),
+        None => is_routing_line(text),
     }
 }
 
 // The certificate, where it is valid, or the first condition that fails.
 fn on_proof(alloc: Global, net: Scaled, proof: Proof) -> Result<Certified, AllocError>
     requires { IsProofOf net.net proof }
-    ensures certificate { IfOk result (λ c. (rows : _) → IsOf rows net → OnCertificate rows net proof c) }
-    ensures sound { IfOk result (λ c. (rows : _) → IsOf rows net → IsSound rows c) }
+    ensures certificate { IfOk result (λ c. (rows : _) → IsReadOf rows net proof → OnCertificate rows net proof c) }
+    ensures sound { IfOk result (λ c. (rows : _) → IsReadOf rows net proof → IsSound rows c) }
 {
     let _cells = net.net().cells();
     match check(alloc, net.net(), &proof)? {
@@ -70,13 +79,14 @@ fn paper_of(
     requires rows { AreNetRows rows.now }
     requires net { scaled_of rows.now options ≡ Ok net.now }
     requires text { length text.now ≤ MAX_CERT_BYTES }
-    ensures value { Gives (λ x. x) result (paper_in (sheet_of rows.now net.now) (lines_of text.now)) }
-    ensures fits { IfOk result (IsOfNet net.now) }
+    ensures value { Gives (λ x. x) result (paper_in (sheets_of rows.now net.now) (lines_of text.now)) }
+    ensures fits { IfOk result (IsOfNet rows.now net.now) }
+    ensures counted { rows.now.skipped ≤ MAX_COUNT }
 {
     papers_fit();
+    let _skipped = rows.skipped();
     let _facts = net.net();
-    let names = Names::new(rows, net);
-    read_cert(alloc, &names, text)
+    read_cert(alloc, rows, net, text)
 }
 
 // What comes of the text on the network of its options.
@@ -91,7 +101,7 @@ fn on_net(
     requires net { scaled_of rows.now options ≡ Ok net }
     requires text { length text.now ≤ MAX_CERT_BYTES }
     requires header { is_routing (lines_of text.now) ≡ false }
-    ensures value { IfOk result (OnPaper rows.now net (paper_in (sheet_of rows.now net) (lines_of text.now))) }
+    ensures value { IfOk result (OnPaper rows.now net (paper_in (sheets_of rows.now net) (lines_of text.now))) }
     ensures sound { IfOk result (IsSound rows.now) }
 {
     match paper_of(alloc, rows, &net, options, text) {
@@ -127,7 +137,7 @@ fn on_head(alloc: Global, rows: &RawNet<'_>, text: &[u8]) -> Result<Certified, A
 
 /// The valid certificate of the text, with the network in units that the rows stand for under its options; or what else is
 /// said of it: the first refusal, or the first condition that fails. A routing is no certificate: where line 1 is the header
-/// of one, that line is refused, whatever the later lines are.
+/// of one, in either form, that line is refused, whatever the later lines are.
 pub fn read_certificate(
     alloc: Global,
     rows: &RawNet<'_>,

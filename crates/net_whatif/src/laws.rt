@@ -2,6 +2,7 @@
 
 ghost use Rattle.std.specs.Prelude.{◌≡◌, ℕ, List, false, length};
 ghost use Rattle.text_lines.specs.Lines.{lines_of};
+ghost use Rattle.net_options.specs.declared.modes.LinkMode.{LinkMode};
 ghost use Rattle.flow_paths.specs.declared.certificate.Proof.{Proof};
 ghost use Rattle.script.specs.declared.step.Step.{Step};
 ghost use Rattle.script.specs.Steps.{AreSteps};
@@ -16,17 +17,22 @@ ghost use Rattle.net_whatif.specs.Scripted.{start_of};
 ghost use Rattle.net_whatif.specs.Sound.{AreSoundLines};
 
 /// Each line that steps write on a plan has the lower fraction of a feasible routing of the network with the capacities as
-/// they are then, and the upper one bounds all feasible routings of it.
+/// they are then, and the upper one bounds all feasible routings of it. So it is in each mode, of how many links the steps are.
 pub fn lines_are_bounds()
-    ensures { (p : Planned) (steps : List Step) → IsPlanned p → AreSteps (length p.caps) steps → AreSoundLines p steps }
+    ensures { (mode : LinkMode) (p : Planned) (links : ℕ) (steps : List Step)
+        → IsPlanned p → AreSteps links steps → AreSoundLines mode p steps }
 {}
 
 /// The same of the plan of a valid certificate.
 pub fn certificate_lines_are_bounds()
-    ensures { (rows : NetRows) (net : ScaledNet) (proof : Proof) (steps : List Step) → IsCertificate rows net proof → AreSteps (length net.net.cells) steps → AreSoundLines (start_of net proof) steps }
+    ensures { (rows : NetRows) (net : ScaledNet) (proof : Proof) (steps : List Step)
+        → IsCertificate rows net proof → AreSteps (length rows.links) steps
+        → AreSoundLines net.options.links (start_of net proof) steps }
 {}
 
 /// Where line 1 of a text is no header of a routing, what comes of it is what `check` says of it.
 pub fn certified_as_judged()
-    ensures { (rows : NetRows) (text : List ℕ) (certified : Certified) → is_routing (lines_of text) ≡ false → IsCertifiedText rows text certified → IsJudgement rows text (judged_of certified) }
+    ensures { (rows : NetRows) (text : List ℕ) (certified : Certified)
+        → is_routing (lines_of text) ≡ false → IsCertifiedText rows text certified
+        → IsJudgement rows text (judged_of certified) }
 {}

@@ -3,7 +3,7 @@
 ghost use Rattle.std.specs.Prelude.{◌≡◌, ◌≤◌, IfOk, OnOk, OnErr, length};
 ghost use Rattle.mcf_base.specs.Sink.{Wrote};
 ghost use Rattle.mcf_limits.specs.declared.TheConstants.{MAX_SCRIPT_BYTES};
-ghost use Rattle.script.specs.Steps.{AreSteps};
+ghost use Rattle.script.specs.Steps.{AreStepsOfCells};
 ghost use Rattle.whatif.specs.Shown.{shown_text};
 ghost use Rattle.net_whatif.specs.Certified.{IsCertificate};
 ghost use Rattle.net_whatif.specs.Scripted.{CanRun, IsScriptedText};
@@ -49,10 +49,12 @@ pub fn read_script(
     Ok(Scripted::Ready(plan, script))
 }
 
-/// Writes a line for each `show` of the steps. After a fault a front of these lines was written. It takes no memory.
+/// Writes a line for each `show` of the steps. After a fault a front of these lines was written, and nothing behind the write
+/// that failed. It takes no memory.
 pub fn write_shown<K: Sink>(plan: Plan, script: &Script, out: &mut K) -> Result<(), WriteFault>
-    requires { AreSteps (length plan.caps) script.now }
-    ensures { Wrote (K.seen out.old) (K.seen out.new) result (shown_text plan script.now) }
+    requires { AreStepsOfCells script.now.mode (length plan.caps) script.now.steps }
+    ensures { Wrote (K.seen out.old) (K.seen out.new) result
+        (shown_text script.now.mode plan script.now.steps) }
 {
     let mut plan = plan;
     run_script(&mut plan, script, out)

@@ -3,7 +3,7 @@ use Rattle.std.specs.Prelude.{◌≡◌, ◌⊎◌, ℕ, ◌≤◌, List, [], �
 use Rattle.std.specs.Io.KnownBytes.{Appends}
 use Rattle.std.specs.Fmt.{decimal}
 use Rattle.text_lines.specs.Lines.{Line, spelled}
-use Rattle.mcf_base.specs.Faults.{Rose}
+use Rattle.mcf_base.specs.Faults.{FailedLast}
 use Rattle.mcf_base.specs.Sink.{AppendsFront, SinkView}
 use Rattle.run_base.specs.declared.ended.Ended.{Ended}
 use Rattle.run_base.specs.declared.ended.Found.{Found}
@@ -78,14 +78,14 @@ cut_off = record { status = 5; found = nothing }
 pub record IsGiven (old new : SinkView) (ended : Ended) (answer : Answer) : Type 0 where
   pub ends : ended ≡ ended_of answer
   pub text : Appends old.written new.written answer.text
-  pub faults : new.faults ≡ old.faults
+  pub faults : new.faults.count ≡ old.faults.count
 
--- the output failed, and a front of the answer was written
+-- the output failed, a front of the answer was written, and nothing behind the fault
 pub record IsCut (old new : SinkView) (ended : Ended) (answer : Answer) : Type 0 where
   pub ends : ended ≡ cut_off
   pub text : AppendsFront old.written new.written answer.text
-  pub rose : Rose old.faults new.faults
-  pub later : old.faults ≤ new.faults
+  pub failed : FailedLast old.faults new.faults
+  pub later : old.faults.count ≤ new.faults.count
 
 abbrev pub Writes : SinkView → SinkView → Ended → Answer → Type 0
 Writes old new ended answer = IsGiven old new ended answer ⊎ IsCut old new ended answer

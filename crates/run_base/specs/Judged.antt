@@ -1,8 +1,8 @@
 -- The line of a judgement, and its status.
-use Rattle.std.specs.Prelude.{ℕ, ◌/◌, ◌%◌, Bool, true, false, List, [], ◌∷◌, codes}
+use Rattle.std.specs.Prelude.{ℕ, Bool, true, false, List, [], ◌∷◌, codes}
 use Rattle.std.specs.Fmt.{decimal}
 use Rattle.text_lines.specs.Lines.{Line}
-use Rattle.line_writer.specs.Spelling.{fraction_word, decimal_word}
+use Rattle.line_writer.specs.Spelling.{fraction_word, millionths_word}
 use Rattle.gap_fraction.specs.Decimals.{millionths_down, millionths_up}
 use Rattle.net_options.specs.Modes.{link_word, module_word}
 use Rattle.sndlib_grammar.specs.declared.refusal.NetKind.{NetKind}
@@ -31,6 +31,7 @@ kind_word kinds.BadNumber = codes "N7"
 kind_word kinds.TooFine = codes "N8"
 kind_word kinds.TooLarge = codes "N9"
 kind_word kinds.NoDemand = codes "N10"
+kind_word kinds.HopTooFar = codes "N11"
 
 -- the short name of each refusal of a certificate's text
 abbrev pub cert_kind_word : CertKind → List ℕ
@@ -58,10 +59,6 @@ abbrev pub verdict_word : Bool → List ℕ
 verdict_word true = codes "closed"
 verdict_word false = codes "open"
 
--- a number of millionths, with its six digits behind the point
-abbrev pub six_digits : ℕ → List ℕ
-six_digits n = decimal_word (n / 1000000) (n % 1000000)
-
 abbrev pub net_refused : NetRefusal → Line
 net_refused r = codes "refused" ∷ codes "net" ∷ kind_word r.kind ∷ codes "line" ∷ decimal r.line ∷ []
 
@@ -85,10 +82,13 @@ abbrev pub judged_words : Judged → Line
 judged_words (NetRefused r) = net_refused r
 judged_words (CertRefused r) = cert_refused r
 judged_words (Invalid fault) = codes "invalid" ∷ fault_word fault ∷ []
-judged_words (Feasible o v) = codes "feasible" ∷ link_word o.links ∷ module_word o.modules ∷ fraction_word v.num v.den ∷ six_digits (millionths_down v) ∷ []
+judged_words (Feasible o v) =
+    codes "feasible" ∷ link_word o.links ∷ module_word o.modules
+    ∷ fraction_word v.num v.den ∷ millionths_word (millionths_down v) ∷ []
 judged_words (Valid o closed l u) =
     codes "valid" ∷ verdict_word closed ∷ link_word o.links ∷ module_word o.modules
-    ∷ codes "lower" ∷ fraction_word l.num l.den ∷ six_digits (millionths_down l) ∷ codes "upper" ∷ fraction_word u.num u.den ∷ six_digits (millionths_up u) ∷ []
+    ∷ codes "lower" ∷ fraction_word l.num l.den ∷ millionths_word (millionths_down l)
+    ∷ codes "upper" ∷ fraction_word u.num u.den ∷ millionths_word (millionths_up u) ∷ []
 
 abbrev pub judged_status : Judged → ℕ
 judged_status (NetRefused r) = 3

@@ -2,9 +2,10 @@
 
 ghost use Rattle.std.specs.Prelude.{◌≡◌, ◌<◌, ◌+◌, ◌*◌, if◌then◌else◌};
 ghost use Rattle.text_lines.specs.Lines.{spelled};
+ghost use Rattle.line_writer.specs.Spelling.{millionths_word};
 ghost use Rattle.cert_judge.specs.declared.judged.Judged.TheVariants as JudgedIs;
 ghost use Rattle.run_base.specs.Answer.{Writes, line_answer};
-ghost use Rattle.run_base.specs.Judged.{kind_word as kind_word_lem, cert_kind_word as cert_kind_word_lem, fault_word as fault_word_lem, verdict_word as verdict_word_lem, script_kind_word as script_kind_word_lem, net_refused, script_refused, cert_refused, judged_words, judged_status, six_digits};
+ghost use Rattle.run_base.specs.Judged.{kind_word as kind_word_lem, cert_kind_word as cert_kind_word_lem, fault_word as fault_word_lem, verdict_word as verdict_word_lem, script_kind_word as script_kind_word_lem, net_refused, script_refused, cert_refused, judged_words, judged_status};
 
 use crate::ended::Ended;
 use crate::saying::say;
@@ -30,6 +31,7 @@ fn kind_word(kind: NetKind) -> &'static [u8]
         NetKind::TooFine => b"N8",
         NetKind::TooLarge => b"N9",
         NetKind::NoDemand => b"N10",
+        NetKind::HopTooFar => b"N11",
     }
 }
 
@@ -80,7 +82,7 @@ pub fn verdict_status(closed: bool) -> u8
 // A number of millionths as a decimal.
 fn digits(shown: Shown) -> Word
     requires { shown.micro < 1000000 }
-    ensures { result ≡ six_digits (shown.whole * 1000000 + shown.micro) }
+    ensures { result ≡ millionths_word (shown.whole * 1000000 + shown.micro) }
 {
     Word::decimal(shown.whole, shown.micro)
 }

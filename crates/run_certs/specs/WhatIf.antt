@@ -21,7 +21,7 @@ use Rattle.run_base.specs.Files.{Ends, OfFile, OfNet, OrMemory}
 -- the script's first refusal, or a line for each `show`
 abbrev pub scripted_answer : Scripted → Answer
 scripted_answer (Refused r) = answer_of (ScriptRefused r)
-scripted_answer (Ready plan steps) = record { status = 0; text = shown_text plan steps; found = nothing }
+scripted_answer (Ready plan script) = record { status = 0; text = shown_text script.mode plan script.steps; found = nothing }
 
 -- the answer of the script's text on a valid certificate
 abbrev pub OnScript : NetRows → ScaledNet → Proof → List ℕ → Answer → Type 0

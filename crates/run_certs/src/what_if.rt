@@ -2,7 +2,7 @@
 
 ghost use Rattle.std.specs.Prelude.{IfOk, length};
 ghost use Rattle.mcf_limits.specs.declared.TheConstants.{MAX_SCRIPT_BYTES};
-ghost use Rattle.script.specs.Steps.{AreSteps};
+ghost use Rattle.script.specs.Steps.{AreStepsOfCells};
 ghost use Rattle.whatif.specs.Shown.{shown_text};
 ghost use Rattle.net_whatif.specs.Certified.{IsCertificate};
 ghost use Rattle.net_whatif.specs.Scripted.{CanRun};
@@ -77,8 +77,9 @@ fn scripted_files<F: Shelf>(
 
 // Writes what the steps show.
 fn write_lines<K: Sink>(plan: Plan, script: &Script, out: &mut K) -> Ended
-    requires { AreSteps (length plan.caps) script.now }
-    ensures { Writes (K.seen out.old) (K.seen out.new) result (text_answer (shown_text plan script.now)) }
+    requires { AreStepsOfCells script.now.mode (length plan.caps) script.now.steps }
+    ensures { Writes (K.seen out.old) (K.seen out.new) result
+        (text_answer (shown_text script.now.mode plan script.now.steps)) }
 {
     match write_shown(plan, script, out) {
         Ok(()) => Ended::told(0),

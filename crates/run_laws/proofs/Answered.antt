@@ -12,7 +12,7 @@ use Rattle.flow_paths.specs.Certificate.{IsValid}
 use Rattle.sndlib_grammar.specs.Rows.{NetRows}
 use Rattle.sndlib_grammar.specs.declared.refusal.NetRefusal.{NetRefusal}
 use Rattle.unit_scale.specs.Scaling.{ScaledNet, scaled_of}
-use Rattle.cert_names.specs.Sheet.{sheet_of}
+use Rattle.cert_names.specs.Sheet.{sheets_of}
 use Rattle.cert_lines.specs.declared.refusal.CertRefusal.{CertRefusal}
 use Rattle.cert_text.specs.declared.opening.CertHead.{CertHead}
 use Rattle.cert_text.specs.declared.papers.Paper.{Paper}
@@ -43,10 +43,11 @@ use Rattle.run_base.specs.Files.{Ends, OfFile, OrMemory}
 use Rattle.run_solves.specs.Print.{OfPrint, printed}
 use Rattle.run_certs.specs.Check.{OnTexts, OfCheck}
 use Rattle.run_solves.specs.Solve.{asked_of, solving_answer, SolvesRows, OfSolve}
+use Rattle.run_certs.specs.Upgrade.{upgrade_answer, OnUpgrade, OfUpgraded, OfUpgrade}
 use Rattle.run_certs.specs.WhatIf.{scripted_answer, OnScript, OnCertified, OnCertificate, OfWhatIf}
-use Rattle.run_solves.specs.Drawn.{net_drawn, gen_answer, trial_line, OfTrial}
+use Rattle.run_solves.specs.Drawn.{links_drawn, net_drawn, gen_answer, trial_line, OfTrial}
 use Rattle.mcf_cli.specs.Run.{file_at, OfCommand}
-use Rattle.run_laws.specs.Accepted.{IsSolvable, IsPaperFile, IsScriptFile, AcceptsPrint, AcceptsSolve, AcceptsCheck, AcceptsWhatIf, AcceptsTrial, Accepts}
+use Rattle.run_laws.specs.Accepted.{IsSolvable, IsPaperFile, IsScriptFile, AcceptsPrint, AcceptsSolve, AcceptsCheck, AcceptsUpgrade, AcceptsWhatIf, AcceptsTrial, Accepts}
 use Rattle.run_laws.proofs.Given.{Memories, of_text, of_rows}
 use Rattle.run_laws.proofs.Forms.{no_header_of_routing}
 
@@ -103,7 +104,7 @@ solve_low files request old new answer tells calm (rows, net, can) of =
 
 trial_low : (request : Request) (answer : Answer) → AcceptsTrial request → OfTrial request answer → answer.status ≤ 1
 trial_low request answer can (rows, read, inl (n, is, same)) = absurd (can n is)
-trial_low request answer can (rows, read, inr (s, done, same)) = status_is answer (trial_line (net_drawn request).net s) same (verdict_low s.proof.closed)
+trial_low request answer can (rows, read, inr (s, done, same)) = status_is answer (trial_line (links_drawn request) (net_drawn request).net s) same (verdict_low s.proof.closed)
 
 -- ---- check
 
@@ -118,7 +119,7 @@ said_low o net (papers.Full p) (judges.CertRefused x) is = absurd is
 
 -- what is said of a text that is read
 said_of : (rows : NetRows) (text : List ℕ) (head : CertHead) (net : ScaledNet) (paper : Paper) (judged : Judged)
-    → head_in (lines_of text) ≡ Ok head → scaled_of rows (options_of head) ≡ Ok net → paper_in (sheet_of rows net) (lines_of text) ≡ Ok paper
+    → head_in (lines_of text) ≡ Ok head → scaled_of rows (options_of head) ≡ Ok net → paper_in (sheets_of rows net) (lines_of text) ≡ Ok paper
     → IsJudgement rows text judged → IsSaidOf (options_of head) net.net paper judged
 said_of rows text head net paper judged head_read scaled rest_read is =
     let on_head = subst (λ (r : Result CertHead CertRefusal). SaidOnHead rows (lines_of text) r judged) head_read is in
@@ -164,10 +165,10 @@ certified_low files name rows net proof (certs.Said (judges.Valid o c l u)) old 
 
 -- what comes of a certificate's text that is read
 certificate_of : (rows : NetRows) (text : List ℕ) (head : CertHead) (net : ScaledNet) (proof : Proof) (certified : Certified)
-    → head_in (lines_of text) ≡ Ok head → scaled_of rows (options_of head) ≡ Ok net → paper_in (sheet_of rows net) (lines_of text) ≡ Ok (papers.Full proof)
+    → head_in (lines_of text) ≡ Ok head → scaled_of rows (options_of head) ≡ Ok net → paper_in (sheets_of rows net) (lines_of text) ≡ Ok (papers.Full proof)
     → IsCertifiedText rows text certified → CertOnCertificate rows net proof certified
 certificate_of rows text head net proof certified head_read scaled rest_read is =
-    let on_header = subst (λ (b : Bool). OnHeader rows (lines_of text) b certified) (no_header_of_routing (sheet_of rows net) (lines_of text) proof rest_read) is in
+    let on_header = subst (λ (b : Bool). OnHeader rows (lines_of text) b certified) (no_header_of_routing (sheets_of rows net) (lines_of text) proof rest_read) is in
     let on_head = subst (λ (r : Result CertHead CertRefusal). OnHead rows (lines_of text) r certified) head_read on_header in
     let on_net = subst (λ (r : Result ScaledNet NetRefusal). OnNet rows (lines_of text) r certified) scaled on_head in
     subst (λ (r : Result Paper CertRefusal). OnPaper rows net r certified) rest_read on_net
@@ -188,6 +189,30 @@ whatif_low files request old new answer tells calm (rows, given, net, proof, fil
         certified_low files (file_at request 2) rows net proof on.0 (with_file (with_file old (file_at request 0)) (file_at request 1)) new answer tells calm script
         (certificate_of rows file.text file.head net proof on.0 file.head_read file.scaled file.rest_read on.1) on.2
 
+-- ---- upgrade
+
+upgraded_low : (rows : NetRows) (net : ScaledNet) (proof : Proof) (certified : Certified) → CertOnCertificate rows net proof certified → (upgrade_answer rows certified).status ≤ 1
+upgraded_low rows net proof (certs.Valid n p) is = omega arith
+upgraded_low rows net proof (certs.Said (judges.Invalid fault)) is = omega arith
+upgraded_low rows net proof (certs.Said (judges.NetRefused x)) is = absurd is
+upgraded_low rows net proof (certs.Said (judges.CertRefused x)) is = absurd is
+upgraded_low rows net proof (certs.Said (judges.Feasible o v)) is = absurd is
+upgraded_low rows net proof (certs.Said (judges.Valid o c l u)) is = absurd is
+
+upgrade_text_low : (files : Holding) (name : List ℕ) (rows : NetRows) (net : ScaledNet) (proof : Proof) (answer : Answer) → (file : IsPaperFile files name rows net (papers.Full proof)) → OnUpgrade rows file.text answer → answer.status ≤ 1
+upgrade_text_low files name rows net proof answer file (certified, is, e) =
+    status_is answer (upgrade_answer rows certified) e
+    (upgraded_low rows net proof certified (certificate_of rows file.text file.head net proof certified file.head_read file.scaled file.rest_read is))
+
+upgrade_low : (files : Holding) (request : Request) (old new : ShelfView) (answer : Answer) → old.holds ≡ Some files → ¬ (Rose old.faults.count new.faults.count)
+    → AcceptsUpgrade files request → OfUpgrade (file_at request 0) (file_at request 1) old new answer → Low answer
+upgrade_low files request old new answer tells calm (rows, given, net, proof, file) of =
+    let first = file_at request 0 in
+    let cert = file_at request 1 in
+    then_low answer (of_rows files first rows (λ rows. OfUpgraded rows cert) old new answer tells calm given of)
+    (λ on. then_low answer (of_text MAX_CERT_BYTES kinds.Certificate files cert file.text (λ text. Ends (OnUpgrade rows text)) (with_file old first) new answer tells calm file.given on)
+    (λ last. ends_low (OnUpgrade rows file.text) (with_file (with_file old first) cert) new answer (λ e. upgrade_text_low files cert rows net proof answer file e) last))
+
 -- ---- all commands
 
 pub command_low : (command : Command) (files : Holding) (request : Request) (old new : ShelfView) (answer : Answer) → old.holds ≡ Some files → ¬ (Rose old.faults.count new.faults.count)
@@ -195,6 +220,7 @@ pub command_low : (command : Command) (files : Holding) (request : Request) (old
 command_low commands.Solve files request old new answer tells calm accepts of = solve_low files request old new answer tells calm accepts of
 command_low commands.Check files request old new answer tells calm accepts of = check_low files request old new answer tells calm accepts of
 command_low commands.WhatIf files request old new answer tells calm accepts of = whatif_low files request old new answer tells calm accepts of
+command_low commands.Upgrade files request old new answer tells calm accepts of = upgrade_low files request old new answer tells calm accepts of
 command_low commands.Print files request old new answer tells calm accepts of = print_low files request old new answer tells calm accepts of
 command_low commands.Gen files request old new answer tells calm accepts of = ends_low (λ given. given ≡ gen_answer request.numbers) old new answer (λ e. status_is answer (gen_answer request.numbers) e (omega arith)) of
 command_low commands.Trial files request old new answer tells calm accepts of = ends_low (OfTrial request) old new answer (λ e. trial_low request answer accepts e) of

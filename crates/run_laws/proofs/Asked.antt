@@ -1,5 +1,5 @@
 -- A run of accepted words and files answers in full, and no other does.
-use Rattle.std.proofs.Common.{◌≡◌, ℕ, ◌≤◌, Bool, true, false, List, Option, Some, None, Result, Ok, Err, inl, inr, refl, ap, subst, arith}
+use Rattle.std.proofs.Common.{◌≡◌, ℕ, ◌≤◌, Bool, true, false, List, Option, Some, None, Result, Ok, Err, inl, inr, refl, ap, subst, ◌∙◌, arith}
 use Rattle.mcf_limits.specs.declared.TheConstants.{MAX_CERT_BYTES, MAX_SCRIPT_BYTES}
 use Rattle.std.specs.Prelude.{◌⊎◌}
 use Rattle.mcf_base.specs.Shelf.{Holding, ShelfView, with_file}
@@ -14,7 +14,7 @@ use Rattle.cert_check.specs.Verdict.{IsFirstFault}
 use Rattle.sndlib_grammar.specs.Rows.{NetRows}
 use Rattle.sndlib_grammar.specs.declared.refusal.NetRefusal.{NetRefusal}
 use Rattle.unit_scale.specs.Scaling.{ScaledNet, scaled_of}
-use Rattle.cert_names.specs.Sheet.{sheet_of}
+use Rattle.cert_names.specs.Sheet.{sheets_of}
 use Rattle.cert_lines.specs.declared.refusal.CertRefusal.{CertRefusal}
 use Rattle.cert_text.specs.declared.opening.CertHead.{CertHead}
 use Rattle.cert_text.specs.declared.papers.Paper.{Paper}
@@ -46,10 +46,11 @@ use Rattle.run_base.specs.Files.{Ends, OfFile, OrMemory}
 use Rattle.run_solves.specs.Print.{OfPrint, printed}
 use Rattle.run_certs.specs.Check.{OnTexts, OfCheck}
 use Rattle.run_solves.specs.Solve.{asked_of, solving_answer, SolvesRows, OfSolve}
+use Rattle.run_certs.specs.Upgrade.{upgrade_answer, OnUpgrade, OfUpgraded, OfUpgrade}
 use Rattle.run_certs.specs.WhatIf.{scripted_answer, OnScript, OnCertified, OnCertificate, OfWhatIf}
 use Rattle.run_solves.specs.Drawn.{OfTrial}
 use Rattle.mcf_cli.specs.Run.{file_at, OfCommand, OfRequest, IsAnswer, RunEnds}
-use Rattle.run_laws.specs.Accepted.{IsSolvable, IsPaperFile, IsScriptFile, AcceptsPrint, AcceptsSolve, AcceptsCheck, AcceptsWhatIf, AcceptsTrial, Accepts, IsAccepted}
+use Rattle.run_laws.specs.Accepted.{IsSolvable, IsPaperFile, IsScriptFile, AcceptsPrint, AcceptsSolve, AcceptsCheck, AcceptsUpgrade, AcceptsWhatIf, AcceptsTrial, Accepts, IsAccepted}
 use Rattle.run_laws.specs.Whole.{HasNoFault, EndsWhole}
 use Rattle.run_laws.proofs.Given.{not_full, text_of_file, rows_of_file, ends_full}
 use Rattle.run_laws.proofs.Answered.{Low, command_low}
@@ -69,7 +70,7 @@ answered files words old new before after ended tells (answer, is, writes) a cal
     low of (inr status) given = (answer, inl (record { of = of; status = status }), given)
 
     by : IsAnswer words old new answer → Writes before after ended answer → EndsWhole words old new before after ended
-    by from (inr cut) = absurd (calm.output cut.rose)
+    by from (inr cut) = absurd (calm.output cut.failed.rose)
     by (inl (memory, same)) (inl given) = (answer, inr memory, given)
     by (inr of) (inl given) = low of (command_low a.request.command files a.request old new answer tells calm.shelf a.accepts (of_asked words files old new answer a of)) given
 
@@ -108,7 +109,7 @@ record IsRead (rows : NetRows) (lines : List Line) : Type 0 where
   pub head : CertHead
   pub head_read : head_in lines ≡ Ok head
   pub scaled : scaled_of rows (options_of head) ≡ Ok net
-  pub rest_read : paper_in (sheet_of rows net) lines ≡ Ok paper
+  pub rest_read : paper_in (sheets_of rows net) lines ≡ Ok paper
 
 judged_full : (judged : Judged) → (answer_of (outcomes.Judged judged)).status ≤ 1 → (r : NetRefusal) → judged ≡ judges.NetRefused r → ⊥
 judged_full judged low r e = not_full (answer_of (outcomes.Judged judged)) (outcomes.Judged (judges.NetRefused r)) (ap (λ (j : Judged). answer_of (outcomes.Judged j)) e) low (omega arith)
@@ -117,13 +118,13 @@ cert_full : (judged : Judged) → (answer_of (outcomes.Judged judged)).status �
 cert_full judged low r e = not_full (answer_of (outcomes.Judged judged)) (outcomes.Judged (judges.CertRefused r)) (ap (λ (j : Judged). answer_of (outcomes.Judged j)) e) low (omega arith)
 
 read_paper : (rows : NetRows) (lines : List Line) (head : CertHead) (net : ScaledNet) (judged : Judged) → head_in lines ≡ Ok head → scaled_of rows (options_of head) ≡ Ok net
-    → (r : Result Paper CertRefusal) → paper_in (sheet_of rows net) lines ≡ r → SaidOnPaper (options_of head) net.net r judged → (answer_of (outcomes.Judged judged)).status ≤ 1 → IsRead rows lines
+    → (r : Result Paper CertRefusal) → paper_in (sheets_of rows net) lines ≡ r → SaidOnPaper (options_of head) net.net r judged → (answer_of (outcomes.Judged judged)).status ≤ 1 → IsRead rows lines
 read_paper rows lines head net judged h s (Ok paper) e is low = record { net = net; paper = paper; head = head; head_read = h; scaled = s; rest_read = e }
 read_paper rows lines head net judged h s (Err x) e is low = absurd (cert_full judged low x is)
 
 read_net : (rows : NetRows) (lines : List Line) (head : CertHead) (judged : Judged) → head_in lines ≡ Ok head
     → (r : Result ScaledNet NetRefusal) → scaled_of rows (options_of head) ≡ r → SaidOnNet rows lines (options_of head) r judged → (answer_of (outcomes.Judged judged)).status ≤ 1 → IsRead rows lines
-read_net rows lines head judged h (Ok net) e is low = read_paper rows lines head net judged h e (paper_in (sheet_of rows net) lines) refl is low
+read_net rows lines head judged h (Ok net) e is low = read_paper rows lines head net judged h e (paper_in (sheets_of rows net) lines) refl is low
 read_net rows lines head judged h (Err x) e is low = absurd (judged_full judged low x is)
 
 read_head : (rows : NetRows) (lines : List Line) (judged : Judged)
@@ -160,7 +161,7 @@ no_fault net p v C10 h = h.6 v.verdict
 scripted_full : (rows : NetRows) (net : ScaledNet) (proof : Proof) (text : List ℕ) (scripted : Scripted) → IsScriptedText rows net proof text scripted → (scripted_answer scripted).status ≤ 1
     → (steps : List Step) × (script_of rows net text ≡ Ok steps)
 scripted_full rows net proof text (scripts.Refused r) is low = absurd (not_full (answer_of (outcomes.ScriptRefused r)) (outcomes.ScriptRefused r) refl low (omega arith))
-scripted_full rows net proof text (scripts.Ready plan steps) is low = (steps, is.0)
+scripted_full rows net proof text (scripts.Ready plan script) is low = (script.steps, is.0)
 
 script_read : (files : Holding) (name : List ℕ) (rows : NetRows) (net : ScaledNet) (proof : Proof) (old new : ShelfView) (answer : Answer) → old.holds ≡ Some files → answer.status ≤ 1
     → OfFile MAX_SCRIPT_BYTES kinds.Script name (λ text. Ends (OnScript rows net proof text)) old new answer → IsScriptFile files name rows net
@@ -181,41 +182,47 @@ script_where_valid files name rows net proof (certs.Said (judges.Feasible o v)) 
 script_where_valid files name rows net proof (certs.Said (judges.Valid o c l u)) old new answer tells full is on valid = absurd is
 
 -- a certificate that was read, in its parts, and what comes of it
-record IsCertRead (rows : NetRows) (lines : List Line) (certified : Certified) : Type 0 where
+pub record IsCertRead (rows : NetRows) (lines : List Line) (certified : Certified) : Type 0 where
   pub net : ScaledNet
   pub proof : Proof
   pub head : CertHead
   pub head_read : head_in lines ≡ Ok head
   pub scaled : scaled_of rows (options_of head) ≡ Ok net
-  pub rest_read : paper_in (sheet_of rows net) lines ≡ Ok (papers.Full proof)
+  pub rest_read : paper_in (sheets_of rows net) lines ≡ Ok (papers.Full proof)
   pub on : CertOnCertificate rows net proof certified
 
-said_full : (old new : ShelfView) (rows : NetRows) (script : List ℕ) (certified : Certified) (answer : Answer) (judged : Judged) → OnCertified rows script certified old new answer → answer.status ≤ 1
-    → certified ≡ certs.Said judged → 2 ≤ (answer_of (outcomes.Judged judged)).status → ⊥
-said_full old new rows script certified answer judged on full e above =
+-- no line that refuses the text is this answer
+abbrev IsNotRefused : Certified → Type 0
+IsNotRefused certified = (judged : Judged) → certified ≡ certs.Said judged → 2 ≤ (answer_of (outcomes.Judged judged)).status → ⊥
+
+said_full : (old new : ShelfView) (rows : NetRows) (script : List ℕ) (certified : Certified) (answer : Answer) → OnCertified rows script certified old new answer → answer.status ≤ 1 → IsNotRefused certified
+said_full old new rows script certified answer on full judged e above =
     let told : OnCertified rows script (certs.Said judged) old new answer = subst (λ (c : Certified). OnCertified rows script c old new answer) e on in
     not_full answer (outcomes.Judged judged) told.0 full above
 
-cert_paper : (old new : ShelfView) (script : List ℕ) (rows : NetRows) (lines : List Line) (head : CertHead) (net : ScaledNet) (certified : Certified) (answer : Answer) → head_in lines ≡ Ok head → scaled_of rows (options_of head) ≡ Ok net
-    → (r : Result Paper CertRefusal) → paper_in (sheet_of rows net) lines ≡ r → OnPaper rows net r certified → OnCertified rows script certified old new answer → answer.status ≤ 1 → IsCertRead rows lines certified
-cert_paper old new script rows lines head net certified answer h s (Ok (papers.Full proof)) e is on full = record { net = net; proof = proof; head = head; head_read = h; scaled = s; rest_read = e; on = is }
-cert_paper old new script rows lines head net certified answer h s (Ok (papers.Routing r)) e is on full = absurd is
-cert_paper old new script rows lines head net certified answer h s (Err x) e is on full = absurd (said_full old new rows script certified answer (judges.CertRefused x) on full is (omega arith))
+pub upgrade_full : (rows : NetRows) (certified : Certified) (answer : Answer) → answer ≡ upgrade_answer rows certified → answer.status ≤ 1 → IsNotRefused certified
+upgrade_full rows certified answer same full judged e above = not_full answer (outcomes.Judged judged) (same ∙ ap (upgrade_answer rows) e) full above
 
-cert_net : (old new : ShelfView) (script : List ℕ) (rows : NetRows) (lines : List Line) (head : CertHead) (certified : Certified) (answer : Answer) → head_in lines ≡ Ok head
-    → (r : Result ScaledNet NetRefusal) → scaled_of rows (options_of head) ≡ r → OnNet rows lines r certified → OnCertified rows script certified old new answer → answer.status ≤ 1 → IsCertRead rows lines certified
-cert_net old new script rows lines head certified answer h (Ok net) e is on full = cert_paper old new script rows lines head net certified answer h e (paper_in (sheet_of rows net) lines) refl is on full
-cert_net old new script rows lines head certified answer h (Err x) e is on full = absurd (said_full old new rows script certified answer (judges.NetRefused x) on full is (omega arith))
+cert_paper : (rows : NetRows) (lines : List Line) (head : CertHead) (net : ScaledNet) (certified : Certified) → head_in lines ≡ Ok head → scaled_of rows (options_of head) ≡ Ok net
+    → (r : Result Paper CertRefusal) → paper_in (sheets_of rows net) lines ≡ r → OnPaper rows net r certified → IsNotRefused certified → IsCertRead rows lines certified
+cert_paper rows lines head net certified h s (Ok (papers.Full proof)) e is only = record { net = net; proof = proof; head = head; head_read = h; scaled = s; rest_read = e; on = is }
+cert_paper rows lines head net certified h s (Ok (papers.Routing r)) e is only = absurd is
+cert_paper rows lines head net certified h s (Err x) e is only = absurd (only (judges.CertRefused x) is (omega arith))
 
-cert_head : (old new : ShelfView) (script : List ℕ) (rows : NetRows) (lines : List Line) (certified : Certified) (answer : Answer)
-    → (r : Result CertHead CertRefusal) → head_in lines ≡ r → OnHead rows lines r certified → OnCertified rows script certified old new answer → answer.status ≤ 1 → IsCertRead rows lines certified
-cert_head old new script rows lines certified answer (Ok head) e is on full = cert_net old new script rows lines head certified answer e (scaled_of rows (options_of head)) refl is on full
-cert_head old new script rows lines certified answer (Err x) e is on full = absurd (said_full old new rows script certified answer (judges.CertRefused x) on full is (omega arith))
+cert_net : (rows : NetRows) (lines : List Line) (head : CertHead) (certified : Certified) → head_in lines ≡ Ok head
+    → (r : Result ScaledNet NetRefusal) → scaled_of rows (options_of head) ≡ r → OnNet rows lines r certified → IsNotRefused certified → IsCertRead rows lines certified
+cert_net rows lines head certified h (Ok net) e is only = cert_paper rows lines head net certified h e (paper_in (sheets_of rows net) lines) refl is only
+cert_net rows lines head certified h (Err x) e is only = absurd (only (judges.NetRefused x) is (omega arith))
 
-cert_header : (old new : ShelfView) (script : List ℕ) (rows : NetRows) (lines : List Line) (certified : Certified) (answer : Answer)
-    → (b : Bool) → OnHeader rows lines b certified → OnCertified rows script certified old new answer → answer.status ≤ 1 → IsCertRead rows lines certified
-cert_header old new script rows lines certified answer false is on full = cert_head old new script rows lines certified answer (head_in lines) refl is on full
-cert_header old new script rows lines certified answer true is on full = absurd (said_full old new rows script certified answer (judges.CertRefused no_header) on full is (omega arith))
+cert_head : (rows : NetRows) (lines : List Line) (certified : Certified)
+    → (r : Result CertHead CertRefusal) → head_in lines ≡ r → OnHead rows lines r certified → IsNotRefused certified → IsCertRead rows lines certified
+cert_head rows lines certified (Ok head) e is only = cert_net rows lines head certified e (scaled_of rows (options_of head)) refl is only
+cert_head rows lines certified (Err x) e is only = absurd (only (judges.CertRefused x) is (omega arith))
+
+pub cert_header : (rows : NetRows) (lines : List Line) (certified : Certified)
+    → (b : Bool) → OnHeader rows lines b certified → IsNotRefused certified → IsCertRead rows lines certified
+cert_header rows lines certified false is only = cert_head rows lines certified (head_in lines) refl is only
+cert_header rows lines certified true is only = absurd (only (judges.CertRefused no_header) is (omega arith))
 
 -- a certificate is told, and not want of memory
 certificate_full : (rows : NetRows) (script text : List ℕ) (old new : ShelfView) (answer : Answer) → answer.status ≤ 1 → OrMemory (OnCertificate rows script text) old new answer → OnCertificate rows script text old new answer
@@ -231,7 +238,7 @@ whatif_accepts files request old new answer tells full of =
     let r = rows_of_file files first (λ rows. OfFile MAX_CERT_BYTES kinds.Certificate cert (λ text. OrMemory (OnCertificate rows script text))) old new answer tells full of in
     let t = text_of_file MAX_CERT_BYTES kinds.Certificate files cert (λ text. OrMemory (OnCertificate r.0 script text)) (with_file old first) new answer tells full r.2 in
     let on = certificate_full r.0 script t.0 (with_file (with_file old first) cert) new answer full t.2 in
-    let p = cert_header (with_file (with_file old first) cert) new script r.0 (lines_of t.0) on.0 answer (is_routing (lines_of t.0)) on.1 on.2 full in (
+    let p = cert_header r.0 (lines_of t.0) on.0 (is_routing (lines_of t.0)) on.1 (said_full (with_file (with_file old first) cert) new r.0 script on.0 answer on.2 full) in (
       r.0,
       r.1,
       p.net,
@@ -240,12 +247,25 @@ whatif_accepts files request old new answer tells full of =
       λ valid. script_where_valid files script r.0 p.net p.proof on.0 (with_file (with_file old first) cert) new answer tells full p.on on.2 valid,
     )
 
+-- ---- upgrade
+
+upgrade_accepts : (files : Holding) (request : Request) (old new : ShelfView) (answer : Answer) → old.holds ≡ Some files → answer.status ≤ 1 → OfUpgrade (file_at request 0) (file_at request 1) old new answer → AcceptsUpgrade files request
+upgrade_accepts files request old new answer tells full of =
+    let first = file_at request 0 in
+    let cert = file_at request 1 in
+    let r = rows_of_file files first (λ rows. OfUpgraded rows cert) old new answer tells full of in
+    let t = text_of_file MAX_CERT_BYTES kinds.Certificate files cert (λ text. Ends (OnUpgrade r.0 text)) (with_file old first) new answer tells full r.2 in
+    let on : OnUpgrade r.0 t.0 answer = ends_full (OnUpgrade r.0 t.0) (with_file (with_file old first) cert) new answer full t.2 in
+    let p = cert_header r.0 (lines_of t.0) on.0 (is_routing (lines_of t.0)) on.1 (upgrade_full r.0 on.0 answer on.2 full) in
+    (r.0, r.1, p.net, p.proof, record { text = t.0; given = t.1; head = p.head; head_read = p.head_read; scaled = p.scaled; rest_read = p.rest_read })
+
 -- ---- all commands
 
 command_accepts : (command : Command) (files : Holding) (request : Request) (old new : ShelfView) (answer : Answer) → old.holds ≡ Some files → answer.status ≤ 1 → OfCommand command request old new answer → Accepts command files request
 command_accepts commands.Solve files request old new answer tells full of = solve_accepts files request old new answer tells full of
 command_accepts commands.Check files request old new answer tells full of = check_accepts files request old new answer tells full of
 command_accepts commands.WhatIf files request old new answer tells full of = whatif_accepts files request old new answer tells full of
+command_accepts commands.Upgrade files request old new answer tells full of = upgrade_accepts files request old new answer tells full of
 command_accepts commands.Print files request old new answer tells full of = print_accepts files request old new answer tells full of
 command_accepts commands.Gen files request old new answer tells full of = tt
 command_accepts commands.Trial files request old new answer tells full of = trial_accepts request answer full (ends_full (OfTrial request) old new answer full of)

@@ -1,3 +1,4 @@
+pub mod Named
 pub mod Given
 pub mod Forms
 pub mod Answered

@@ -8,7 +8,7 @@ use Rattle.flow_paths.specs.Certificate.{IsValid}
 use Rattle.sndlib_grammar.specs.Rows.{NetRows}
 use Rattle.sndlib_grammar.specs.Net.{rows_of}
 use Rattle.unit_scale.specs.Scaling.{ScaledNet, scaled_of}
-use Rattle.cert_names.specs.Sheet.{sheet_of}
+use Rattle.cert_names.specs.Sheet.{sheets_of}
 use Rattle.cert_text.specs.declared.opening.CertHead.{CertHead}
 use Rattle.cert_text.specs.declared.papers.Paper.{Paper}
 use Rattle.cert_text.specs.declared.papers.Paper.TheVariants.{Full}
@@ -18,7 +18,7 @@ use Rattle.net_solve.specs.Asked.{IsTooMuch}
 use Rattle.script.specs.declared.step.Step.{Step}
 use Rattle.script.specs.Reading.{script_of}
 use Rattle.mcf_words.specs.declared.request.Command.{Command}
-use Rattle.mcf_words.specs.declared.request.Command.TheVariants.{Solve, Check, WhatIf, Print, Gen, Trial}
+use Rattle.mcf_words.specs.declared.request.Command.TheVariants.{Solve, Check, WhatIf, Upgrade, Print, Gen, Trial}
 use Rattle.mcf_words.specs.declared.request.Request.{Request}
 use Rattle.mcf_words.specs.Request.{request_of}
 use Rattle.mcf_base.specs.Reading.{IsText}
@@ -38,15 +38,15 @@ pub record IsSolvable (rows : NetRows) (request : Request) : Type 0 where
   pub scaled : scaled_of rows request.net ≡ Ok net
   pub work : (n : ℕ) → ¬ (IsTooMuch net.net (asked_of request) n)
 
--- The file of that name is the text of this certificate or routing within its limit: its head is read, the rows are this network in whole
--- units under the head's options, and the rest is read with the network's names.
+-- The file of that name is the text of this certificate or routing within its limit, in either form: its head is read, the
+-- rows are this network in whole units under the head's options, and the rest is read with the network's names.
 pub record IsPaperFile (files : Holding) (name : List ℕ) (rows : NetRows) (net : ScaledNet) (paper : Paper) : Type 0 where
   pub text : List ℕ
   pub given : IsText MAX_CERT_BYTES (Some files) name text
   pub head : CertHead
   pub head_read : head_in (lines_of text) ≡ Ok head
   pub scaled : scaled_of rows (options_of head) ≡ Ok net
-  pub rest_read : paper_in (sheet_of rows net) (lines_of text) ≡ Ok paper
+  pub rest_read : paper_in (sheets_of rows net) (lines_of text) ≡ Ok paper
 
 -- the file of that name is a script within its limit, all of whose steps the network has and allows
 pub record IsScriptFile (files : Holding) (name : List ℕ) (rows : NetRows) (net : ScaledNet) : Type 0 where
@@ -65,11 +65,21 @@ AcceptsSolve files request = (rows : NetRows) × IsNetFile files (file_at reques
 
 -- a network, and a certificate or routing for it
 abbrev pub AcceptsCheck : Holding → Request → Type 0
-AcceptsCheck files request = (rows : NetRows) × IsNetFile files (file_at request 0) rows × (net : ScaledNet) × (paper : Paper) × IsPaperFile files (file_at request 1) rows net paper
+AcceptsCheck files request =
+    (rows : NetRows) × IsNetFile files (file_at request 0) rows
+    × (net : ScaledNet) × (paper : Paper) × IsPaperFile files (file_at request 1) rows net paper
+
+-- a network, and a certificate for it
+abbrev pub AcceptsUpgrade : Holding → Request → Type 0
+AcceptsUpgrade files request =
+    (rows : NetRows) × IsNetFile files (file_at request 0) rows
+    × (net : ScaledNet) × (proof : Proof) × IsPaperFile files (file_at request 1) rows net (Full proof)
 
 -- a network, a certificate for it, and, where that is valid, so that the script is read, a script
 abbrev pub AcceptsWhatIf : Holding → Request → Type 0
-AcceptsWhatIf files request = (rows : NetRows) × IsNetFile files (file_at request 0) rows × (net : ScaledNet) × (proof : Proof) × IsPaperFile files (file_at request 1) rows net (Full proof)
+AcceptsWhatIf files request =
+    (rows : NetRows) × IsNetFile files (file_at request 0) rows
+    × (net : ScaledNet) × (proof : Proof) × IsPaperFile files (file_at request 1) rows net (Full proof)
     × (IsValid net.net proof → IsScriptFile files (file_at request 2) rows net)
 
 -- no file is read; the work that is asked on the network that is drawn is within its limit
@@ -81,6 +91,7 @@ abbrev pub Accepts : Command → Holding → Request → Type 0
 Accepts Solve files request = AcceptsSolve files request
 Accepts Check files request = AcceptsCheck files request
 Accepts WhatIf files request = AcceptsWhatIf files request
+Accepts Upgrade files request = AcceptsUpgrade files request
 Accepts Print files request = AcceptsPrint files request
 Accepts Gen files request = Unit {0}
 Accepts Trial files request = AcceptsTrial request

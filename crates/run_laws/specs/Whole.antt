@@ -12,7 +12,7 @@ use Rattle.mcf_cli.specs.Run.{OfRequest}
 -- neither the shelf's nor the output's count of faults rose
 pub record HasNoFault (old new : ShelfView) (before after : SinkView) : Type 0 where
   pub shelf : ¬ (Rose old.faults.count new.faults.count)
-  pub output : ¬ (Rose before.faults after.faults)
+  pub output : ¬ (Rose before.faults.count after.faults.count)
 
 -- the answer is one that the command's clause gives, and its status is 0 or 1
 pub record IsResult (words : List (List ℕ)) (old new : ShelfView) (answer : Answer) : Type 0 where

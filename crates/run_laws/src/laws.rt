@@ -1,8 +1,9 @@
 //! Laws, each proved for all words, files, outputs and ends of a run.
 
-ghost use Rattle.run_laws.specs.Checked.{SolvedRunsCheck};
+ghost use Rattle.run_laws.specs.Checked.{SolvedRunsCheck, UpgradedRunsCheck, UpgradedRunsKeep};
 ghost use Rattle.run_laws.specs.Laws.{AcceptedRunsAreWhole, OnlyAcceptedRunsAre, RunsStartTheirFiles};
 
+use cert_inverse::{networks_are_citable, texts_read_exactly, valid_texts_are_judged_valid};
 use net_solve::solves_check;
 
 /// Where the words are in the grammar, each file that the command reads is accepted, the work is within its limit, and no
@@ -17,8 +18,8 @@ pub fn only_accepted_runs_are()
     ensures { OnlyAcceptedRunsAre }
 {}
 
-/// A run starts the files of its words alone, in their order, each at most once. Unless it ends with 4 or 5, no file has failed
-/// on the way, and unless with 5, the output has not.
+/// A run starts the files of its words alone, in their order, each at most once. It ends with 4 or 5 where one of these files has
+/// failed, and with 4 nowhere else; with 5 exactly where the output has, which then failed once, with nothing written behind.
 pub fn runs_start_their_files()
     ensures { RunsStartTheirFiles }
 {}
@@ -29,4 +30,23 @@ pub fn solved_runs_check()
     ensures { SolvedRunsCheck }
 {
     solves_check();
+}
+
+/// What a run of `upgrade` wrote is the text, in form 2, of the valid certificate that it read in either form: its phases, rows
+/// and dual are those of the file, and a file of form 2 is written again byte for byte.
+pub fn upgraded_runs_keep_their_certificate()
+    ensures { UpgradedRunsKeep }
+{
+    networks_are_citable();
+    texts_read_exactly();
+}
+
+/// It is called `valid` by a run of `check` on the same network, with that certificate's verdict and fractions and status 0,
+/// unless something fails, memory is wanting, or the text is over the limit of certificate texts.
+pub fn upgraded_runs_check()
+    ensures { UpgradedRunsCheck }
+{
+    networks_are_citable();
+    texts_read_exactly();
+    valid_texts_are_judged_valid();
 }

@@ -22,15 +22,15 @@ use Rattle.run_base.specs.declared.ended.Ended.{Ended}
 use Rattle.run_base.specs.Answer.{IsTold, OrWant, Writes, answer_of}
 use Rattle.run_base.specs.Judged.{verdict_word}
 use Rattle.run_solves.specs.Solve.{asked_of}
-use Rattle.run_solves.specs.Drawn.{text_drawn, trial_words, trial_line, net_drawn, TriesRows, OfTrial}
+use Rattle.run_solves.specs.Drawn.{text_drawn, trial_words, trial_line, links_drawn, net_drawn, TriesRows, OfTrial}
 
 -- the words that were written are those of the line
-pub trial_line_is : (net : Network) (s : SolvedView) (nodes links commodities total phases routes carried verdict : List ℕ)
-    → nodes ≡ decimal net.nodes → links ≡ decimal (length net.cells) → commodities ≡ decimal (length net.commodities) → total ≡ decimal (total_of net)
+pub trial_line_is : (of_links : ℕ) (net : Network) (s : SolvedView) (nodes links commodities total phases routes carried verdict : List ℕ)
+    → nodes ≡ decimal net.nodes → links ≡ decimal of_links → commodities ≡ decimal (length net.commodities) → total ≡ decimal (total_of net)
     → phases ≡ decimal s.proof.routing.phases → routes ≡ decimal (routes_of s) → carried ≡ decimal (carried_of s.proof.routing.paths) → verdict ≡ verdict_word s.proof.closed
     → codes "trial" ∷ codes "nodes" ∷ nodes ∷ codes "links" ∷ links ∷ codes "commodities" ∷ commodities ∷ codes "total" ∷ total ∷ codes "phases" ∷ phases
-    ∷ codes "routes" ∷ routes ∷ codes "carried" ∷ carried ∷ verdict ∷ [] ≡ trial_words net s
-trial_line_is net s nodes links commodities total phases routes carried verdict a b c d e f g h = rw (a, b, c, d, e, f, g, h) refl
+    ∷ codes "routes" ∷ routes ∷ codes "carried" ∷ carried ∷ verdict ∷ [] ≡ trial_words of_links net s
+trial_line_is of_links net s nodes links commodities total phases routes carried verdict a b c d e f g h = rw (a, b, c, d, e, f, g, h) refl
 
 pub counts_are : (numbers : List ℕ) → AreDrawn numbers → AreCounts (slice_index numbers 1) (slice_index numbers 2) (slice_index numbers 3)
 counts_are numbers (a, b, c, d, e, f) = record { some_nodes = a; most_nodes = b; some_links = c; most_links = d; some_demands = e; most_demands = f }
@@ -43,11 +43,11 @@ scaled_is a b e = cc
 
 -- a solve of the rows was told
 pub told_done : (request : Request) (rows : NetRows) (net : ScaledNet) (s : SolvedView) (n : Network) (old new : SinkView) (ended : Ended)
-    → scaled_of rows request.net ≡ Ok (net_drawn request) → IsDone rows request.net (asked_of request) net s → n ≡ net.net → Writes old new ended (trial_line n s)
+    → scaled_of rows request.net ≡ Ok (net_drawn request) → IsDone rows request.net (asked_of request) net s → n ≡ net.net → Writes old new ended (trial_line (links_drawn request) n s)
     → IsTold (OrWant (TriesRows request rows)) old new ended
 told_done request rows net s n old new ended drawn done same written =
     let is : net ≡ net_drawn request = scaled_is net (net_drawn request) (sym done.network ∙ drawn) in
-    (trial_line (net_drawn request).net s, inr (inr (s, subst (λ m. IsDone rows request.net (asked_of request) m s) is done, refl)), subst (λ m. Writes old new ended (trial_line m s)) (same ∙ ap (λ (m : ScaledNet). m.net) is) written)
+    (trial_line (links_drawn request) (net_drawn request).net s, inr (inr (s, subst (λ m. IsDone rows request.net (asked_of request) m s) is done, refl)), subst (λ m. Writes old new ended (trial_line (links_drawn request) m s)) (same ∙ ap (λ (m : ScaledNet). m.net) is) written)
 
 -- and so was the work
 pub told_work : (request : Request) (rows : NetRows) (n : ℕ) (old new : SinkView) (ended : Ended)

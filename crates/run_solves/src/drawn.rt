@@ -67,13 +67,19 @@ pub fn gen_net<K: Sink>(alloc: Global, out: &mut K, request: &Request) -> Ended
 }
 
 // The words of the line of a solve, behind the first.
-fn write_trial<K: Sink>(net: &Net, solved: &Solved, out: &mut K) -> Result<(), WriteFault>
+fn write_trial<K: Sink>(
+    links: u64,
+    net: &Net,
+    solved: &Solved,
+    out: &mut K,
+) -> Result<(), WriteFault>
     requires { (o : SolveOptions) × IsSolved net.now o solved.now }
-    ensures { Wrote (K.seen out.old) (K.seen out.new) result (spelled (trial_words net.now solved.now)) }
+    ensures { Wrote (K.seen out.old) (K.seen out.new) result
+        (spelled (trial_words links net.now solved.now)) }
 {
     let proof = solved.proof();
     let nodes = Word::number(net.nodes() as u128);
-    let links = Word::number(net.cells().len() as u128);
+    let links = Word::number(links as u128);
     let commodities = Word::number(net.commodities().len() as u128);
     let total = Word::number(total_amount(net) as u128);
     let phases = Word::number(proof.routing.phases as u128);
@@ -100,12 +106,12 @@ fn write_trial<K: Sink>(net: &Net, solved: &Solved, out: &mut K) -> Result<(), W
 }
 
 // Writes the line of a solve, and ends with its status.
-fn tell_trial<K: Sink>(net: &Net, solved: Solved, out: &mut K) -> Ended
+fn tell_trial<K: Sink>(links: u64, net: &Net, solved: Solved, out: &mut K) -> Ended
     requires { (o : SolveOptions) × IsSolved net.now o solved }
-    ensures { Writes (K.seen out.old) (K.seen out.new) result (trial_line net.now solved) }
+    ensures { Writes (K.seen out.old) (K.seen out.new) result (trial_line links net.now solved) }
 {
     let status = verdict_status(solved.proof().closed);
-    match write_trial(net, &solved, out) {
+    match write_trial(links, net, &solved, out) {
         Ok(()) => Ended {
             status,
             found: Found::solve(solved),
@@ -131,7 +137,7 @@ fn try_rows<K: Sink, G: Gate, R: Threads + Sync>(
 {
     drawn_networks_are_scaled();
     match solve_rows(rt, alloc, raw, request.net, &asked_by(request), gate) {
-        Ok(Solving::Done(net, solved)) => tell_trial(net.net(), solved, out),
+        Ok(Solving::Done(net, solved)) => tell_trial(request.numbers[2], net.net(), solved, out),
         Ok(Solving::Refused(_)) => unreachable!(),
         Ok(Solving::TooMuch(work)) => tell(out, Outcome::TooMuch(work)),
         Err(_) => tell(out, Outcome::Memory),

@@ -10,7 +10,7 @@ ghost use Rattle.net_solve.specs.Asked.{IsAsked};
 ghost use Rattle.run_base.specs.Answer.{IsTold, OrWant, Writes};
 ghost use Rattle.run_solves.specs.Solve.{asked_of, solve_answer, SolvesRows, OfSolve};
 
-use cert_names::Names;
+use cert_names::{Form, Names};
 use cert_writer::write_cert;
 use flow_solver::Solved;
 use mcf_base::{Gate, Shelf, Sink};
@@ -31,7 +31,7 @@ fn write_solved<K: Sink>(raw: &RawNet<'_>, net: &Scaled, solved: Solved, out: &m
     ensures { Writes (K.seen out.old) (K.seen out.new) result (solve_answer raw.now net.now solved) }
 {
     let status = verdict_status(solved.proof().closed);
-    match write_cert(&Names::new(raw, net), solved.proof(), out) {
+    match write_cert(&Names::new(raw, net, Form::Second), solved.proof(), out) {
         Ok(()) => Ended {
             status,
             found: Found::solve(solved),

@@ -1,4 +1,5 @@
 use Rattle.run_certs.specs.Check.{OfCheck}
+use Rattle.run_certs.specs.Upgrade.{OfUpgrade}
 use Rattle.run_certs.specs.WhatIf.{OfWhatIf}
 use Rattle.mcf_cli.specs.Run.{file_at}
 use Rattle.mcf_cli.proofs.run_words.run_command.Goals as goal
@@ -9,6 +10,13 @@ returns-in-Check g c =
     let of : OfCheck (file_at c.args.request.now 0) (file_at c.args.request.now 1) (g.F.Shelf.seen c.args.shelf.now) (g.F.Shelf.seen c.check.new.shelf) told.0 =
     rw (c.name-in-Check.ensures, c.name-in-Check-2.ensures) at told.1 in
     rw c.in-Check.is (told.0, of, told.2)
+
+pub returns-in-Upgrade : goal.returns-in-Upgrade
+returns-in-Upgrade g c =
+    let told = c.upgrade.ensures in
+    let of : OfUpgrade (file_at c.args.request.now 0) (file_at c.args.request.now 1) (g.F.Shelf.seen c.args.shelf.now) (g.F.Shelf.seen c.upgrade.new.shelf) told.0 =
+    rw (c.name-in-Upgrade.ensures, c.name-in-Upgrade-2.ensures) at told.1 in
+    rw c.in-Upgrade.is (told.0, of, told.2)
 
 pub returns-in-WhatIf : goal.returns-in-WhatIf
 returns-in-WhatIf g c =

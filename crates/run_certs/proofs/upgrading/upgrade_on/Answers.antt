@@ -24,4 +24,4 @@ returns-in-Ok-Said g c =
     let is : IsCertifiedText c.args.rows.now c.in-Ok.text.items (Said c.in-Ok-Said.judged) = search rules in
     let came = file_came MAX_CERT_BYTES Certificate c.args.cert.now (λ text. Ends (OnUpgrade c.args.rows.now text)) _ _ _ _ _ c.in-Ok.ensures.0 c.in-Ok.ensures.1
     (refl, inr (Said c.in-Ok-Said.judged, is, refl)) in
-    (upgrade_answer c.args.rows.now (Said c.in-Ok-Said.judged), came, c.tell.ensures)
+    (upgrade_answer c.args.rows.now (Said c.in-Ok-Said.judged), came, c.tell-in-Ok-Said.ensures)

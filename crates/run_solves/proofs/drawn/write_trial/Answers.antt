@@ -8,9 +8,9 @@ use Rattle.run_solves.proofs.drawn.write_trial.Goals as goal
 
 pub returns : goal.returns
 returns g c =
-    let line = trial_line_is c.args.net.now c.args.solved.now _ _ _ _ _ _ _ _
+    let line = trial_line_is c.args.links c.args.net.now c.args.solved.now _ _ _ _ _ _ _ _
     (c.bytes.ensures ∙ c.number-nodes.ensures ∙ ap decimal c.nodes.ensures.value)
-    (c.bytes-2.ensures ∙ c.number-links.ensures ∙ ap (λ xs. decimal (length xs)) c.cells.ensures.value)
+    (c.bytes-2.ensures ∙ c.number-links.ensures)
     (c.bytes-3.ensures ∙ c.number-commodities.ensures ∙ ap (λ xs. decimal (length xs)) c.commodities.ensures.value)
     (c.bytes-4.ensures ∙ c.number-total.ensures ∙ ap decimal c.total_amount.ensures)
     (c.bytes-5.ensures ∙ c.number-phases.ensures ∙ ap (λ p. decimal p.routing.phases) c.proof-proof.ensures)

@@ -10,4 +10,4 @@ returns-in-Ok g c =
 pub returns-in-Err : goal.returns-in-Err
 returns-in-Err g c =
     let wrote = text_wrote _ _ c.write_cert.result _ _ _ _ c.new.ensures c.proof-2.ensures c.write_cert.ensures in
-    inr (record { ends = search rules; text = search rules; rose = search rules; later = search rules })
+    inr (record { ends = search rules; text = search rules; failed = search rules; later = search rules })

@@ -1,6 +1,6 @@
 -- Sums over what a test keeps, and over equal numbers.
-use Rattle.std.proofs.Common.{◌≡◌, ℕ, suc, ◌+◌, ◌*◌, ◌<◌, Bool, true, false, cond, List, [], ◌∷◌, length, get_or, refl, sym, ap, ◌∙◌, arith}
-use Rattle.std.specs.Prelude.{All}
+use Rattle.std.proofs.Common.{◌≡◌, ℕ, suc, ◌+◌, ◌*◌, Bool, true, false, cond, List, [], ◌∷◌, refl, ◌∙◌, arith}
+use Rattle.std.specs.Prelude.{All, IfOk, Result, Ok, Err}
 use Rattle.std.specs.List.{filter, sum_by}
 use Rattle.std.proofs.lemmas.List.Sums.{sum_by-cons}
 
@@ -21,3 +21,8 @@ sum-same f g (x ∷ xs) h =
     let here : f x ≡ g x = h 0 x (omega arith) in
     let rest : sum_by f xs ≡ sum_by g xs = sum-same f g xs (λ i d lt. h (suc i) d (omega arith)) in
     omega (arith, sum_by-cons f x xs, sum_by-cons g x xs)
+
+-- both facts of a result
+pub if-both : {X E : Type 0} (r : Result X E) (P Q : X → Type 0) → IfOk r P → IfOk r Q → IfOk r (λ x. P x × Q x)
+if-both (Ok x) P Q p q = (p, q)
+if-both (Err e) P Q p q = tt

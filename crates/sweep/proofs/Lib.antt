@@ -1,0 +1,4 @@
+pub mod Closing
+pub mod Putting
+pub mod Written
+pub mod Gathering

@@ -1,0 +1,4 @@
+pub mod Sweep
+pub mod Slots
+pub mod Lines
+pub mod Laws
