@@ -1,0 +1,6 @@
+pub mod Basics
+pub mod PartsRead
+pub mod PartsFound
+pub mod Saying
+pub mod Reading
+pub mod Wording

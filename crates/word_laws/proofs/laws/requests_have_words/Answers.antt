@@ -1,0 +1,10 @@
+use Rattle.word_laws.specs.Words.{words_for}
+use Rattle.word_laws.proofs.Reading.{read_again}
+use Rattle.word_laws.proofs.Wording.{words_spelled}
+use Rattle.word_laws.proofs.laws.requests_have_words.Goals as goal
+
+pub returns-clause-spelled : goal.returns-clause-spelled
+returns-clause-spelled c = words_spelled
+
+pub returns-clause-read : goal.returns-clause-read
+returns-clause-read c = λ r is. read_again (words_for r) r (words_spelled r is)

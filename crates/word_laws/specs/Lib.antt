@@ -1,0 +1,5 @@
+pub mod Laws
+pub mod Parts
+pub mod Spelled
+pub mod Values
+pub mod Words
