@@ -1,21 +1,7 @@
 -- Of several the first of the least value.
-use Rattle.std.specs.Prelude.{◌≡◌, ℕ, ◌<◌, ◌≤◌, List, [], ◌∷◌, All, Some, length, slice_get, if◌then◌else◌}
-use Rattle.gap_fraction.specs.Fraction.{Fraction, FractionLe}
-use Rattle.flow_paths.specs.Evaluation.{fraction_le}
-
--- of the items the first of the least value, and `none` where there is no item
-abbrev pub least_by : {X : Type 0} → (X → Fraction) → X → List X → X
-least_by value none [] = none
-least_by value none (x ∷ []) = x
-least_by value none (x ∷ y ∷ ys) =
-    let rest = least_by value none (y ∷ ys) in if fraction_le (value x) (value rest) then x else rest
-
--- it is one of them, none is below it, and all before it are above it
-pub record IsFirstLeast {X : Type 0} (value : X → Fraction) (xs : List X) (x : X) : Type 0 where
-  pub place : ℕ
-  pub here : slice_get xs place ≡ Some x
-  pub least : All (λ y. FractionLe (value x) (value y)) xs
-  pub before : (i : ℕ) (y : X) → i < place → slice_get xs i ≡ Some y → ¬ (FractionLe (value y) (value x))
+use Rattle.std.specs.Prelude.{ℕ, ◌≤◌, List, All, length}
+use Rattle.gap_fraction.specs.Fraction.{Fraction}
+use Rattle.path_rows.specs.Least.{least_by, IsFirstLeast}
 
 -- where no value divides by 0, the first of the least is what its name says
 abbrev pub LeastIsFirst : Type 0 → Type 0
