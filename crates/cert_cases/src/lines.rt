@@ -1,6 +1,6 @@
-use line_writer::{Buffer, Word};
 use mcf_base::MemSink;
 use std::test::Fail;
+use text_lines::{Buffer, Word};
 
 #[test]
 fn lines_through_the_buffer(rt: HostRuntime) -> Result<(), Fail> {

@@ -7,12 +7,11 @@ ghost use Rattle.unit_scale.specs.Scaling.{scaled_of};
 use crate::one_link::{CERTIFICATE, ONE_LINK, ROUTING, SIGNED, SIGNED_ROUTING, edited};
 use cert_text::{CertEnd, CertKind, Form, Kind, cert_head, read_cert};
 use mcf_limits::MAX_CERT_BYTES;
-use net_options::{LinkMode, ModuleMode, NetOptions};
 use sndlib_read::{RawNet, read_net};
 use std::alloc::Global;
 use std::process::Abort;
 use std::test::Fail;
-use unit_scale::{Scaled, scale};
+use unit_scale::{LinkMode, ModuleMode, NetOptions, Scaled, scale};
 
 // A text to be replaced, what takes its place, and the line and kind of the refusal.
 type Edit = (&'static [u8], &'static [u8], u32, CertKind);

@@ -12,14 +12,14 @@ use Rattle.std.proofs.lemmas.List.{length-append, take-append-drop, take-append-
 use Rattle.std.proofs.lemmas.List.Sums.{split_at_first, passes_at_first}
 use Rattle.std.proofs.lemmas.Str.Parse.{digit_from_value}
 use Rattle.gap_fraction.specs.declared.fraction.TheConstants.{MAX_PART}
-use Rattle.line_writer.specs.Spelling.{fraction_word, six_digits, decimal_word}
+use Rattle.text_lines.specs.Spelling.{fraction_word, six_digits, decimal_word}
 use Rattle.cert_lines.specs.declared.refusal.CertKind.{CertKind}
 use Rattle.cert_lines.specs.declared.refusal.CertKind.TheVariants.{BadNumber}
 use Rattle.cert_lines.specs.Forms.{◌>>=◌, stroke_parts, is_full}
 use Rattle.cert_lines.specs.Numbers.{number_within, is_micro, micro_value, decimal_within}
 use Rattle.cert_lines.proofs.NumberLaws.{number_takes, number_again}
 use Rattle.cert_lines.proofs.NumberSteps.{both_true, digit_at, digits_behind}
-use Rattle.cert_laws.proofs.Steps.{bind_ok, done, ok_is, passed}
+use Rattle.cert_judge.proofs.Steps.{bind_ok, done, ok_is, passed}
 use Rattle.cert_inverse.proofs.Words.{full_word}
 
 pub full_number : (n : ℕ) → n ≤ MAX_PART → is_full (decimal n) ≡ true

@@ -18,7 +18,7 @@ use Rattle.cert_text.specs.declared.papers.Paper.TheVariants as papers
 use Rattle.cert_text.specs.Whole.{paper_in}
 use Rattle.cert_text.proofs.LineSteps.{has_line, text_bytes}
 use Rattle.cert_writer.specs.Text.{end_line}
-use Rattle.cert_laws.specs.Fits.{FitsPaper, read}
+use Rattle.cert_judge.specs.Fits.{FitsPaper, read}
 use Rattle.cert_inverse.specs.Inverse.{AreInForms, IsCitable, paper_lines, paper_text, refused_behind}
 use Rattle.cert_inverse.proofs.Words.{full_word}
 use Rattle.cert_inverse.proofs.Headers.{forms_are, forms_meet}

@@ -8,7 +8,7 @@ use Rattle.text_lines.specs.Lines.{Line}
 use Rattle.flow_paths.specs.declared.certificate.Printed.{Printed}
 use Rattle.gap_fraction.specs.declared.fraction.TheConstants.{MAX_PART}
 use Rattle.mcf_limits.specs.declared.TheConstants.{MAX_GAP, MAX_LENGTH, MAX_PHASES, MAX_UNITS}
-use Rattle.line_writer.specs.Spelling.{fraction_word, decimal_word}
+use Rattle.text_lines.specs.Spelling.{fraction_word, decimal_word}
 use Rattle.cert_lines.specs.declared.refusal.CertKind.{CertKind}
 use Rattle.cert_lines.specs.declared.refusal.CertKind.TheVariants.{Syntax, TooLarge}
 use Rattle.cert_lines.specs.Forms.{◌>>=◌, or_fault, one_behind, two_behind, stroke_parts, is_fixed}
@@ -17,8 +17,8 @@ use Rattle.cert_lines.specs.HeadLines.{verdict_line, gap_line, phases_line, scal
 use Rattle.cert_lines.specs.Spelling.{verdict_words, gap_words, phases_words, scale_words, value_words}
 use Rattle.cert_lines.proofs.NumberLaws.{number_takes}
 use Rattle.cert_text.specs.Reading.{fixed_line, mode_line}
-use Rattle.cert_laws.proofs.Steps.{bind_ok, done, ok_is, some_is, passed}
-use Rattle.cert_laws.proofs.LineFits.{decimal_fits}
+use Rattle.cert_judge.proofs.Steps.{bind_ok, done, ok_is, some_is, passed}
+use Rattle.cert_judge.proofs.LineFits.{decimal_fits}
 use Rattle.cert_inverse.proofs.Words.{same_bytes, one_takes, two_takes}
 use Rattle.cert_inverse.proofs.Decimals.{decimal_takes, fraction_takes}
 

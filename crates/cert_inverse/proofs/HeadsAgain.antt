@@ -3,12 +3,12 @@ use Rattle.std.proofs.Common.{◌≡◌, ℕ, ◌+◌, ◌<◌, List, [], ◌∷
 use Rattle.std.specs.Prelude.{codes}
 use Rattle.text_lines.specs.Lines.{Line, lines_of}
 use Rattle.text_lines.proofs.Laws.{ended, lines_of-text}
-use Rattle.net_options.specs.Modes.{module_word}
-use Rattle.net_options.specs.declared.modes.LinkMode.{LinkMode}
-use Rattle.net_options.specs.declared.modes.LinkMode.TheVariants.{Directed, Undirected, Bidirected}
-use Rattle.net_options.specs.declared.modes.ModuleMode.{ModuleMode}
-use Rattle.net_options.specs.declared.modes.ModuleMode.TheVariants.{Ignore, Largest, Sum}
-use Rattle.net_options.specs.declared.options.NetOptions.{NetOptions}
+use Rattle.unit_scale.specs.Modes.{module_word}
+use Rattle.unit_scale.specs.declared.modes.LinkMode.{LinkMode}
+use Rattle.unit_scale.specs.declared.modes.LinkMode.TheVariants.{Directed, Undirected, Bidirected}
+use Rattle.unit_scale.specs.declared.modes.ModuleMode.{ModuleMode}
+use Rattle.unit_scale.specs.declared.modes.ModuleMode.TheVariants.{Ignore, Largest, Sum}
+use Rattle.unit_scale.specs.declared.options.NetOptions.{NetOptions}
 use Rattle.cert_names.specs.Sheet.{Sheet}
 use Rattle.cert_names.specs.declared.form.Form.{Form}
 use Rattle.cert_names.specs.declared.form.Form.TheVariants.{First, Second}
@@ -20,7 +20,7 @@ use Rattle.cert_text.specs.declared.opening.Kind.TheVariants as kinds
 use Rattle.cert_text.specs.Reading.{next_line}
 use Rattle.cert_text.specs.Whole.{link_mode_line, module_mode_line, behind_verdict, modes_head, head_in}
 use Rattle.cert_writer.specs.Text.{certificate_lines, from_counts}
-use Rattle.cert_laws.specs.Fits.{FitsPaper}
+use Rattle.cert_judge.specs.Fits.{FitsPaper}
 use Rattle.cert_inverse.specs.Inverse.{IsCitable, form_word, head_of, link_word_in, paper_lines, paper_text, read_head}
 use Rattle.cert_inverse.proofs.HeadAgain.{verdict_again}
 use Rattle.cert_inverse.proofs.Headers.{header_words, header_again}

@@ -2,8 +2,8 @@
 use Rattle.std.proofs.Common.{◌≡◌, ◌≢◌, ℕ, ◌≤◌, Bool, List, Result, Ok, Err, refl, ap, subst}
 use Rattle.text_lines.specs.Lines.{lines_of}
 use Rattle.gap_fraction.specs.Fraction.{Fraction}
-use Rattle.net_options.specs.declared.modes.LinkMode.TheVariants.{Bidirected}
-use Rattle.net_options.specs.declared.options.NetOptions.{NetOptions}
+use Rattle.unit_scale.specs.declared.modes.LinkMode.TheVariants.{Bidirected}
+use Rattle.unit_scale.specs.declared.options.NetOptions.{NetOptions}
 use Rattle.flow_model.specs.Network.{Network}
 use Rattle.flow_paths.specs.declared.certificate.Routing.{Routing}
 use Rattle.flow_paths.specs.declared.certificate.Proof.{Proof}
@@ -23,8 +23,8 @@ use Rattle.cert_text.specs.declared.papers.Paper.TheVariants as papers
 use Rattle.cert_text.specs.declared.opening.CertHead.{CertHead}
 use Rattle.cert_text.specs.Whole.{head_in, paper_in}
 use Rattle.cert_writer.specs.Text.{FitsProof, FitsRouting, certificate_text, routing_text}
-use Rattle.cert_laws.specs.Fits.{FitsPaper}
-use Rattle.cert_laws.proofs.NewFits.{new_fits}
+use Rattle.cert_judge.specs.Fits.{FitsPaper}
+use Rattle.cert_judge.proofs.NewFits.{new_fits}
 use Rattle.cert_check.specs.declared.verdict.Fault.{Fault}
 use Rattle.cert_check.specs.declared.verdict.Fault.TheVariants.{C1, C2, C3, C4, C5, C6, C7, C8, C9, C10}
 use Rattle.cert_check.specs.Verdict.{IsFirstRouteFault, IsFirstFault}

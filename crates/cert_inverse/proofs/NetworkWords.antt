@@ -10,12 +10,12 @@ use Rattle.std.proofs.lemmas.List.Elements.{All-head, All-tail, All-map, All-wea
 use Rattle.std.proofs.lemmas.List.Sums.{count_by-le-length}
 use Rattle.text_lines.specs.Lines.{IsInside}
 use Rattle.mcf_limits.specs.declared.TheConstants.{MAX_DECIMALS}
-use Rattle.net_options.specs.Modes.{link_word, old_link_word, module_word, signs}
-use Rattle.net_options.specs.declared.modes.LinkMode.{LinkMode}
-use Rattle.net_options.specs.declared.modes.LinkMode.TheVariants.{Directed, Undirected, Bidirected}
-use Rattle.net_options.specs.declared.modes.ModuleMode.{ModuleMode}
-use Rattle.net_options.specs.declared.modes.ModuleMode.TheVariants.{Ignore, Largest, Sum}
-use Rattle.sndlib_lex.specs.Tokens.{is_word_byte, is_blank}
+use Rattle.unit_scale.specs.Modes.{link_word, old_link_word, module_word, signs}
+use Rattle.unit_scale.specs.declared.modes.LinkMode.{LinkMode}
+use Rattle.unit_scale.specs.declared.modes.LinkMode.TheVariants.{Directed, Undirected, Bidirected}
+use Rattle.unit_scale.specs.declared.modes.ModuleMode.{ModuleMode}
+use Rattle.unit_scale.specs.declared.modes.ModuleMode.TheVariants.{Ignore, Largest, Sum}
+use Rattle.sndlib_grammar.specs.Tokens.{is_word_byte, is_blank}
 use Rattle.sndlib_grammar.specs.Rows.{NetRows, NetDemand, IsWord, IsNetNode, IsNetLink, IsNetDemand, AreNetRows, AreDistinct, names_of_nodes, names_of_links, names_of_demands, no_demand}
 use Rattle.sndlib_grammar.specs.declared.refusal.NetRefusal.{NetRefusal}
 use Rattle.unit_scale.specs.Sizes.{decimals_of, sizes, is_left_out}
@@ -27,7 +27,7 @@ use Rattle.cert_names.proofs.Looked.{few, is_demand}
 use Rattle.cert_lines.specs.declared.net_line.TheConstants.{MAX_COUNT}
 use Rattle.cert_lines.specs.Spelling.{AreClean, IsClear}
 use Rattle.cert_lines.proofs.NumberSteps.{both_true}
-use Rattle.cert_laws.specs.Fits.{HasLinkWord}
+use Rattle.cert_judge.specs.Fits.{HasLinkWord}
 use Rattle.cert_inverse.specs.Inverse.{AreCounts, AreInForms, AreCitable, IsCitable}
 use Rattle.cert_inverse.proofs.Words.{same_bytes, equal_bytes}
 use Rattle.cert_inverse.proofs.Clean.{Clean, clean}

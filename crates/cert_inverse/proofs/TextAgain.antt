@@ -27,7 +27,7 @@ use Rattle.cert_text.specs.Reading.{has_more, mode_line, rows_from, bytes_of, cl
 use Rattle.cert_text.specs.Papers.{modes_at, scale_at, opening_at, values_at, dual_at, routing_at, proof_at}
 use Rattle.cert_text.specs.Whole.{paper_at, paper_in}
 use Rattle.cert_writer.specs.Text.{end_line, FitsRouting, FitsProof}
-use Rattle.cert_laws.specs.Fits.{FitsPaper}
+use Rattle.cert_judge.specs.Fits.{FitsPaper}
 use Rattle.cert_inverse.specs.Inverse.{AreInForms, IsCitable, form_word, paper_lines, paper_text}
 use Rattle.cert_inverse.proofs.HeadAgain.{verdict_again, mode_again, gap_again, phases_again, scale_again, value_again, counts_again}
 use Rattle.cert_inverse.proofs.RowAgain.{path_again, length_again, potential_again}

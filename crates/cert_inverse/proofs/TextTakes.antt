@@ -25,8 +25,8 @@ use Rattle.cert_text.specs.Reading.{Place, next_line, mode_line, rows_from, byte
 use Rattle.cert_text.specs.Papers.{modes_at, scale_at, opening_at, values_at, dual_at, routing_at, proof_at, header}
 use Rattle.cert_text.specs.Whole.{paper_at, paper_in}
 use Rattle.cert_writer.specs.Text.{end_line}
-use Rattle.cert_laws.proofs.Steps.{bind_ok, done, ok_is}
-use Rattle.cert_laws.proofs.PaperFits.{WordedFits, paper_ok}
+use Rattle.cert_judge.proofs.Steps.{bind_ok, done, ok_is}
+use Rattle.cert_judge.proofs.PaperFits.{WordedFits, paper_ok}
 use Rattle.cert_inverse.specs.Inverse.{AreInForms, form_said, form_word, kind_of, paper_text}
 use Rattle.cert_inverse.proofs.Headers.{header_words, forms_are, header_take, header_said}
 use Rattle.cert_inverse.proofs.HeadTakes.{joined, verdict_takes, mode_takes, gap_takes, phases_takes, scale_takes, value_takes}

@@ -4,9 +4,9 @@ use Rattle.std.specs.Prelude.{◌≡◌, ℕ, ◌+◌, ◌≤◌, List, [], ◌�
 use Rattle.std.specs.Option.{option_map}
 use Rattle.std.specs.List.{AllByRecursion}
 use Rattle.text_lines.specs.Lines.{Line}
-use Rattle.net_options.specs.Modes.{link_word, old_link_word}
-use Rattle.net_options.specs.declared.modes.LinkMode.{LinkMode}
-use Rattle.net_options.specs.declared.options.NetOptions.{NetOptions}
+use Rattle.unit_scale.specs.Modes.{link_word, old_link_word}
+use Rattle.unit_scale.specs.declared.modes.LinkMode.{LinkMode}
+use Rattle.unit_scale.specs.declared.options.NetOptions.{NetOptions}
 use Rattle.cert_names.specs.Sheet.{Sheet, Sheets, sheet_for}
 use Rattle.cert_names.specs.declared.form.Form.{Form}
 use Rattle.cert_names.specs.declared.form.Form.TheVariants.{First, Second}
@@ -23,7 +23,7 @@ use Rattle.cert_text.specs.declared.opening.Kind.{Kind}
 use Rattle.cert_text.specs.declared.opening.Kind.TheVariants as kinds
 use Rattle.cert_text.specs.declared.opening.Opening.{Opening}
 use Rattle.cert_text.specs.Papers.{form_of}
-use Rattle.cert_laws.specs.Fits.{FitsPaper, HasLinkWord}
+use Rattle.cert_judge.specs.Fits.{FitsPaper, HasLinkWord}
 use Rattle.cert_writer.specs.Text.{certificate_lines, certificate_text, routing_lines, routing_text}
 
 -- the text of a certificate or of a routing

@@ -2,8 +2,8 @@
 
 ghost use Rattle.std.specs.Prelude.{◌≡◌, ◌≢◌, ◌≤◌, ℕ, Bool, List};
 ghost use Rattle.gap_fraction.specs.Fraction.{Fraction};
-ghost use Rattle.net_options.specs.declared.modes.LinkMode.TheVariants.{Bidirected};
-ghost use Rattle.net_options.specs.declared.options.NetOptions.{NetOptions};
+ghost use Rattle.unit_scale.specs.declared.modes.LinkMode.TheVariants.{Bidirected};
+ghost use Rattle.unit_scale.specs.declared.options.NetOptions.{NetOptions};
 ghost use Rattle.flow_paths.specs.declared.certificate.Proof.{Proof};
 ghost use Rattle.flow_paths.specs.declared.certificate.Routing.{Routing};
 ghost use Rattle.flow_paths.specs.Certificate.{IsValid, IsValidRouting};
@@ -13,7 +13,7 @@ ghost use Rattle.cert_names.specs.Sheet.{IsOf, old_sheet_of, sheet_of};
 ghost use Rattle.cert_lines.specs.declared.net_line.TheConstants.{MAX_COUNT};
 ghost use Rattle.cert_text.specs.declared.papers.Paper.{Paper};
 ghost use Rattle.cert_writer.specs.Text.{FitsProof, FitsRouting, certificate_text, routing_text};
-ghost use Rattle.cert_laws.specs.Fits.{FitsPaper};
+ghost use Rattle.cert_judge.specs.Fits.{FitsPaper};
 ghost use Rattle.cert_judge.specs.declared.judged.Judged.{Judged};
 ghost use Rattle.cert_judge.specs.declared.judged.Judged.TheVariants.{Feasible, Valid};
 ghost use Rattle.cert_judge.specs.Judgement.{IsJudgement, IsSaidOf};

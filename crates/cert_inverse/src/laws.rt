@@ -2,8 +2,8 @@
 
 ghost use Rattle.std.specs.Prelude.{◌≡◌, ◌≢◌, ◌<◌, ◌↔◌, ◌++◌, ℕ, List, Result, Some, length};
 ghost use Rattle.text_lines.specs.Lines.{Line, lines_of};
-ghost use Rattle.net_options.specs.Modes.{module_word};
-ghost use Rattle.net_options.specs.declared.options.NetOptions.{NetOptions};
+ghost use Rattle.unit_scale.specs.Modes.{module_word};
+ghost use Rattle.unit_scale.specs.declared.options.NetOptions.{NetOptions};
 ghost use Rattle.cert_lines.specs.declared.refusal.CertEnd.{CertEnd};
 ghost use Rattle.cert_names.specs.Sheet.{Sheet, Sheets, sheet_for};
 ghost use Rattle.cert_names.specs.declared.form.Form.{Form};
@@ -11,7 +11,7 @@ ghost use Rattle.cert_names.specs.declared.form.Form.TheVariants.{Second};
 ghost use Rattle.cert_text.specs.declared.papers.Paper.{Paper};
 ghost use Rattle.cert_text.specs.Reading.{bytes_of, Gives};
 ghost use Rattle.cert_text.specs.Whole.{head_in, paper_in};
-ghost use Rattle.cert_laws.specs.Fits.{FitsPaper, read};
+ghost use Rattle.cert_judge.specs.Fits.{FitsPaper, read};
 ghost use Rattle.cert_inverse.specs.Inverse.{AreInForms, AreCitable, IsCitable, IsReading, IsTextOf, form_said, form_word, head_of, link_word_in, paper_text, read_head, refused_behind};
 
 /// What is written is read as the same, in each form: the text of a certificate or a routing that

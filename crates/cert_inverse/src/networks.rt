@@ -1,7 +1,7 @@
 //! What holds of the names of every network.
 
 ghost use Rattle.std.specs.Prelude.{◌≤◌, ◌≢◌};
-ghost use Rattle.net_options.specs.declared.modes.LinkMode.TheVariants.{Bidirected};
+ghost use Rattle.unit_scale.specs.declared.modes.LinkMode.TheVariants.{Bidirected};
 ghost use Rattle.sndlib_grammar.specs.Rows.{NetRows};
 ghost use Rattle.unit_scale.specs.Scaling.{ScaledNet};
 ghost use Rattle.cert_names.specs.Sheet.{IsOf, old_sheet_of, sheet_of, sheets_of};

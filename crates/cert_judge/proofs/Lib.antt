@@ -1,1 +1,5 @@
 pub mod Fitting
+pub mod LineFits
+pub mod NewFits
+pub mod PaperFits
+pub mod Steps

@@ -1,7 +1,7 @@
 -- What is said of a certificate's text on the rows of a network.
 use Rattle.std.specs.Prelude.{◌≡◌, ℕ, List, Result, Ok, Err}
 use Rattle.text_lines.specs.Lines.{Line, lines_of}
-use Rattle.net_options.specs.declared.options.NetOptions.{NetOptions}
+use Rattle.unit_scale.specs.declared.options.NetOptions.{NetOptions}
 use Rattle.flow_model.specs.Network.{Network}
 use Rattle.flow_model.specs.Routing.{IsFeasible}
 use Rattle.flow_paths.specs.Certificate.{lower_of, upper_of, routing_of, IsValidRouting, IsValid, IsCertified}

@@ -3,8 +3,8 @@
 use cert_check::Fault;
 use cert_text::CertRefusal;
 use gap_fraction::Frac;
-use net_options::NetOptions;
 use sndlib_read::NetRefusal;
+use unit_scale::NetOptions;
 
 /// What is said of a certificate's text on the rows of a network.
 #[derive(Clone, Copy)]

@@ -12,15 +12,14 @@ ghost use Rattle.cert_text.specs.declared.papers.Paper.TheVariants as PaperIs;
 ghost use Rattle.cert_judge.specs.Judgement.{IsJudgement, IsSaidOf, OnPaper};
 
 use crate::judged::Judged;
+use crate::papers_fit;
 use cert_check::{RouteEnd, Verdict, check, check_routing};
-use cert_laws::papers_fit;
 use cert_text::{CertEnd, Paper, cert_head, read_cert};
 use flow_model::Net;
 use flow_paths::{Proof, Routing};
-use net_options::NetOptions;
 use sndlib_read::RawNet;
 use std::alloc::{AllocError, Global};
-use unit_scale::{ScaleEnd, Scaled, scale};
+use unit_scale::{NetOptions, ScaleEnd, Scaled, scale};
 
 fn on_routing(
     alloc: Global,

@@ -12,15 +12,15 @@ use Rattle.cert_names.specs.declared.form.Form.{Form}
 use Rattle.cert_names.specs.declared.form.Form.TheVariants.{First, Second}
 use Rattle.cert_names.specs.Sheet.{Sheet, IsOf, IsWithin, cell_word, cell_sign, cell_id, sign_size, sign_mark, counts_of, demand_word, place_of, sheet_of, old_sheet_of, sheets_of, sheet_for}
 use Rattle.cert_names.proofs.SignedWords.{words_counted, word_at}
-use Rattle.cell_dir.specs.Names.{cells_of, name_of}
-use Rattle.cell_dir.proofs.Cells.{link_below}
-use Rattle.cell_dir.proofs.Named.{cells_counted}
+use Rattle.unit_scale.specs.Names.{cells_of, name_of}
+use Rattle.unit_scale.proofs.Cells.{link_below}
+use Rattle.unit_scale.proofs.Named.{cells_counted}
 use Rattle.mcf_limits.specs.declared.TheConstants.{MAX_CELLS, MAX_LINKS}
-use Rattle.net_options.specs.Modes.{module_word}
-use Rattle.net_options.specs.declared.modes.LinkMode.{LinkMode}
-use Rattle.net_options.specs.declared.modes.LinkMode.TheVariants.{Directed, Undirected, Bidirected}
-use Rattle.net_options.specs.declared.modes.Sign.{Sign}
-use Rattle.net_options.specs.declared.modes.Sign.TheVariants.{Along, Against, Both}
+use Rattle.unit_scale.specs.Modes.{module_word}
+use Rattle.unit_scale.specs.declared.modes.LinkMode.{LinkMode}
+use Rattle.unit_scale.specs.declared.modes.LinkMode.TheVariants.{Directed, Undirected, Bidirected}
+use Rattle.unit_scale.specs.declared.modes.Sign.{Sign}
+use Rattle.unit_scale.specs.declared.modes.Sign.TheVariants.{Along, Against, Both}
 use Rattle.std.specs.List.{AllByRecursion}
 use Rattle.std.specs.Prelude.{Result, Err}
 use Rattle.std.proofs.lemmas.Bool.{false_from_ne_true, cases_lt}

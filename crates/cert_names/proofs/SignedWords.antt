@@ -6,13 +6,13 @@ use Rattle.std.specs.Option.{option_map}
 use Rattle.std.specs.Str.{bytes_eq}
 use Rattle.std.proofs.lemmas.List.{length-map, get_or-map}
 use Rattle.std.proofs.lemmas.Bool.Decides.{nat_tests}
-use Rattle.net_options.specs.Modes.{signs}
-use Rattle.net_options.specs.declared.modes.LinkMode.{LinkMode}
-use Rattle.net_options.specs.declared.modes.LinkMode.TheVariants.{Directed, Undirected, Bidirected}
-use Rattle.net_options.specs.declared.modes.Sign.TheVariants.{Along}
-use Rattle.cell_dir.specs.Names.{per, cells_of, name_of}
-use Rattle.cell_dir.proofs.Parts.{parts_length, part_item}
-use Rattle.cell_dir.proofs.Cells.{number_from, place_below, link_below}
+use Rattle.unit_scale.specs.Modes.{signs}
+use Rattle.unit_scale.specs.declared.modes.LinkMode.{LinkMode}
+use Rattle.unit_scale.specs.declared.modes.LinkMode.TheVariants.{Directed, Undirected, Bidirected}
+use Rattle.unit_scale.specs.declared.modes.Sign.TheVariants.{Along}
+use Rattle.unit_scale.specs.Names.{per, cells_of, name_of}
+use Rattle.unit_scale.proofs.Parts.{parts_length, part_item}
+use Rattle.unit_scale.proofs.Cells.{number_from, place_below, link_below}
 use Rattle.cert_names.specs.Sheet.{sign_mark, signed_words, place_of}
 use Rattle.cert_names.specs.Signs.{marked_cell}
 

@@ -3,11 +3,11 @@ use Rattle.std.specs.Prelude.{◌≡◌, ℕ, ◌<◌, ◌≤◌, ◌++◌, fals
 use Rattle.std.specs.List.{AllByRecursion, flat_map}
 use Rattle.std.specs.Str.{bytes_eq}
 use Rattle.mcf_limits.specs.declared.TheConstants.{MAX_CELLS, MAX_DEMANDS, MAX_NODES}
-use Rattle.net_options.specs.Modes.{link_word, old_link_word, module_word, signs}
-use Rattle.net_options.specs.declared.modes.LinkMode.{LinkMode}
-use Rattle.net_options.specs.declared.modes.Sign.{Sign}
-use Rattle.net_options.specs.declared.modes.Sign.TheVariants.{Along, Against, Both}
-use Rattle.net_options.specs.declared.options.NetOptions.{NetOptions}
+use Rattle.unit_scale.specs.Modes.{link_word, old_link_word, module_word, signs}
+use Rattle.unit_scale.specs.declared.modes.LinkMode.{LinkMode}
+use Rattle.unit_scale.specs.declared.modes.Sign.{Sign}
+use Rattle.unit_scale.specs.declared.modes.Sign.TheVariants.{Along, Against, Both}
+use Rattle.unit_scale.specs.declared.options.NetOptions.{NetOptions}
 use Rattle.sndlib_grammar.specs.Rows.{NetRows, AreNetRows, demand_at, names_of_nodes, names_of_links}
 use Rattle.unit_scale.specs.Scaling.{ScaledNet, scaled_of}
 use Rattle.cert_names.specs.declared.form.Form.{Form}

@@ -1,9 +1,9 @@
 -- Signs and cells of words of form 2, from the mark and the id that such a word is made of.
 use Rattle.std.specs.Prelude.{ℕ, Option, Some, None, ◌==◌, if◌then◌else◌, option_and_then}
-use Rattle.net_options.specs.declared.modes.LinkMode.{LinkMode}
-use Rattle.net_options.specs.declared.modes.Sign.{Sign}
-use Rattle.net_options.specs.declared.modes.Sign.TheVariants.{Along, Against, Both}
-use Rattle.cell_dir.specs.Names.{cell_of}
+use Rattle.unit_scale.specs.declared.modes.LinkMode.{LinkMode}
+use Rattle.unit_scale.specs.declared.modes.Sign.{Sign}
+use Rattle.unit_scale.specs.declared.modes.Sign.TheVariants.{Along, Against, Both}
+use Rattle.unit_scale.specs.Names.{cell_of}
 
 -- the sign of that mark
 abbrev pub sign_marked : ℕ → Option Sign

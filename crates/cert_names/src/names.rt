@@ -2,11 +2,9 @@
 
 use crate::form::Form;
 use crate::signed::{named_cell, sign_of_cell};
-use cell_dir::name_of;
-use net_options::{link_word, module_word, old_link_word};
 use sndlib_read::RawNet;
 use std::marker::Model;
-use unit_scale::Scaled;
+use unit_scale::{Scaled, link_word, module_word, name_of, old_link_word};
 
 /// What a certificate's text cites of a network in one form: a view of its rows and of its network in
 /// units, which takes no memory. In form 1 there are no words for bidirected links: names of form 1

@@ -5,13 +5,12 @@ ghost use Rattle.std.specs.List.{flat_map};
 ghost use Rattle.std.specs.Str.{bytes_eq};
 ghost use Rattle.mcf_limits.specs.declared.TheConstants.{MAX_LINKS};
 ghost use Rattle.sndlib_grammar.specs.Rows.{names_of_links};
-ghost use Rattle.cell_dir.specs.Names.{name_of};
+ghost use Rattle.unit_scale.specs.Names.{name_of};
 ghost use Rattle.cert_names.specs.Sheet.{sign_mark, signed_words, place_of};
 ghost use Rattle.cert_names.specs.Signs.{sign_marked, marked_cell};
 
-use cell_dir::{CellName, Sign, cell_of, name_of};
-use net_options::LinkMode;
 use sndlib_read::RawNet;
+use unit_scale::{CellName, LinkMode, Sign, cell_of, name_of};
 
 const ALONG: u8 = b'+';
 

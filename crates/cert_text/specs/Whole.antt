@@ -4,10 +4,10 @@ use Rattle.text_lines.specs.Lines.{Line}
 use Rattle.cert_names.specs.Sheet.{Sheet, Sheets, sheet_for}
 use Rattle.cert_names.specs.declared.form.Form.{Form}
 use Rattle.cert_names.specs.declared.form.Form.TheVariants.{First, Second}
-use Rattle.net_options.specs.Modes.{link_mode_of, old_link_mode_of, module_mode_of}
-use Rattle.net_options.specs.declared.modes.LinkMode.{LinkMode}
-use Rattle.net_options.specs.declared.modes.ModuleMode.{ModuleMode}
-use Rattle.net_options.specs.declared.options.NetOptions.{NetOptions}
+use Rattle.unit_scale.specs.Modes.{link_mode_of, old_link_mode_of, module_mode_of}
+use Rattle.unit_scale.specs.declared.modes.LinkMode.{LinkMode}
+use Rattle.unit_scale.specs.declared.modes.ModuleMode.{ModuleMode}
+use Rattle.unit_scale.specs.declared.options.NetOptions.{NetOptions}
 use Rattle.cert_lines.specs.declared.refusal.CertKind.{CertKind}
 use Rattle.cert_lines.specs.declared.refusal.CertKind.TheVariants.{Syntax}
 use Rattle.cert_lines.specs.declared.refusal.CertRefusal.{CertRefusal}

@@ -12,7 +12,7 @@ use crate::place::{Place, split};
 use cert_lines::{CertKind, CertRefusal, is_fixed, one_behind, verdict_line};
 use cert_names::Form;
 use mcf_limits::MAX_CERT_BYTES;
-use net_options::{
+use unit_scale::{
     LinkMode, ModuleMode, NetOptions, link_mode_of, module_mode_of, old_link_mode_of,
 };
 

@@ -4,10 +4,10 @@ use Rattle.std.specs.Prelude.{map}
 use Rattle.std.proofs.lemmas.List.{append-nil, take-append-drop, take_more}
 use Rattle.std.proofs.lemmas.List.Concat.{flat_map-cons}
 use Rattle.text_lines.specs.Lines.{Line, spelled, text_of}
-use Rattle.line_writer.specs.Spelling.{behind}
+use Rattle.text_lines.specs.Spelling.{behind}
 use Rattle.mcf_base.specs.Sink.{SinkView}
-use Rattle.line_writer.specs.Writing.{Puts, ended, failed}
-use Rattle.line_writer.proofs.Putting.{puts_then, puts_stop}
+use Rattle.text_lines.specs.Writing.{Puts, ended, failed}
+use Rattle.text_lines.proofs.Putting.{puts_then, puts_stop}
 
 pub text_of-append : {X : Type 0} (f : X → Line) (xs ys : List X) → text_of (map f (xs ++ ys)) ≡ text_of (map f xs) ++ text_of (map f ys)
 text_of-append f [] ys = refl

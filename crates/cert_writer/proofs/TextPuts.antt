@@ -5,8 +5,8 @@ use Rattle.std.proofs.lemmas.List.Concat.{flat_map-cons}
 use Rattle.std.proofs.lemmas.List.Elements.{All-from_recursion, All-weaker}
 use Rattle.text_lines.specs.Lines.{Line, spelled, text_of}
 use Rattle.mcf_base.specs.Sink.{SinkView}
-use Rattle.line_writer.specs.Writing.{Puts, ended, failed}
-use Rattle.line_writer.proofs.Putting.{puts_then, puts_stop}
+use Rattle.text_lines.specs.Writing.{Puts, ended, failed}
+use Rattle.text_lines.proofs.Putting.{puts_then, puts_stop}
 use Rattle.flow_paths.specs.declared.certificate.Proof.{Proof}
 use Rattle.cert_names.specs.Sheet.{Sheet}
 use Rattle.cert_lines.specs.Spelling.{FitsPath, FitsLength, FitsPotential}

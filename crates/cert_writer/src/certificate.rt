@@ -3,15 +3,15 @@
 ghost use Rattle.std.specs.Prelude.{◌≡◌, ◌<◌, ◌∷◌, [], OnOk, OnErr, codes, if◌then◌else◌};
 ghost use Rattle.text_lines.specs.Lines.{text_of};
 ghost use Rattle.mcf_base.specs.Sink.{Wrote};
-ghost use Rattle.line_writer.specs.Writing.{Puts};
+ghost use Rattle.text_lines.specs.Writing.{Puts};
 ghost use Rattle.cert_lines.specs.Spelling.{count_at, counts_words};
 ghost use Rattle.cert_writer.specs.Text.{IsWritable, FitsProof, opening_lines, figure_lines, end_line, from_potentials, from_lengths, from_paths, from_figures, from_counts, certificate_lines, certificate_text};
 
 use crate::writing::{put_lengths, put_lines, put_paths, put_potentials};
 use cert_names::Names;
 use flow_paths::Proof;
-use line_writer::{Buffer, Word};
 use mcf_base::{Sink, WriteFault};
+use text_lines::{Buffer, Word};
 
 // Whether the verdict is closed, as a word.
 fn verdict_word(closed: bool) -> &'static [u8]

@@ -3,8 +3,8 @@
 ghost use Rattle.std.specs.Prelude.{◌≡◌, ◌<◌, ◌≤◌, ◌++◌, ◌∷◌, [], All, length, map, codes};
 ghost use Rattle.std.specs.Fmt.{decimal};
 ghost use Rattle.text_lines.specs.Lines.{spelled, text_of};
-ghost use Rattle.line_writer.specs.Writing.{Puts};
-ghost use Rattle.line_writer.specs.Spelling.{behind};
+ghost use Rattle.text_lines.specs.Writing.{Puts};
+ghost use Rattle.text_lines.specs.Spelling.{behind};
 ghost use Rattle.cert_names.specs.Sheet.{cell_word, node_word, commodity_word};
 ghost use Rattle.flow_paths.specs.PathRows.{row_at};
 ghost use Rattle.flow_paths.specs.DualRows.{length_at, potential_at};
@@ -12,8 +12,8 @@ ghost use Rattle.cert_lines.specs.Spelling.{path_words, length_words, potential_
 
 use cert_names::Names;
 use flow_paths::{Dual, PathStore};
-use line_writer::{Buffer, Word};
 use mcf_base::{Sink, WriteFault};
+use text_lines::{Buffer, Word};
 
 // Puts a line of words.
 fn put_line<K: Sink>(buffer: &mut Buffer, out: &mut K, words: &[&[u8]]) -> Result<(), WriteFault>

@@ -19,7 +19,7 @@ use Rattle.flow_paths.specs.DualRows.{Potential, DualRows}
 use Rattle.flow_paths.specs.Certificate.{length_of, lengths_in, distance_of, distances_in, upper_of, DistanceDivides}
 use Rattle.cut_bound.specs.Cuts.{Side, cut_value, cut_dual}
 use Rattle.cut_bound.specs.Candidates.{candidates, fronts, is_crossed, node_sides, no_dual, rows_in, with_cuts, IsBestDual}
-use Rattle.path_rows.specs.Least.{least_by}
+use Rattle.flow_paths.specs.Least.{least_by}
 use Rattle.cut_bound.specs.Laws.{GoBothWays}
 use Rattle.cut_bound.proofs.CutDuals.{cut-value, cut-potentials}
 use Rattle.cut_bound.proofs.Leasts.{least-below}

@@ -21,7 +21,7 @@ use Rattle.cut_bound.specs.declared.choice.RowPlace.{RowPlace}
 use Rattle.cut_bound.specs.declared.choice.SummedCut.{SummedCut}
 use Rattle.cut_bound.specs.Cuts.{Side, crosses, leaves, cut_value, cut_dual}
 use Rattle.cut_bound.specs.Candidates.{front, fronts, is_crossed, node_sides, no_dual, rows_in, with_cuts, AreLevels, IsBestDual}
-use Rattle.path_rows.specs.Least.{least_by}
+use Rattle.flow_paths.specs.Least.{least_by}
 use Rattle.cut_bound.specs.Search.{chosen, front_places, kept, level_cut, node_cut, node_cuts, node_places, own_at, row_at, side_at, summed, value_of, Considers, Went, IsBest, IsBestOwn, IsChoice, IsDualOf, IsPlace, IsRowPlace}
 use Rattle.cut_bound.specs.Sums.{as_cell, leaving}
 use Rattle.cut_bound.proofs.Bounding.{all-divide, crossed-divides}

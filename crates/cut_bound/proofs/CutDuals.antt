@@ -17,7 +17,7 @@ use Rattle.flow_model.specs.Walk.{Goes}
 use Rattle.flow_model.specs.Bound.{IsPotential, volume, weighted_distance}
 use Rattle.flow_paths.specs.DualRows.{Potential}
 use Rattle.flow_paths.specs.Certificate.{lengths_in, distance_of, distances_in, upper_of, RowsArePotentials}
-use Rattle.dual_value.proofs.Products.{weighted_sum-map}
+use Rattle.flow_paths.proofs.Products.{weighted_sum-map}
 use Rattle.cut_bound.specs.Cuts.{Side, leaves, crosses, cut_value, side_lengths, side_potential, side_row, cut_dual}
 use Rattle.cut_bound.specs.Laws.{GoBothWays, CutDualIsValid}
 use Rattle.cut_bound.proofs.DualRows.{source-count, source-is, cells-have, lengths-found}

@@ -6,7 +6,7 @@ use Rattle.std.proofs.Math.Nat.{mul_right_comm, mul-le-mul_right, le_of_mul-le-m
 use Rattle.std.proofs.lemmas.Bool.Decides.{nat_tests}
 use Rattle.gap_fraction.specs.Fraction.{Fraction, FractionLe}
 use Rattle.flow_paths.specs.Evaluation.{fraction_le}
-use Rattle.path_rows.specs.Least.{least_by, IsFirstLeast}
+use Rattle.flow_paths.specs.Least.{least_by, IsFirstLeast}
 
 -- the order of fractions
 

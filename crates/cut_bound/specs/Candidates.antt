@@ -5,7 +5,7 @@ use Rattle.std.specs.List.Sorted.{IsStrictlyIncreasing}
 use Rattle.flow_model.specs.Network.{Network}
 use Rattle.flow_paths.specs.DualRows.{Potential, DualRows}
 use Rattle.flow_paths.specs.Certificate.{upper_of}
-use Rattle.path_rows.specs.Least.{least_by}
+use Rattle.flow_paths.specs.Least.{least_by}
 use Rattle.cut_bound.specs.Cuts.{Side, cut_value, cut_dual}
 
 -- ---- cuts round one node

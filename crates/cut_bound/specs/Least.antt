@@ -1,7 +1,7 @@
 -- Of several the first of the least value.
 use Rattle.std.specs.Prelude.{ℕ, ◌≤◌, List, All, length}
 use Rattle.gap_fraction.specs.Fraction.{Fraction}
-use Rattle.path_rows.specs.Least.{least_by, IsFirstLeast}
+use Rattle.flow_paths.specs.Least.{least_by, IsFirstLeast}
 
 -- where no value divides by 0, the first of the least is what its name says
 abbrev pub LeastIsFirst : Type 0 → Type 0

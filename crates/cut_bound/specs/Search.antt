@@ -17,7 +17,7 @@ use Rattle.cut_bound.specs.declared.choice.RowPlace.{RowPlace}
 use Rattle.cut_bound.specs.declared.choice.SummedCut.{SummedCut}
 use Rattle.cut_bound.specs.Cuts.{Side, cut_dual}
 use Rattle.cut_bound.specs.Candidates.{front, no_dual, rows_in, with_cuts, AreLevels}
-use Rattle.path_rows.specs.Least.{least_by}
+use Rattle.flow_paths.specs.Least.{least_by}
 use Rattle.cut_bound.specs.Sums.{leaving, node_side}
 
 -- the lengths and potentials of a certificate of the network

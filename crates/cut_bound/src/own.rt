@@ -10,9 +10,8 @@ ghost use Rattle.cut_bound.specs.declared.choice.Choice.TheVariants.{Own};
 
 use crate::choice::{Best, Choice, RowPlace};
 use cert_check::lengths;
-use dual_value::{row_places, volume, weighted_distance};
 use flow_model::Net;
-use flow_paths::Dual;
+use flow_paths::{Dual, row_places, volume, weighted_distance};
 use gap_fraction::Frac;
 use std::alloc::{AllocError, Global};
 use std::cmp::Ordering;

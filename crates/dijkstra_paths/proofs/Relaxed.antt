@@ -6,7 +6,7 @@ use Rattle.flow_model.specs.Network.{Network, IsCell, IsNetwork}
 use Rattle.std.proofs.lemmas.Bool.{cases_eq, cases_lt}
 use Rattle.flow_model.specs.declared.net.Cell.{Cell}
 use Rattle.std.specs.Prelude.{Contains}
-use Rattle.net_graph.specs.declared.graph.Arc.{Arc}
+use Rattle.dijkstra_paths.specs.declared.graph.Arc.{Arc}
 use Rattle.flow_model.specs.Lengths.{AreLengths}
 use Rattle.flow_model.specs.Walk.{PassesOver}
 use Rattle.dijkstra_paths.specs.declared.search.Step.{Step}

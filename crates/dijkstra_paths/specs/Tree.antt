@@ -2,7 +2,7 @@
 use Rattle.std.specs.Prelude.{◌≡◌, ◌≢◌, ℕ, ◌+◌, ◌<◌, ◌≤◌, List, length, slice_index, slice_index_or}
 use Rattle.flow_model.specs.declared.net.Cell.{Cell}
 use Rattle.flow_model.specs.Walk.{PassesOver}
-use Rattle.net_graph.specs.declared.graph.Arc.{Arc}
+use Rattle.dijkstra_paths.specs.declared.graph.Arc.{Arc}
 use Rattle.dijkstra_paths.specs.declared.search.Step.{Step}
 use Rattle.dijkstra_paths.specs.Heap.{AreInverse}
 use Rattle.mcf_limits.specs.declared.TheConstants.{MAX_LENGTH}

@@ -4,9 +4,9 @@ ghost use Rattle.std.specs.Prelude.{◌≡◌, ℕ, ◌<◌, ◌≤◌, length, 
 ghost use Rattle.dijkstra_paths.specs.Searched.{trail, Ends};
 ghost use Rattle.flow_model.specs.Lengths.{AreLengths};
 
+use crate::Graph;
 use crate::search::{Step, search};
 use mcf_limits::MAX_LENGTH;
-use net_graph::Graph;
 use std::alloc::{AllocError, Global};
 use std::marker::Model;
 

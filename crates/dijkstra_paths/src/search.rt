@@ -8,8 +8,8 @@ ghost use Rattle.flow_model.specs.Lengths.{AreLengths};
 ghost use Rattle.dijkstra_paths.specs.Tree.{IsTree, IsDone, IsUnderWay};
 
 use crate::queue::{pop, put};
+use crate::{Arc, Graph};
 use mcf_limits::{MAX_LENGTH, MAX_NODES};
-use net_graph::{Arc, Graph};
 
 /// The cell by which a node was reached, and the node before it.
 #[derive(Clone, Copy)]

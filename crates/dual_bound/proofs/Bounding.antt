@@ -13,7 +13,7 @@ use Rattle.flow_model.specs.Groups.{is_source, group_sources}
 use Rattle.flow_model.specs.Lengths.{AreLengths}
 use Rattle.flow_model.specs.Least.{HasCut, IsCutOff}
 use Rattle.flow_model.specs.Bound.{IsPotential, volume, weighted_distance}
-use Rattle.net_graph.specs.Reach.{IsFirstCut}
+use Rattle.dijkstra_paths.specs.Reach.{IsFirstCut}
 use Rattle.fixed_exp.specs.Far.{EmptyAreFar}
 use Rattle.fixed_exp.specs.Kept.{no_cell}
 use Rattle.flow_paths.specs.DualRows.{Length, Potential, DualRows}

@@ -17,10 +17,10 @@ use Rattle.fixed_exp.specs.Far.{EmptyAreFar}
 use Rattle.flow_paths.specs.DualRows.{Potential}
 use Rattle.flow_paths.specs.Certificate.{distance_of}
 use Rattle.mcf_limits.specs.declared.TheConstants.{MAX_LENGTH}
-use Rattle.net_graph.proofs.Spreading.{walk-more}
+use Rattle.dijkstra_paths.proofs.Spreading.{walk-more}
 use Rattle.dijkstra_paths.proofs.Least.{length-more, length-first}
 use Rattle.dual_bound.specs.Bounds.{IsRowWith, IsDistance, IsCutPotential, cut_lengths}
-use Rattle.dual_value.proofs.Products.{weighted_sum-map}
+use Rattle.flow_paths.proofs.Products.{weighted_sum-map}
 
 -- over a positive cell a distance grows by at most the cell's length
 step : (cells : List Cell) (lengths : List ℕ) (from u v c : ℕ) (a b : Option ℕ) → IsLeast cells lengths from u a → IsLeast cells lengths from v b → PassesOver cells c u v → far_or b ≤ MAX_LENGTH → far_or b ≤ far_or a + get_or lengths c 0

@@ -3,7 +3,7 @@
 ghost use Rattle.std.specs.Prelude.{◌≡◌, ℕ, ◌≤◌, IfOk, All, length};
 ghost use Rattle.flow_model.specs.Lengths.{AreLengths};
 ghost use Rattle.fixed_exp.specs.Far.{EmptyAreFar};
-ghost use Rattle.net_graph.specs.Reach.{IsFirstCut};
+ghost use Rattle.dijkstra_paths.specs.Reach.{IsFirstCut};
 ghost use Rattle.flow_paths.specs.Certificate.{upper_of};
 ghost use Rattle.dual_bound.specs.Bounds.{CanDivide, IsBoundOf, IsCutDual, IsCutPotential, IsDistance, ShowsBound, cut_lengths};
 ghost use Rattle.dual_bound.specs.Rows.{IsFilledWith, dual_of, sources_of};
@@ -12,11 +12,11 @@ ghost use Rattle.flow_model.specs.Groups.{group_sources};
 use crate::dual::{are_filled, assembled};
 use crate::rows::{Row, fill_all, mark_all, source_rows};
 use crate::value::upper;
+use dijkstra_paths::Graph;
 use flow_model::{Cell, Net};
 use flow_paths::Dual;
 use gap_fraction::Frac;
 use mcf_limits::{MAX_LENGTH, MAX_WORKERS};
-use net_graph::Graph;
 use std::alloc::{AllocError, Global};
 use std::thread::Threads;
 

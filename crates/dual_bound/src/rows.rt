@@ -10,10 +10,9 @@ ghost use Rattle.flow_model.specs.Least.{far_or, IsLeast};
 ghost use Rattle.dual_bound.specs.Rows.{Fills, IsBlank, IsFilledWith, mark_at, sources_of};
 ghost use Rattle.dual_bound.specs.Bounds.{IsCutPotential, IsDistance};
 
-use dijkstra_paths::Scratch;
+use dijkstra_paths::{Graph, Scratch};
 use flow_model::{Commodity, Net};
 use mcf_limits::{MAX_LENGTH, MAX_NODES};
-use net_graph::Graph;
 use std::alloc::{AllocError, Global};
 use std::thread;
 use std::thread::Threads;

@@ -4,9 +4,8 @@ ghost use Rattle.std.specs.Prelude.{◌≡◌, IfOk};
 ghost use Rattle.flow_paths.specs.Certificate.{upper_of};
 ghost use Rattle.dual_bound.specs.Bounds.{CanDivide};
 
-use dual_value::{row_places, volume, weighted_distance};
 use flow_model::Net;
-use flow_paths::Dual;
+use flow_paths::{Dual, row_places, volume, weighted_distance};
 use gap_fraction::Frac;
 use std::alloc::{AllocError, Global};
 

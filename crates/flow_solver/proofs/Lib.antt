@@ -3,3 +3,11 @@ pub mod Nexts
 pub mod Routing
 pub mod Reaching
 pub mod Ending
+pub mod ByPhase
+pub mod Adds
+pub mod Times
+pub mod OneMore
+pub mod Placed
+pub mod Named
+pub mod RowsFound
+pub mod Renumbered

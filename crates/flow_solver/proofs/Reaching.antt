@@ -13,10 +13,10 @@ use Rattle.gap_fraction.specs.Fraction.{Fraction, IsWithinGap}
 use Rattle.flow_paths.specs.DualRows.{DualRows}
 use Rattle.flow_paths.specs.Certificate.{upper_of}
 use Rattle.flow_paths.specs.Evaluation.{fill, fraction_le}
-use Rattle.path_rows.specs.declared.fill.Fill.{Fill}
-use Rattle.path_rows.specs.Fullness.{IsFill, fullness}
-use Rattle.path_rows.proofs.FillLimits.{fill-positive, fill-cap, fill-load}
-use Rattle.path_rows.proofs.Least.{least-push}
+use Rattle.flow_paths.specs.declared.fill.Fill.{Fill}
+use Rattle.flow_paths.specs.Fullness.{IsFill, fullness}
+use Rattle.flow_paths.proofs.FillLimits.{fill-positive, fill-cap, fill-load}
+use Rattle.flow_paths.proofs.Least.{least-push}
 use Rattle.flow_core.specs.Phase.{Routed}
 use Rattle.dual_bound.specs.declared.bounds.Bounded.{Bounded}
 use Rattle.dual_bound.specs.Bounds.{IsBoundOf, ShowsBound}

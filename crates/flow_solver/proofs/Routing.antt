@@ -15,7 +15,7 @@ use Rattle.mcf_limits.specs.declared.TheConstants.{MAX_LENGTH, MAX_PHASES, MAX_T
 use Rattle.phase_engine.specs.declared.hand.Hand.{Hand}
 use Rattle.phase_engine.specs.Hands.{IsFresh, IsSameWorker}
 use Rattle.phase_engine.specs.Routing.{IsRoutedPhase}
-use Rattle.path_history.specs.Rows.{AreRowsFor}
+use Rattle.flow_solver.specs.Rows.{AreRowsFor}
 use Rattle.solver_run.specs.Paths.{IsPathOf, HavePaths}
 use Rattle.solver_run.specs.History.{routed_in, loads_after}
 use Rattle.solver_run.proofs.Paths.{phase-paths}

@@ -1,2 +1,6 @@
 pub mod Search
 pub mod Reached
+pub mod Phases
+pub mod Rows
+pub mod Routes
+pub mod Adding

@@ -4,7 +4,7 @@ use Rattle.flow_model.specs.Network.{Network}
 use Rattle.gap_fraction.specs.Fraction.{IsWithinGap}
 use Rattle.flow_paths.specs.DualRows.{DualRows}
 use Rattle.flow_paths.specs.Certificate.{upper_of}
-use Rattle.path_rows.specs.Fullness.{IsFill, fullness}
+use Rattle.flow_paths.specs.Fullness.{IsFill, fullness}
 use Rattle.dual_bound.specs.Bounds.{ShowsBound}
 use Rattle.solver_run.specs.declared.options.SolveOptions.{SolveOptions}
 use Rattle.solver_run.specs.History.{fill_after, lower_after, AreRoutedBy}

@@ -4,7 +4,7 @@ use Rattle.flow_model.specs.declared.setting.Setting.{Setting}
 use Rattle.flow_model.specs.Network.{Network}
 use Rattle.flow_core.specs.Phase.{Routed, IsPhase}
 use Rattle.phase_engine.specs.declared.hand.Hand.{Hand}
-use Rattle.path_history.specs.Rows.{phases_kept, AreRowsFor}
+use Rattle.flow_solver.specs.Rows.{phases_kept, AreRowsFor}
 use Rattle.solver_run.specs.History.{loads_after}
 use Rattle.mcf_limits.specs.declared.TheConstants.{MAX_TOTAL, MAX_WORKERS}
 use Rattle.flow_solver.specs.declared.search.Search.{Search}

@@ -3,10 +3,9 @@
 ghost use Rattle.std.specs.Prelude.{◌≡◌, ℕ, ◌<◌, [], IfOk, length, slice_index_or};
 ghost use Rattle.phase_engine.specs.Hands.{IsFresh, IsSameWorker};
 
-use commodity_claims::Routes;
 use dijkstra_paths::Scratch;
 use flow_model::Net;
-use phase_engine::Hand;
+use phase_engine::{Hand, Routes};
 use std::alloc::{AllocError, Global};
 
 /// The hand of a worker, before any phase.

@@ -1,12 +1,19 @@
 //! The solver: phase after phase, until the gap is met or the budget is spent.
+//! The paths of all phases so far: path rows, and who routed each commodity along which of them.
 #![tactic(auto)]
 
+mod entries;
+mod found;
 mod hands;
+mod history;
 mod kept;
+mod places;
 mod reached;
 mod search;
 mod solved;
 mod solving;
 
+pub use entries::Entries;
+pub use history::{OrderedHistory, PathHistory};
 pub use solved::Solved;
 pub use solving::{solve, solve_in};

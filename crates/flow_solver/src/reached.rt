@@ -3,7 +3,7 @@
 ghost use Rattle.std.specs.Prelude.{◌≡◌, ℕ, ◌+◌, ◌*◌, ◌<◌, ◌≤◌, ◌↔◌, true, false, IsTrue, IfOk, length, slice_index};
 ghost use Rattle.flow_model.specs.Lengths.{IsSetting};
 ghost use Rattle.flow_model.specs.Least.{HasNoCut};
-ghost use Rattle.path_rows.specs.Fullness.{IsFill, fullness};
+ghost use Rattle.flow_paths.specs.Fullness.{IsFill, fullness};
 ghost use Rattle.solver_run.specs.History.{fill_after, first_setting};
 ghost use Rattle.solver_run.specs.Options.{AreOptions};
 ghost use Rattle.flow_solver.specs.Reached.{IsMet, IsReached};
@@ -11,14 +11,14 @@ ghost use Rattle.flow_solver.specs.Search.{IsSearch, phase_count, phases_in};
 
 use crate::kept::lesser;
 use crate::search::{Search, bound_of, new_search, route};
+use dijkstra_paths::Graph;
 use dual_bound::Bounded;
 use fixed_exp::Powers;
 use flow_model::{Groups, Net, Setting};
+use flow_paths::{Fill, fullest};
 use gap_fraction::Frac;
 use mcf_base::Gate;
 use mcf_limits::{MAX_GAP, MAX_LENGTH, MAX_PHASES};
-use net_graph::Graph;
-use path_rows::{Fill, fullest};
 use solver_run::SolveOptions;
 use std::alloc::{AllocError, Global};
 use std::thread::Threads;

@@ -10,15 +10,15 @@ ghost use Rattle.phase_engine.specs.Hands.{IsFresh, AreSameWorkers};
 ghost use Rattle.phase_engine.specs.Routing.{IsRoutedPhase};
 ghost use Rattle.flow_solver.specs.Search.{HasRouted, IsSearch, phase_count};
 
+use crate::PathHistory;
 use crate::hands::{forget_all, new_hands};
+use dijkstra_paths::Graph;
 use dual_bound::{Bounded, bound_in};
 use fixed_exp::Powers;
 use flow_model::{Groups, Net, Setting};
 use load_table::Loads;
 use mcf_base::Gate;
 use mcf_limits::{MAX_LENGTH, MAX_PHASES, MAX_WORK, MAX_WORKERS};
-use net_graph::Graph;
-use path_history::PathHistory;
 use phase_engine::{Hand, phase};
 use std::alloc::{AllocError, Global};
 use std::thread::Threads;

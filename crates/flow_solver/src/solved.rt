@@ -2,8 +2,8 @@
 
 ghost use Rattle.std.specs.Prelude.{◌≡◌};
 
+use crate::Entries;
 use flow_paths::Proof;
-use path_history::Entries;
 use solver_run::Entry;
 use std::marker::Model;
 

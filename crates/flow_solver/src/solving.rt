@@ -2,7 +2,7 @@
 
 ghost use Rattle.std.specs.Prelude.{◌≡◌, ℕ, ◌<◌, ◌≤◌, ◌↔◌, true, false, IsTrue, IfOk, length};
 ghost use Rattle.flow_model.specs.Least.{HasCut, HasNoCut};
-ghost use Rattle.net_graph.specs.Reach.{IsFirstCut};
+ghost use Rattle.dijkstra_paths.specs.Reach.{IsFirstCut};
 ghost use Rattle.flow_paths.specs.Certificate.{FractionsArePrinted};
 ghost use Rattle.solver_run.specs.Headline.{IsSolved};
 ghost use Rattle.solver_run.specs.Options.{AreOptions};
@@ -13,16 +13,15 @@ ghost use Rattle.flow_solver.specs.Search.{phase_count};
 use crate::reached::{Reached, first, is_met, lower, next};
 use crate::search::Search;
 use crate::solved::Solved;
+use crate::{Entries, OrderedHistory};
+use dijkstra_paths::Graph;
 use dual_bound::{Bounded, cut_bound};
 use fixed_exp::Powers;
 use flow_model::{Groups, Net};
-use flow_paths::{PathStore, Proof, Routing};
+use flow_paths::{PathStore, Proof, Routing, printed_down, printed_up};
 use gap_fraction::Frac;
 use mcf_base::Gate;
 use mcf_limits::MAX_WORKERS;
-use net_graph::Graph;
-use path_history::{Entries, OrderedHistory};
-use path_rows::{printed_down, printed_up};
 use solver_run::SolveOptions;
 use std::alloc::{AllocError, Global};
 use std::thread::Threads;

@@ -4,11 +4,10 @@ ghost use Rattle.std.specs.Prelude.{◌≡◌, ◌<◌, ◌≤◌, All, IfOk, If
 ghost use Rattle.flow_model.specs.Lengths.{IsSetting};
 ghost use Rattle.load_rows.specs.Routed.{IsLeastPath};
 
-use dijkstra_paths::Scratch;
+use dijkstra_paths::{Graph, Scratch};
 use fixed_exp::{LengthTable, Powers};
 use flow_model::{Net, Setting};
 use mcf_limits::MAX_LENGTH;
-use net_graph::Graph;
 use std::alloc::{AllocError, Global};
 
 fn copy_of(alloc: Global, path: &[u16]) -> Result<Vec<u16>, AllocError>

@@ -9,3 +9,9 @@ pub mod Adding
 pub mod Refusing
 pub mod Telling
 pub mod Counted
+pub mod Basics
+pub mod PartsRead
+pub mod PartsFound
+pub mod Saying
+pub mod Reading
+pub mod Wording

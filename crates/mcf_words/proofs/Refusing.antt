@@ -6,11 +6,11 @@ use Rattle.std.specs.List.{cons_option, list_all, list_any}
 use Rattle.std.specs.Str.{bytes_eq}
 use Rattle.std.proofs.lemmas.Bool.{and_parts, and_right, eqb-true, false≢true, not-false, or_cases}
 use Rattle.mcf_limits.specs.declared.TheConstants.{DEFAULT_GAP, DEFAULT_STEP, DEFAULT_WORKERS, MAX_PHASES, MAX_WORKERS, MAX_STEP}
-use Rattle.net_options.specs.Modes.{link_mode_of, module_mode_of}
-use Rattle.net_options.specs.declared.modes.LinkMode.{LinkMode}
-use Rattle.net_options.specs.declared.modes.LinkMode.TheVariants.{Undirected}
-use Rattle.net_options.specs.declared.modes.ModuleMode.{ModuleMode}
-use Rattle.net_options.specs.declared.modes.ModuleMode.TheVariants.{Largest}
+use Rattle.unit_scale.specs.Modes.{link_mode_of, module_mode_of}
+use Rattle.unit_scale.specs.declared.modes.LinkMode.{LinkMode}
+use Rattle.unit_scale.specs.declared.modes.LinkMode.TheVariants.{Undirected}
+use Rattle.unit_scale.specs.declared.modes.ModuleMode.{ModuleMode}
+use Rattle.unit_scale.specs.declared.modes.ModuleMode.TheVariants.{Largest}
 use Rattle.mcf_words.specs.declared.request.Command.{Command}
 use Rattle.mcf_words.specs.declared.request.Command.TheVariants.{Solve, Check, WhatIf, Upgrade, Print, Gen, Trial}
 use Rattle.mcf_words.specs.declared.request.Request.{Request}

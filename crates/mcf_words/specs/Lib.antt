@@ -4,3 +4,8 @@ pub mod Parse
 pub mod Request
 pub mod Values
 pub mod Views
+pub mod Laws
+pub mod Parts
+pub mod Spelled
+pub mod WordValues
+pub mod Words

@@ -7,9 +7,9 @@ use Rattle.clap.specs.declared.builder.action.ArgAction.TheVariants.{Set, Append
 use Rattle.clap.specs.declared.parser.matches.ArgMatches.{ArgMatches}
 use Rattle.clap.specs.declared.parser.matches.Found.{Found}
 use Rattle.mcf_limits.specs.declared.TheConstants.{DEFAULT_GAP, DEFAULT_STEP, DEFAULT_WORKERS, MAX_PHASES, MAX_WORKERS, MAX_STEP}
-use Rattle.net_options.specs.Modes.{link_mode_of, module_mode_of}
-use Rattle.net_options.specs.declared.modes.LinkMode.TheVariants.{Undirected}
-use Rattle.net_options.specs.declared.modes.ModuleMode.TheVariants.{Largest}
+use Rattle.unit_scale.specs.Modes.{link_mode_of, module_mode_of}
+use Rattle.unit_scale.specs.declared.modes.LinkMode.TheVariants.{Undirected}
+use Rattle.unit_scale.specs.declared.modes.ModuleMode.TheVariants.{Largest}
 use Rattle.mcf_words.specs.declared.request.Command.{Command}
 use Rattle.mcf_words.specs.declared.request.Request.{Request}
 use Rattle.mcf_words.specs.declared.request.WordsEnd.{WordsEnd}

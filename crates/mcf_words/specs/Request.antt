@@ -4,15 +4,15 @@ use Rattle.std.specs.List.{find, list_all, list_any}
 use Rattle.std.specs.Option.{option_map}
 use Rattle.std.specs.Str.{bytes_eq}
 use Rattle.mcf_limits.specs.declared.TheConstants.{DEFAULT_GAP, DEFAULT_STEP, DEFAULT_WORKERS, MAX_GAP, MAX_NODES, MAX_LINKS, MAX_DEMANDS, MAX_PHASES, MAX_WORKERS, MAX_STEP}
-use Rattle.net_options.specs.declared.modes.LinkMode.TheVariants.{Undirected}
-use Rattle.net_options.specs.declared.modes.ModuleMode.TheVariants.{Largest}
-use Rattle.net_options.specs.declared.options.NetOptions.{NetOptions}
+use Rattle.unit_scale.specs.declared.modes.LinkMode.TheVariants.{Undirected}
+use Rattle.unit_scale.specs.declared.modes.ModuleMode.TheVariants.{Largest}
+use Rattle.unit_scale.specs.declared.options.NetOptions.{NetOptions}
 use Rattle.mcf_words.specs.declared.request.Command.{Command}
 use Rattle.mcf_words.specs.declared.request.Command.TheVariants.{Solve, Check, WhatIf, Upgrade, Print, Gen, Trial}
 use Rattle.mcf_words.specs.declared.request.Request.{Request}
 use Rattle.mcf_words.specs.Items.{Setting, Items, items_of}
 use Rattle.mcf_words.specs.Values.{number_in, gap_of, values_of, choice}
-use Rattle.net_options.specs.Modes.{link_mode_of, module_mode_of}
+use Rattle.unit_scale.specs.Modes.{link_mode_of, module_mode_of}
 
 infixl 10 ◌>>=◌
 abbrev pub ◌>>=◌ : {A B : Type 0} → Option A → (A → Option B) → Option B

@@ -5,7 +5,7 @@ use Rattle.std.specs.List.{list_all, filter_map}
 use Rattle.std.specs.Str.{bytes_eq}
 use Rattle.std.specs.Str.Parse.{digits_value}
 use Rattle.mcf_limits.specs.declared.TheConstants.{MAX_GAP}
-use Rattle.sndlib_number.specs.Number.{number_of}
+use Rattle.sndlib_grammar.specs.Number.{number_of}
 use Rattle.unit_scale.specs.declared.decimal.Decimal.{Decimal}
 use Rattle.unit_scale.specs.declared.decimal.Decimal.TheVariants.{Millionths, Fine, Huge}
 use Rattle.unit_scale.specs.Units.{decimal_of}

@@ -7,10 +7,10 @@ ghost use Rattle.mcf_words.specs.Answers.{Answers};
 ghost use Rattle.mcf_words.specs.Parse.{choices_in, read_in, request_in, words_in};
 ghost use Rattle.mcf_words.specs.Request.{file_count as file_count_lem, IsBudget, AreWithinLimits, IsWithinLimits, AreDrawn, four_numbers as four_numbers_lem, numbers_of as numbers_of_lem, files_of as files_of_lem, request_of};
 ghost use Rattle.mcf_words.specs.Values.{gap_of as gap_of_lem, number_in as number_in_lem};
-ghost use Rattle.net_options.specs.Modes.{link_mode_of as link_mode_of_lem, module_mode_of as module_mode_of_lem};
+ghost use Rattle.unit_scale.specs.Modes.{link_mode_of as link_mode_of_lem, module_mode_of as module_mode_of_lem};
 ghost use Rattle.mcf_words.specs.Views.{choices_view};
-ghost use Rattle.net_options.specs.declared.modes.LinkMode.TheVariants.{Undirected};
-ghost use Rattle.net_options.specs.declared.modes.ModuleMode.TheVariants.{Largest};
+ghost use Rattle.unit_scale.specs.declared.modes.LinkMode.TheVariants.{Undirected};
+ghost use Rattle.unit_scale.specs.declared.modes.ModuleMode.TheVariants.{Largest};
 
 use crate::commands::{GAP, LINKS, MODULES, PHASES, STEP, WORKERS, command_of, form_of};
 use crate::parse::{WORDS, parsed};
@@ -21,8 +21,8 @@ use mcf_limits::{
     DEFAULT_GAP, DEFAULT_STEP, DEFAULT_WORKERS, MAX_DEMANDS, MAX_GAP, MAX_LINKS, MAX_NODES,
     MAX_PHASES, MAX_STEP, MAX_WORKERS,
 };
-use net_options::{LinkMode, ModuleMode, NetOptions, link_mode_of, module_mode_of};
 use std::alloc::{AllocError, Global};
+use unit_scale::{LinkMode, ModuleMode, NetOptions, link_mode_of, module_mode_of};
 
 /// What the options say, and the defaults of those that do not stand.
 #[derive(Clone, Copy, Debug)]

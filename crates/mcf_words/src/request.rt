@@ -3,9 +3,9 @@
 ghost use Rattle.std.specs.Prelude.{◌≡◌, ◌<◌, ℕ, [], ◌∷◌, ◌++◌, length, string_bytes, slice_index_or, OnOk, OnErr};
 ghost use Rattle.mcf_words.specs.declared.request.WordsEnd.TheVariants.{Memory};
 
-use net_options::NetOptions;
 use std::alloc::{AllocError, AllocFailed, Global};
 use std::marker::Model;
+use unit_scale::NetOptions;
 
 /// What is to be done.
 #[derive(Clone, Copy, Debug, PartialEq, Eq)]

@@ -6,3 +6,8 @@ pub mod Printing
 pub mod Repeating
 pub mod Differing
 pub mod Sizes
+pub mod Words
+pub mod Rows
+pub mod Each
+pub mod Accepted
+pub mod Networks

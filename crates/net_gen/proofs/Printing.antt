@@ -7,7 +7,7 @@ use Rattle.std.proofs.lemmas.List.FromFn.{length-map-range_with_len}
 use Rattle.std.proofs.Math.Nat.{mod-lt}
 use Rattle.rand_pcg.specs.Lcg.{Lcg}
 use Rattle.sndlib_grammar.specs.Rows.{IsWord, NetLink, NetDemand, IsNetNode, IsNetLink, IsNetDemand}
-use Rattle.sndlib_text.specs.Canonical.{ArePrintable, AreModules}
+use Rattle.sndlib_grammar.specs.Canonical.{ArePrintable, AreModules}
 use Rattle.net_gen.specs.Draws.{generator_of, past, drawn, drawn_below}
 use Rattle.net_gen.specs.Generated.{AreCounts, generated_node, generated_link, generated_demand, generated_rows, link_capacity, words_of_ends, words_before_link}
 use Rattle.net_gen.proofs.Drawing.{ends_are_nodes, drawn_are_nodes}

@@ -9,9 +9,9 @@ use Rattle.std.proofs.lemmas.List.FromFn.{get_or-map-range_with_len, map-range_w
 use Rattle.std.proofs.lemmas.List.Sums.{sum_by-append}
 use Rattle.std.proofs.lemmas.Simd.{map-map}
 use Rattle.text_lines.specs.Lines.{Line, spelled, text_of}
-use Rattle.sndlib_text.specs.Canonical.{name_at}
+use Rattle.sndlib_grammar.specs.Canonical.{name_at}
 use Rattle.rand_pcg.specs.Lcg.{Lcg}
-use Rattle.sndlib_text.specs.Canonical.{link_line, demand_line}
+use Rattle.sndlib_grammar.specs.Canonical.{link_line, demand_line}
 use Rattle.net_gen.specs.Generated.{generated_names, generated_node, generated_link, generated_demand, link_ends, link_capacity, drawn_ends, words_of_link, words_before_link}
 use Rattle.net_gen.specs.Lines.{drawn_link_line, drawn_demand_line}
 use Rattle.net_gen.proofs.Drawing.{ends_are_nodes, drawn_are_nodes}

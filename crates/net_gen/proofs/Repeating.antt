@@ -6,8 +6,8 @@ use Rattle.text_lines.specs.Lines.{Line, text_of}
 use Rattle.sndlib_grammar.specs.declared.refusal.NetRefusal.{NetRefusal}
 use Rattle.sndlib_grammar.specs.Net.{rows_of}
 use Rattle.sndlib_grammar.specs.Rows.{NetRows, names_of_nodes}
-use Rattle.sndlib_text.specs.Canonical.{canonical_text, closing_line, first_line, opening_line, section, node_line, link_line, demand_line, link_without_line, demand_without_line, without_lines}
-use Rattle.sndlib_text.proofs.ReadBack.{reads_back}
+use Rattle.sndlib_grammar.specs.Canonical.{canonical_text, closing_line, first_line, opening_line, section, node_line, link_line, demand_line, link_without_line, demand_without_line, without_lines}
+use Rattle.sndlib_grammar.proofs.ReadBack.{reads_back}
 use Rattle.net_gen.specs.Generated.{AreCounts, generated_rows, generated_text}
 use Rattle.net_gen.proofs.Putting.{ap2}
 use Rattle.net_gen.proofs.Printing.{rows_printable}

@@ -6,7 +6,7 @@ use Rattle.mcf_limits.specs.declared.TheConstants.{MAX_NET_BYTES}
 use Rattle.rand_pcg.specs.Lcg.{Lcg}
 use Rattle.text_lines.specs.Lines.{Line, spelled, text_of}
 use Rattle.sndlib_grammar.specs.Rows.{names_of_nodes}
-use Rattle.sndlib_text.specs.Canonical.{closing_line, node_line, link_line, demand_line}
+use Rattle.sndlib_grammar.specs.Canonical.{closing_line, node_line, link_line, demand_line}
 use Rattle.net_gen.specs.Draws.{generator_of, past}
 use Rattle.net_gen.specs.Generated.{AreCounts, generated_names, generated_node, generated_link, generated_demand, generated_rows, generated_text, link_ends, link_capacity, drawn_ends, words_before_link}
 use Rattle.net_gen.specs.Lines.{drawn_link_line, drawn_demand_line}

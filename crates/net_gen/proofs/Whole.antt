@@ -5,7 +5,7 @@ use Rattle.std.proofs.lemmas.Grind.{flat_map-append}
 use Rattle.std.proofs.lemmas.List.{append-nil}
 use Rattle.text_lines.specs.Lines.{Line, spelled, text_of}
 use Rattle.sndlib_grammar.specs.Rows.{NetRows, names_of_nodes}
-use Rattle.sndlib_text.specs.Canonical.{canonical_text, closing_line, first_line, opening_line, section, node_line, link_line, demand_line}
+use Rattle.sndlib_grammar.specs.Canonical.{canonical_text, closing_line, first_line, opening_line, section, node_line, link_line, demand_line}
 
 -- a section: its opening, its entries, its closing
 section_is : {X : Type 0} (name : List ℕ) (words : X → Line) (xs : List X) → text_of (section name words xs) ≡ spelled (opening_line name) ++ (text_of (map words xs) ++ spelled closing_line)

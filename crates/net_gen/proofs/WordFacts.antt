@@ -12,8 +12,8 @@ use Rattle.std.proofs.lemmas.List.FromFn.{get_or-map-range_with_len, length-map-
 use Rattle.std.proofs.lemmas.Simd.{map-map}
 use Rattle.std.proofs.lemmas.Str.Parse.{digit_from_value}
 use Rattle.std.proofs.Math.Seq.{drop-length, take-length}
-use Rattle.sndlib_lex.specs.Tokens.{is_word_byte}
-use Rattle.sndlib_number.specs.Number.{is_number, front_digits, behind_digits}
+use Rattle.sndlib_grammar.specs.Tokens.{is_word_byte}
+use Rattle.sndlib_grammar.specs.Number.{is_number, front_digits, behind_digits}
 use Rattle.sndlib_grammar.specs.Rows.{IsWord, AreDistinct}
 
 -- ---- bytes

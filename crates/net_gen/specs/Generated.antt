@@ -5,7 +5,7 @@ use Rattle.std.specs.Fmt.{decimal}
 use Rattle.mcf_limits.specs.declared.TheConstants.{MAX_DEMANDS, MAX_LINKS, MAX_NODES}
 use Rattle.rand_pcg.specs.Lcg.{Lcg}
 use Rattle.sndlib_grammar.specs.Rows.{NetNode, NetLink, NetDemand, NetRows}
-use Rattle.sndlib_text.specs.Canonical.{canonical_text}
+use Rattle.sndlib_grammar.specs.Canonical.{canonical_text}
 use Rattle.net_gen.specs.Draws.{generator_of, past, drawn_below}
 
 -- how many nodes, links and demands a network may be drawn with

@@ -4,7 +4,7 @@ ghost use Rattle.std.specs.Prelude.{◌≡◌, ◌≢◌, ◌≤◌, ℕ, Ok, Al
 ghost use Rattle.mcf_limits.specs.declared.TheConstants.{MAX_NET_BYTES};
 ghost use Rattle.sndlib_grammar.specs.Net.{rows_of};
 ghost use Rattle.sndlib_grammar.specs.Rows.{NetRows};
-ghost use Rattle.sndlib_text.specs.Canonical.{ReadsBack, canonical_text};
+ghost use Rattle.sndlib_grammar.specs.Canonical.{ReadsBack, canonical_text};
 ghost use Rattle.net_gen.specs.Generated.{AreCounts, generated_rows, generated_text};
 
 /// A generated text is read as the rows that were drawn, their lines apart.

@@ -1,6 +1,8 @@
 //! Networks that are drawn from a seed, as canonical texts.
+//! Laws of the networks that are drawn from a seed, in units.
 #![tactic(auto)]
 
+mod draw_laws;
 mod draws;
 mod laws;
 mod text;

@@ -5,7 +5,7 @@ ghost use Rattle.std.specs.List.{range_with_len};
 ghost use Rattle.std.specs.String.{string_bytes};
 ghost use Rattle.mcf_limits.specs.declared.TheConstants.{MAX_NET_BYTES, MAX_NODES};
 ghost use Rattle.text_lines.specs.Lines.{spelled, text_of};
-ghost use Rattle.sndlib_text.specs.Canonical.{node_line, link_line, demand_line};
+ghost use Rattle.sndlib_grammar.specs.Canonical.{node_line, link_line, demand_line};
 ghost use Rattle.net_gen.specs.Draws.{past};
 ghost use Rattle.net_gen.specs.Lines.{drawn_link_line, drawn_demand_line};
 ghost use Rattle.net_gen.specs.Generated.{AreCounts, generated_names, generated_node, generated_link, generated_links, generated_demand, generated_demands, generated_text, words_of_link, words_before_link};

@@ -1,7 +1,7 @@
 //! Laws of what comes of rows, each proved for all rows and options.
 
 ghost use Rattle.std.specs.Prelude.{◌≡◌, ◌*◌, length};
-ghost use Rattle.net_options.specs.declared.options.NetOptions.{NetOptions};
+ghost use Rattle.unit_scale.specs.declared.options.NetOptions.{NetOptions};
 ghost use Rattle.flow_model.specs.Network.{Network};
 ghost use Rattle.sndlib_grammar.specs.Rows.{NetRows};
 ghost use Rattle.unit_scale.specs.Scaling.{ScaledNet};
@@ -17,7 +17,7 @@ ghost use Rattle.net_solve.specs.declared.asked.Asked.{Asked};
 ghost use Rattle.net_solve.specs.Solving.{IsDone};
 ghost use Rattle.net_solve.specs.Tally.{total_of, routes_of, carried_of};
 
-use solve_texts::solved_is_judged_valid;
+use crate::solved_is_judged_valid;
 
 /// The certificate of a solve checks: its text is judged valid on the same rows, with its verdict
 /// and its fractions, and nothing else is said of it.

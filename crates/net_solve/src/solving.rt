@@ -1,7 +1,7 @@
 //! From rows to a solved network.
 
 ghost use Rattle.std.specs.Prelude.{◌≡◌, ◌≤◌, IfOk, Ok};
-ghost use Rattle.net_options.specs.declared.options.NetOptions.{NetOptions};
+ghost use Rattle.unit_scale.specs.declared.options.NetOptions.{NetOptions};
 ghost use Rattle.sndlib_grammar.specs.Rows.{NetRows, AreNetRows};
 ghost use Rattle.unit_scale.specs.Scaling.{scaled_of};
 ghost use Rattle.cert_lines.specs.declared.net_line.TheConstants.{MAX_COUNT};
@@ -11,11 +11,10 @@ ghost use Rattle.net_solve.specs.Solving.{IsSolving};
 use crate::asked::{Asked, options_of};
 use flow_solver::{Solved, solve};
 use mcf_base::Gate;
-use net_options::NetOptions;
 use sndlib_read::{NetRefusal, RawNet};
 use std::alloc::{AllocError, Global};
 use std::thread::Threads;
-use unit_scale::{ScaleEnd, Scaled, scale};
+use unit_scale::{NetOptions, ScaleEnd, Scaled, scale};
 
 /// What a solve makes of the rows of a network.
 #[derive(Drop)]

@@ -1,7 +1,7 @@
 -- What comes of a text that is no routing is what `check` says of it.
 use Rattle.std.proofs.Common.{◌≡◌, ℕ, Bool, false, List, Option, Some, None, Result, Ok, Err, refl, sym, ap, subst, ◌∙◌}
 use Rattle.text_lines.specs.Lines.{Line, lines_of}
-use Rattle.net_options.specs.declared.options.NetOptions.{NetOptions}
+use Rattle.unit_scale.specs.declared.options.NetOptions.{NetOptions}
 use Rattle.flow_paths.specs.declared.certificate.Proof.{Proof}
 use Rattle.flow_paths.specs.Certificate.{lower_of, upper_of}
 use Rattle.sndlib_grammar.specs.Rows.{NetRows}
@@ -14,7 +14,7 @@ use Rattle.cert_text.specs.declared.opening.CertHead.{CertHead}
 use Rattle.cert_text.specs.declared.papers.Paper.{Paper}
 use Rattle.cert_text.specs.declared.papers.Paper.TheVariants.{Routing, Full}
 use Rattle.cert_text.specs.Whole.{head_in, paper_in}
-use Rattle.cert_laws.proofs.Steps.{ok_is}
+use Rattle.cert_judge.proofs.Steps.{ok_is}
 use Rattle.cert_judge.specs.Judgement.{options_of, IsSaidOf, IsJudgement, OnPaper as IsOnPaper, OnNet as IsOnNet, OnHead as IsOnHead}
 use Rattle.cert_judge.specs.declared.judged.Judged.TheVariants as judges
 use Rattle.net_whatif.specs.declared.certifying.Certified.{Certified}

@@ -17,7 +17,7 @@ use Rattle.cert_text.specs.declared.papers.Paper.TheVariants as papers
 use Rattle.cert_text.specs.Reading.{Place, has_more}
 use Rattle.cert_text.specs.Papers.{form_of, header, header_of, proof_at}
 use Rattle.cert_text.specs.Whole.{paper_at, paper_in}
-use Rattle.cert_laws.proofs.Steps.{bind_ok, done, ok_is, passed}
+use Rattle.cert_judge.proofs.Steps.{bind_ok, done, ok_is, passed}
 use Rattle.net_whatif.specs.Certified.{is_routing}
 
 abbrev kind_or : Option Opening → Kind

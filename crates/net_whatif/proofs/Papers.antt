@@ -10,7 +10,7 @@ use Rattle.cert_lines.specs.declared.refusal.CertRefusal.{CertRefusal}
 use Rattle.cert_text.specs.declared.papers.Paper.{Paper}
 use Rattle.cert_text.specs.declared.papers.Paper.TheVariants.{Routing, Full}
 use Rattle.cert_text.specs.Reading.{Gives}
-use Rattle.cert_laws.specs.Fits.{FitsPaper}
+use Rattle.cert_judge.specs.Fits.{FitsPaper}
 use Rattle.cert_judge.proofs.Fitting.{IsSized, proof_fits}
 use Rattle.net_whatif.specs.declared.certifying.Certified.{Certified}
 use Rattle.net_whatif.specs.Certified.{IsOfNet, IsReadOf, OnCertificate, OnPaper}

@@ -1,8 +1,8 @@
 -- The network in units has the cells of its links.
 use Rattle.std.proofs.Common.{◌≡◌, ◌∙◌, ap, sym, arith, length}
 use Rattle.std.proofs.lemmas.List.{length-map}
-use Rattle.net_options.specs.declared.modes.LinkMode.{LinkMode}
-use Rattle.cell_dir.specs.Names.{cells_of}
+use Rattle.unit_scale.specs.declared.modes.LinkMode.{LinkMode}
+use Rattle.unit_scale.specs.Names.{cells_of}
 use Rattle.script.specs.Steps.{AreSteps, AreStepsOfCells, ScriptView}
 use Rattle.sndlib_grammar.specs.Rows.{NetRows}
 use Rattle.unit_scale.specs.Scaling.{ScaledNet}

@@ -8,7 +8,7 @@ use Rattle.flow_model.specs.Network.{IsCell}
 use Rattle.flow_paths.specs.declared.certificate.Proof.{Proof}
 use Rattle.sndlib_grammar.specs.Rows.{NetRows}
 use Rattle.unit_scale.specs.Scaling.{ScaledNet}
-use Rattle.net_options.specs.declared.modes.LinkMode.{LinkMode}
+use Rattle.unit_scale.specs.declared.modes.LinkMode.{LinkMode}
 use Rattle.script.specs.declared.step.Step.{Step}
 use Rattle.script.specs.declared.step.Step.TheVariants.{Edit, Show}
 use Rattle.script.specs.Steps.{AreSteps, IsStep}

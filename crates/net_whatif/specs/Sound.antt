@@ -2,7 +2,7 @@
 use Rattle.std.specs.Prelude.{◌≡◌, ℕ, List, All, Some, take, slice_get}
 use Rattle.text_lines.specs.Lines.{Line}
 use Rattle.flow_paths.specs.Evaluation.{edited}
-use Rattle.net_options.specs.declared.modes.LinkMode.{LinkMode}
+use Rattle.unit_scale.specs.declared.modes.LinkMode.{LinkMode}
 use Rattle.script.specs.declared.step.Step.{Step}
 use Rattle.script.specs.declared.step.Step.TheVariants.{Show}
 use Rattle.whatif.specs.Planned.{Planned, AreBounds, after_steps, shown_of}

@@ -14,16 +14,14 @@ ghost use Rattle.cert_text.specs.Whole.{head_in, paper_in};
 ghost use Rattle.net_whatif.specs.Certified.{IsCertifiedText, IsOfNet, IsReadOf, IsSound, OnCertificate, OnHead, OnPaper, is_routing, is_routing_line};
 
 use cert_check::{Verdict, check};
-use cert_judge::Judged;
-use cert_laws::papers_fit;
+use cert_judge::{Judged, papers_fit};
 use cert_lines::is_fixed;
 use cert_text::{CertEnd, CertKind, CertRefusal, Paper, cert_head, read_cert};
 use flow_paths::Proof;
-use net_options::NetOptions;
 use sndlib_read::RawNet;
 use std::alloc::{AllocError, Global};
 use text_lines::split_line;
-use unit_scale::{ScaleEnd, Scaled, scale};
+use unit_scale::{NetOptions, ScaleEnd, Scaled, scale};
 
 /// What comes of a certificate's text.
 #[derive(Drop)]

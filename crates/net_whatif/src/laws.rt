@@ -2,7 +2,7 @@
 
 ghost use Rattle.std.specs.Prelude.{◌≡◌, ℕ, List, false, length};
 ghost use Rattle.text_lines.specs.Lines.{lines_of};
-ghost use Rattle.net_options.specs.declared.modes.LinkMode.{LinkMode};
+ghost use Rattle.unit_scale.specs.declared.modes.LinkMode.{LinkMode};
 ghost use Rattle.flow_paths.specs.declared.certificate.Proof.{Proof};
 ghost use Rattle.script.specs.declared.step.Step.{Step};
 ghost use Rattle.script.specs.Steps.{AreSteps};

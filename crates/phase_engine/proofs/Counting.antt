@@ -12,9 +12,9 @@ use Rattle.flow_core.specs.Core.{idle, total, path_of}
 use Rattle.flow_core.specs.Laws.{one_if, below, weigh}
 use Rattle.flow_core.proofs.Places.{total-none}
 use Rattle.flow_core.proofs.Whole.{in-groups}
-use Rattle.commodity_claims.specs.Routes.{Route}
-use Rattle.commodity_claims.specs.Work.{routes_in, routes_of}
-use Rattle.commodity_claims.proofs.Goings.{routes_more}
+use Rattle.phase_engine.specs.Routes.{Route}
+use Rattle.phase_engine.specs.Work.{routes_in, routes_of}
+use Rattle.phase_engine.proofs.Goings.{routes_more}
 use Rattle.phase_engine.specs.declared.hand.Hand.{Hand}
 
 -- sums over the numbers below n

@@ -12,8 +12,8 @@ use Rattle.flow_core.specs.Laws.{AllComplete}
 use Rattle.load_table.specs.declared.view.Hand as table
 use Rattle.load_table.specs.Views.{hand}
 use Rattle.load_table.specs.Seen.{LoadsView, IsPassOf}
-use Rattle.commodity_claims.specs.declared.worker.Worked.{Worked}
-use Rattle.commodity_claims.specs.Work.{HasWorked, routes_of}
+use Rattle.phase_engine.specs.declared.worker.Worked.{Worked}
+use Rattle.phase_engine.specs.Work.{HasWorked, routes_of}
 use Rattle.phase_engine.specs.declared.hand.Hand.{Hand}
 use Rattle.phase_engine.specs.Hands.{OfTurn, IsDone, IsBack, IsSameWorker, start_view, no_hand, IsWorkOf, SomeStopped, NoneStopped}
 

@@ -18,10 +18,10 @@ use Rattle.flow_core.proofs.Sums.{total-at}
 use Rattle.flow_core.proofs.Whole.{whole, no_entry, contained, members-at, path-member, path-some, log-inside, stopped-inside}
 use Rattle.load_table.specs.declared.view.Hand as table
 use Rattle.load_table.specs.Rule.{AllFit, Closes}
-use Rattle.commodity_claims.specs.Routes.{Route}
-use Rattle.commodity_claims.specs.Work.{routes_in, routes_of}
-use Rattle.commodity_claims.proofs.Finds.{member-place, members-inside, members-of-group}
-use Rattle.commodity_claims.proofs.Goings.{routes_more}
+use Rattle.phase_engine.specs.Routes.{Route}
+use Rattle.phase_engine.specs.Work.{routes_in, routes_of}
+use Rattle.phase_engine.proofs.Finds.{member-place, members-inside, members-of-group}
+use Rattle.phase_engine.proofs.Goings.{routes_more}
 use Rattle.phase_engine.specs.declared.hand.Hand.{Hand}
 use Rattle.phase_engine.specs.Hands.{no_hand, EachWork, SomeStopped}
 use Rattle.phase_engine.specs.Routing.{HasRouted, IsRoutedPhase}

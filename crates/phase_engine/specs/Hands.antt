@@ -11,8 +11,8 @@ use Rattle.load_table.specs.declared.view.Hand as table
 use Rattle.load_table.specs.Views.{hand, view_of}
 use Rattle.load_table.specs.Rule.{MayClose}
 use Rattle.load_table.specs.Seen.{LoadsView, PassView, IsPassOf}
-use Rattle.commodity_claims.specs.declared.worker.Worked.{Worked}
-use Rattle.commodity_claims.specs.Work.{HasWorked, routes_of}
+use Rattle.phase_engine.specs.declared.worker.Worked.{Worked}
+use Rattle.phase_engine.specs.Work.{HasWorked, routes_of}
 use Rattle.phase_engine.specs.declared.hand.Hand.{Hand}
 
 abbrev pub OfTurn : Option Worked → (Worked → Type 0) → Type 0

@@ -1,2 +1,7 @@
 pub mod Hands
 pub mod Routing
+pub mod Found
+pub mod Going
+pub mod Routes
+pub mod Steps
+pub mod Work

@@ -1,6 +1,6 @@
 //! The place of one worker.
 
-use commodity_claims::{Routes, Worked};
+use crate::{Routes, Worked};
 use dijkstra_paths::Scratch;
 
 /// What a worker works with, and what it has done. Its pass stands in the turn while a phase lasts.

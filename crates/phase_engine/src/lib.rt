@@ -1,9 +1,16 @@
 //! Phases: workers route every commodity once, over shared loads.
+//! The work of one worker of a phase: it claims groups, reads the loads, searches, and adds along least paths.
 #![tactic(auto)]
 
 mod hand;
 mod phases;
+mod route_buffer;
+mod routes;
+mod steps;
 mod turns;
+mod worker;
 
 pub use hand::Hand;
 pub use phases::phase;
+pub use routes::Routes;
+pub use worker::{Worked, work};

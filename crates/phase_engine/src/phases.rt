@@ -12,12 +12,12 @@ ghost use Rattle.phase_engine.specs.Routing.{IsRoutedPhase};
 
 use crate::hand::Hand;
 use crate::turns::{gather, hand_out, run_all};
+use dijkstra_paths::Graph;
 use fixed_exp::Powers;
 use flow_model::{Groups, Net, Setting};
 use load_table::{Loads, Pass};
 use mcf_base::Gate;
 use mcf_limits::MAX_WORKERS;
-use net_graph::Graph;
 use std::alloc::Global;
 use std::thread::Threads;
 

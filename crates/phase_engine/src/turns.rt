@@ -7,12 +7,12 @@ ghost use Rattle.load_table.specs.Rule.{MayClose};
 ghost use Rattle.phase_engine.specs.Hands.{IsFresh, IsReady, IsDone, Runs, IsBack, IsSameWorker, EachWork, SomeStopped, NoneStopped, AreOf};
 
 use crate::hand::Hand;
-use commodity_claims::{Worked, work};
+use crate::{Worked, work};
+use dijkstra_paths::Graph;
 use fixed_exp::Powers;
 use flow_model::{Groups, Net, Setting};
 use load_table::{Loads, Pass};
 use mcf_base::Gate;
-use net_graph::Graph;
 use std::alloc::Global;
 use std::thread::Threads;
 

@@ -2,9 +2,9 @@
 use Rattle.std.specs.Prelude.{ℕ, Bool, true, false, List, [], ◌∷◌, codes}
 use Rattle.std.specs.Fmt.{decimal}
 use Rattle.text_lines.specs.Lines.{Line}
-use Rattle.line_writer.specs.Spelling.{fraction_word, millionths_word}
+use Rattle.text_lines.specs.Spelling.{fraction_word, millionths_word}
 use Rattle.gap_fraction.specs.Decimals.{millionths_down, millionths_up}
-use Rattle.net_options.specs.Modes.{link_word, module_word}
+use Rattle.unit_scale.specs.Modes.{link_word, module_word}
 use Rattle.sndlib_grammar.specs.declared.refusal.NetKind.{NetKind}
 use Rattle.sndlib_grammar.specs.declared.refusal.NetKind.TheVariants as kinds
 use Rattle.sndlib_grammar.specs.declared.refusal.NetRefusal.{NetRefusal}

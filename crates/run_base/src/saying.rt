@@ -5,8 +5,8 @@ ghost use Rattle.text_lines.specs.Lines.{spelled};
 ghost use Rattle.run_base.specs.Answer.{Writes, line_answer};
 
 use crate::ended::Ended;
-use line_writer::write_line;
 use mcf_base::Sink;
+use text_lines::write_line;
 
 /// Writes a line of words, and ends with the status.
 pub fn say<K: Sink>(out: &mut K, first: &[u8], words: &[&[u8]], status: u8) -> Ended

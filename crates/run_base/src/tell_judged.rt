@@ -2,7 +2,7 @@
 
 ghost use Rattle.std.specs.Prelude.{◌≡◌, ◌<◌, ◌+◌, ◌*◌, if◌then◌else◌};
 ghost use Rattle.text_lines.specs.Lines.{spelled};
-ghost use Rattle.line_writer.specs.Spelling.{millionths_word};
+ghost use Rattle.text_lines.specs.Spelling.{millionths_word};
 ghost use Rattle.cert_judge.specs.declared.judged.Judged.TheVariants as JudgedIs;
 ghost use Rattle.run_base.specs.Answer.{Writes, line_answer};
 ghost use Rattle.run_base.specs.Judged.{kind_word as kind_word_lem, cert_kind_word as cert_kind_word_lem, fault_word as fault_word_lem, verdict_word as verdict_word_lem, script_kind_word as script_kind_word_lem, net_refused, script_refused, cert_refused, judged_words, judged_status};
@@ -11,11 +11,11 @@ use crate::ended::Ended;
 use crate::saying::say;
 use cert_judge::{CertKind, CertRefusal, Fault, Judged};
 use gap_fraction::{Frac, Shown};
-use line_writer::Word;
 use mcf_base::Sink;
-use net_options::{NetOptions, link_word, module_word};
 use script::{ScriptKind, ScriptRefusal};
 use sndlib_read::{NetKind, NetRefusal};
+use text_lines::Word;
+use unit_scale::{NetOptions, link_word, module_word};
 
 fn kind_word(kind: NetKind) -> &'static [u8]
     ensures { result.now ≡ kind_word_lem kind }

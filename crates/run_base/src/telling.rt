@@ -8,8 +8,8 @@ use crate::ended::Ended;
 use crate::outcome::{Outcome, Paper};
 use crate::saying::say;
 use crate::tell_judged::{tell_judged, tell_net_refusal, tell_script_refusal};
-use line_writer::Word;
 use mcf_base::Sink;
+use text_lines::Word;
 
 fn paper_word(paper: Paper) -> &'static [u8]
     ensures { result.now ≡ paper_word_lem paper }

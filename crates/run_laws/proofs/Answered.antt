@@ -5,7 +5,7 @@ use Rattle.mcf_limits.specs.declared.TheConstants.{MAX_CERT_BYTES, MAX_SCRIPT_BY
 use Rattle.mcf_base.specs.Faults.{Rose}
 use Rattle.mcf_base.specs.Shelf.{Holding, ShelfView, with_file}
 use Rattle.text_lines.specs.Lines.{lines_of}
-use Rattle.net_options.specs.declared.options.NetOptions.{NetOptions}
+use Rattle.unit_scale.specs.declared.options.NetOptions.{NetOptions}
 use Rattle.flow_model.specs.Network.{Network}
 use Rattle.flow_paths.specs.declared.certificate.Proof.{Proof}
 use Rattle.flow_paths.specs.Certificate.{IsValid}

@@ -6,7 +6,7 @@ use Rattle.mcf_limits.specs.declared.TheConstants.{MAX_CERT_BYTES}
 use Rattle.mcf_base.specs.Shelf.{Holding, ShelfView, with_file}
 use Rattle.mcf_base.specs.Reading.{IsText}
 use Rattle.mcf_base.specs.Sink.{SinkView}
-use Rattle.net_options.specs.declared.options.NetOptions.{NetOptions}
+use Rattle.unit_scale.specs.declared.options.NetOptions.{NetOptions}
 use Rattle.sndlib_grammar.specs.Rows.{NetRows}
 use Rattle.unit_scale.specs.Scaling.{ScaledNet, scaled_of}
 use Rattle.solver_run.specs.History.{SolvedView}
@@ -21,7 +21,7 @@ use Rattle.cert_text.specs.declared.papers.Paper.{Paper}
 use Rattle.cert_text.specs.declared.papers.Paper.TheVariants as papers
 use Rattle.cert_text.specs.Whole.{paper_in}
 use Rattle.cert_writer.specs.Text.{FitsProof, certificate_text}
-use Rattle.cert_laws.specs.Fits.{read}
+use Rattle.cert_judge.specs.Fits.{read}
 use Rattle.cert_judge.specs.declared.judged.Judged.{Judged}
 use Rattle.cert_judge.specs.declared.judged.Judged.TheVariants as judges
 use Rattle.cert_judge.specs.Judgement.{IsJudgement}

@@ -8,7 +8,7 @@ use Rattle.sndlib_grammar.specs.Net.{rows_of}
 use Rattle.unit_scale.specs.Scaling.{ScaledNet}
 use Rattle.solver_run.specs.History.{SolvedView}
 use Rattle.net_gen.specs.Generated.{generated_text}
-use Rattle.draw_laws.specs.Drawn.{drawn_net}
+use Rattle.net_gen.specs.Drawn.{drawn_net}
 use Rattle.net_solve.specs.Asked.{IsTooMuch}
 use Rattle.net_solve.specs.Solving.{IsDone}
 use Rattle.net_solve.specs.Tally.{total_of, routes_of, carried_of}

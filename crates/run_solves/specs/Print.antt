@@ -2,7 +2,7 @@
 use Rattle.std.specs.Prelude.{◌≡◌, ℕ, List}
 use Rattle.mcf_base.specs.Shelf.{ShelfView}
 use Rattle.sndlib_grammar.specs.Rows.{NetRows}
-use Rattle.sndlib_text.specs.Canonical.{canonical_text}
+use Rattle.sndlib_grammar.specs.Canonical.{canonical_text}
 use Rattle.run_base.specs.Found.{nothing}
 use Rattle.run_base.specs.Answer.{Answer}
 use Rattle.run_base.specs.Files.{Ends, OfNet}

@@ -16,18 +16,17 @@ ghost use Rattle.run_solves.specs.Solve.{asked_of};
 ghost use Rattle.run_solves.specs.Drawn.{text_drawn, gen_answer, trial_words, trial_line, TriesRows, OfTrial};
 
 use crate::solve::asked_by;
-use draw_laws::drawn_networks_are_scaled;
 use flow_model::Net;
 use flow_solver::Solved;
-use line_writer::{Word, write_line};
 use mcf_base::{Gate, Sink, WriteFault, write_all_of};
 use mcf_words::Request;
-use net_gen::generate;
+use net_gen::{drawn_networks_are_scaled, generate};
 use net_solve::{Solving, carried_amount, route_count, solve_rows, total_amount};
 use run_base::{Ended, Found, Outcome, net_rows, tell, verdict_status, verdict_word};
 use sndlib_read::RawNet;
 use std::alloc::{AllocError, Global};
 use std::thread::Threads;
+use text_lines::{Word, write_line};
 
 // The text that is drawn by these numbers.
 fn drawn_text(alloc: Global, numbers: &[u64; 4]) -> Result<String, AllocError>

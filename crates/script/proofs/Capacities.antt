@@ -4,12 +4,12 @@ use Rattle.std.proofs.lemmas.List.{get_or-map}
 use Rattle.std.proofs.lemmas.List.Elements.{All-push, All-same}
 use Rattle.std.proofs.lemmas.List.FromFn.{map-range_with_len_more}
 use Rattle.mcf_limits.specs.declared.TheConstants.{MAX_UNITS}
-use Rattle.net_options.specs.declared.modes.LinkMode.{LinkMode}
-use Rattle.net_options.specs.declared.modes.LinkMode.TheVariants.{Directed, Undirected, Bidirected}
+use Rattle.unit_scale.specs.declared.modes.LinkMode.{LinkMode}
+use Rattle.unit_scale.specs.declared.modes.LinkMode.TheVariants.{Directed, Undirected, Bidirected}
 use Rattle.flow_model.specs.declared.net.Cell.{Cell}
 use Rattle.flow_model.specs.Network.{Network, IsNetwork}
-use Rattle.cell_dir.specs.Names.{cells_of}
-use Rattle.cell_dir.specs.Closed.{caps_of}
+use Rattle.unit_scale.specs.Names.{cells_of}
+use Rattle.unit_scale.specs.Closed.{caps_of}
 use Rattle.script.specs.Reading.{link_caps}
 
 first_below : (mode : LinkMode) (link links : ℕ) → link < links → cells_of mode link < cells_of mode links

@@ -1,2 +1,4 @@
 pub mod Capacities
 pub mod Scanning
+pub mod Found
+pub mod Spelled

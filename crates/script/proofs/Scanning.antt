@@ -3,7 +3,7 @@ use Rattle.std.proofs.Common.{◌≡◌, ℕ, ◌<◌, ◌≤◌, List, [], ◌�
 use Rattle.std.specs.Prelude.{nat_lt, if◌then◌else◌}
 use Rattle.std.proofs.lemmas.Bool.{ltb-false, ltb-true}
 use Rattle.mcf_limits.specs.declared.TheConstants.{MAX_WORD_BYTES}
-use Rattle.sndlib_lex.specs.Tokens.{Lexeme}
+use Rattle.sndlib_grammar.specs.Tokens.{Lexeme}
 use Rattle.script.specs.declared.refusal.ScriptKind.{ScriptKind}
 use Rattle.script.specs.declared.refusal.ScriptKind.TheVariants.{Syntax}
 use Rattle.script.specs.declared.word.Meaning.{Meaning}

@@ -1,3 +1,4 @@
 pub mod Answer
 pub mod Reading
 pub mod Steps
+pub mod Commands

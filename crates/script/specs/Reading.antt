@@ -3,18 +3,18 @@ use Rattle.std.specs.Prelude.{ℕ, ◌+◌, ◌-◌, ◌==◌, List, [], ◌∷�
 use Rattle.std.specs.Str.{bytes_eq}
 use Rattle.std.specs.List.{range_with_len}
 use Rattle.mcf_limits.specs.declared.TheConstants.{MAX_UNITS, MAX_WORD_BYTES}
-use Rattle.net_options.specs.declared.modes.LinkMode.{LinkMode}
-use Rattle.sndlib_lex.specs.Tokens.{Lexeme, lexemes}
-use Rattle.sndlib_lex.specs.declared.token.TokenKind.{TokenKind}
-use Rattle.sndlib_lex.specs.declared.token.TokenKind.TheVariants.{LeftParen, RightParen, Word}
-use Rattle.sndlib_number.specs.Number.{number_of}
+use Rattle.unit_scale.specs.declared.modes.LinkMode.{LinkMode}
+use Rattle.sndlib_grammar.specs.Tokens.{Lexeme, lexemes}
+use Rattle.sndlib_grammar.specs.declared.token.TokenKind.{TokenKind}
+use Rattle.sndlib_grammar.specs.declared.token.TokenKind.TheVariants.{LeftParen, RightParen, Word}
+use Rattle.sndlib_grammar.specs.Number.{number_of}
 use Rattle.sndlib_grammar.specs.Rows.{NetRows, names_of_links}
 use Rattle.unit_scale.specs.declared.decimal.UnitFault.{UnitFault}
 use Rattle.unit_scale.specs.declared.decimal.UnitFault.TheVariants as faults
 use Rattle.unit_scale.specs.Units.{units_read}
 use Rattle.unit_scale.specs.Scaling.{ScaledNet}
-use Rattle.cell_dir.specs.Names.{cells_of}
-use Rattle.cell_dir.specs.Closed.{caps_of}
+use Rattle.unit_scale.specs.Names.{cells_of}
+use Rattle.unit_scale.specs.Closed.{caps_of}
 use Rattle.script.specs.declared.refusal.ScriptKind.{ScriptKind}
 use Rattle.script.specs.declared.refusal.ScriptKind.TheVariants.{Syntax, UnknownLink, BadNumber, TooFine, TooLarge, BelowZero}
 use Rattle.script.specs.declared.refusal.ScriptRefusal.{ScriptRefusal}

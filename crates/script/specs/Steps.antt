@@ -1,8 +1,8 @@
 -- The steps of a script: links that get a capacity, and places at which the bounds are shown.
 use Rattle.std.specs.Prelude.{ℕ, ◌<◌, ◌≤◌, List, All}
 use Rattle.mcf_limits.specs.declared.TheConstants.{MAX_LINKS, MAX_UNITS}
-use Rattle.net_options.specs.declared.modes.LinkMode.{LinkMode}
-use Rattle.cell_dir.specs.Names.{cells_of}
+use Rattle.unit_scale.specs.declared.modes.LinkMode.{LinkMode}
+use Rattle.unit_scale.specs.Names.{cells_of}
 use Rattle.script.specs.declared.step.Step.{Step}
 use Rattle.script.specs.declared.step.Step.TheVariants.{Edit, Show}
 

@@ -1,10 +1,10 @@
 //! The text of a script, read.
 
 ghost use Rattle.std.specs.Prelude.{◌≡◌, ◌≤◌, ◌<◌, ◌^◌, All, IfOk, OnOk, length};
-ghost use Rattle.sndlib_lex.specs.Tokens.{lexeme};
+ghost use Rattle.sndlib_grammar.specs.Tokens.{lexeme};
 ghost use Rattle.sndlib_grammar.specs.Rows.{names_of_links};
-ghost use Rattle.cell_dir.specs.Names.{cells_of};
-ghost use Rattle.cell_dir.specs.Closed.{caps_of};
+ghost use Rattle.unit_scale.specs.Names.{cells_of};
+ghost use Rattle.unit_scale.specs.Closed.{caps_of};
 ghost use Rattle.script.specs.Reading.{after, by_kind, link_caps, scan, script_of};
 ghost use Rattle.script.specs.Steps.{AreSteps};
 ghost use Rattle.script.specs.Answer.{IsExpected, IsMeant, Reads, sofar_of};
@@ -13,12 +13,11 @@ use crate::reading::{Reading, take};
 use crate::refusal::{ScriptEnd, ScriptKind, ScriptRefusal};
 use crate::step::Script;
 use crate::word::{Expected, Meaning, word_meaning};
-use cell_dir::cells_of;
 use mcf_limits::{MAX_DECIMALS, MAX_LINKS, MAX_SCRIPT_BYTES, MAX_UNITS};
-use sndlib_lex::{Token, TokenKind, Tokens, end_line};
+use sndlib_grammar::{Token, TokenKind, Tokens, end_line};
 use sndlib_read::RawNet;
 use std::alloc::{AllocError, Global};
-use unit_scale::Scaled;
+use unit_scale::{Scaled, cells_of};
 
 fn refused(kind: ScriptKind, line: u32) -> ScriptEnd
     ensures { result ≡ ScriptEnd.Refused (record { line = line; kind = kind }) }

@@ -2,8 +2,8 @@
 
 ghost use Rattle.std.specs.Prelude.{◌≡◌};
 
-use net_options::LinkMode;
 use std::marker::Model;
+use unit_scale::LinkMode;
 
 /// One step: a link gets this capacity, in units, or the bounds are shown. In bidirected mode the capacity is that of each
 /// of the link's cells.

@@ -1,7 +1,7 @@
 //! What a word means where it stands.
 
 ghost use Rattle.std.specs.Prelude.{◌≡◌, ℕ, ◌≤◌, ◌<◌, All, IfOk, length, slice_index};
-ghost use Rattle.sndlib_number.specs.Number.{number_of};
+ghost use Rattle.sndlib_grammar.specs.Number.{number_of};
 ghost use Rattle.sndlib_grammar.specs.Rows.{names_of_links};
 ghost use Rattle.unit_scale.specs.Units.{units_read};
 ghost use Rattle.script.specs.Reading.{command as command_of, link_of, changed as changed_of, number as number_read, meaning as meaning_of};

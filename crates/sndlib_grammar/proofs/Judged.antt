@@ -6,7 +6,7 @@ use Rattle.std.specs.List.{starts_with, AllByRecursion}
 use Rattle.std.proofs.lemmas.List.{map-append}
 use Rattle.std.proofs.lemmas.Bool.{ltb-false, ltb-true}
 use Rattle.mcf_limits.specs.declared.TheConstants.{MAX_WORD_BYTES}
-use Rattle.sndlib_lex.specs.Tokens.{Lexeme}
+use Rattle.sndlib_grammar.specs.Tokens.{Lexeme}
 use Rattle.sndlib_grammar.specs.declared.refusal.NetKind.{NetKind}
 use Rattle.sndlib_grammar.specs.declared.refusal.NetKind.TheVariants.{NoHeader, LongWord, Syntax, TooMany, Duplicate, UnknownNode, BadNumber, TooFine, TooLarge, NoDemand, HopTooFar}
 use Rattle.sndlib_grammar.specs.declared.refusal.NetKind.TheVariants as netkinds

@@ -9,3 +9,13 @@ pub mod Judged
 pub mod WordLaws
 pub mod RowWords
 pub mod RowFacts
+pub mod Steps
+pub mod Lengths
+pub mod Digits
+pub mod Lexing
+pub mod Entries
+pub mod Sections
+pub mod TextSound
+pub mod Same
+pub mod ReadBack
+pub mod Printable

@@ -3,9 +3,9 @@ use Rattle.std.proofs.Common.{◌≡◌, ℕ, zero, suc, ◌+◌, ◌-◌, ◌<�
 use Rattle.std.specs.Prelude.{nat_eq, ◌&&◌, ◌==◌, if◌then◌else◌}
 use Rattle.std.proofs.lemmas.List.{length-take, take_min}
 use Rattle.std.specs.List.{flat_map, starts_with, AllByRecursion, prefix_len, take_while, list_all, after_first, position_or_len}
-use Rattle.sndlib_lex.specs.Tokens.{Lexeme, lexemes, is_blank, is_word_byte, is_in_comment}
-use Rattle.sndlib_lex.specs.declared.token.TokenKind.{TokenKind}
-use Rattle.sndlib_lex.specs.declared.token.TokenKind.TheVariants.{LeftParen, RightParen, Word as WordKind}
+use Rattle.sndlib_grammar.specs.Tokens.{Lexeme, lexemes, is_blank, is_word_byte, is_in_comment}
+use Rattle.sndlib_grammar.specs.declared.token.TokenKind.{TokenKind}
+use Rattle.sndlib_grammar.specs.declared.token.TokenKind.TheVariants.{LeftParen, RightParen, Word as WordKind}
 use Rattle.sndlib_grammar.specs.declared.refusal.NetKind.TheVariants as netkinds
 use Rattle.sndlib_grammar.specs.declared.mode.Part.TheVariants as parts
 use Rattle.sndlib_grammar.specs.declared.mode.Mode.TheVariants.{Between}

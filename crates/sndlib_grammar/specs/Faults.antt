@@ -8,7 +8,7 @@ use Rattle.sndlib_grammar.specs.declared.refusal.NetKind.TheVariants as netkinds
 use Rattle.sndlib_grammar.specs.declared.refusal.NetRefusal.{NetRefusal}
 use Rattle.mcf_limits.specs.declared.TheConstants.{MAX_DEMANDS, MAX_LINKS, MAX_NODES}
 use Rattle.sndlib_grammar.specs.Grammar.{Word, Module, LinkEntry, DemandEntry, Entries}
-use Rattle.sndlib_number.specs.Number.{is_number}
+use Rattle.sndlib_grammar.specs.Number.{is_number}
 
 abbrev pub node_ids : Entries → List Word
 node_ids r = map (λ n. n.id) r.nodes

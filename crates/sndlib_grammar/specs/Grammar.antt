@@ -1,8 +1,8 @@
 -- The grammar of network texts: tokens, the entries that they spell, and skipped sections.
 use Rattle.std.specs.Prelude.{◌≡◌, ◌≢◌, ℕ, ◌+◌, List, [], ◌∷◌, ◌++◌, length, map, Option, Some, None, codes}
 use Rattle.std.specs.List.{flat_map, AllByRecursion}
-use Rattle.sndlib_lex.specs.Tokens.{Lexeme}
-use Rattle.sndlib_lex.specs.declared.token.TokenKind.TheVariants as kinds
+use Rattle.sndlib_grammar.specs.Tokens.{Lexeme}
+use Rattle.sndlib_grammar.specs.declared.token.TokenKind.TheVariants as kinds
 
 -- a word, and the line on which it stands
 pub record Word : Type 0 where

@@ -8,3 +8,8 @@ pub mod Rows
 pub mod Words
 pub mod Slices
 pub mod Net
+pub mod Tokens
+pub mod Lexing
+pub mod Number
+pub mod Views
+pub mod Canonical

@@ -2,7 +2,7 @@
 use Rattle.std.specs.Prelude.{ℕ, zero, ◌+◌, List, [], ◌∷◌, ◌++◌, length, Option, Some, None, Result, Ok, Err, nat_lt, if◌then◌else◌, option_and_then}
 use Rattle.std.specs.Option.{option_map_or}
 use Rattle.mcf_limits.specs.declared.TheConstants.{MAX_WORD_BYTES}
-use Rattle.sndlib_lex.specs.Tokens.{Lexeme}
+use Rattle.sndlib_grammar.specs.Tokens.{Lexeme}
 use Rattle.sndlib_grammar.specs.declared.mode.Part.TheVariants as parts
 use Rattle.sndlib_grammar.specs.declared.mode.Mode.{Mode}
 use Rattle.sndlib_grammar.specs.declared.mode.Mode.TheVariants.{Between, Skipping, Nodes, Node, Place, Links, LinkSource, LinkTarget, Installed, InstalledCost, RoutingCost, SetupCost, Modules, Capacity, CapacityCost, Demands, DemandSource, DemandTarget, Unit as Units, Value, Longest}

@@ -2,7 +2,7 @@
 use Rattle.std.specs.Prelude.{◌≡◌, ℕ, ◌<◌, ◌≤◌, List, [], ◌∷◌, ◌++◌, length, map, Result, Ok, Err, ◌⊎◌}
 use Rattle.std.specs.List.{AllByRecursion}
 use Rattle.mcf_limits.specs.declared.TheConstants.{MAX_WORD_BYTES}
-use Rattle.sndlib_lex.specs.Tokens.{Lexeme}
+use Rattle.sndlib_grammar.specs.Tokens.{Lexeme}
 use Rattle.sndlib_grammar.specs.declared.refusal.NetKind.{NetKind}
 use Rattle.sndlib_grammar.specs.declared.refusal.NetKind.TheVariants as netkinds
 use Rattle.sndlib_grammar.specs.declared.refusal.NetRefusal.{NetRefusal}

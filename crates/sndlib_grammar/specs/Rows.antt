@@ -4,8 +4,8 @@ use Rattle.std.specs.List.{AllPairs, flat_map, list_all, position_or_len}
 use Rattle.std.specs.Option.{option_map}
 use Rattle.std.specs.Str.{bytes_eq}
 use Rattle.mcf_limits.specs.declared.TheConstants.{MAX_DEMANDS, MAX_LINKS, MAX_NODES, MAX_WORD_BYTES}
-use Rattle.sndlib_lex.specs.Tokens.{is_word_byte}
-use Rattle.sndlib_number.specs.Number.{is_number}
+use Rattle.sndlib_grammar.specs.Tokens.{is_word_byte}
+use Rattle.sndlib_grammar.specs.Number.{is_number}
 use Rattle.sndlib_grammar.specs.Grammar.{Word, Module, NodeEntry, LinkEntry, DemandEntry, Entries}
 use Rattle.sndlib_grammar.specs.Faults.{node_ids, texts}
 

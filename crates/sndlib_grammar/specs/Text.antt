@@ -1,7 +1,7 @@
 -- The tokens of a network text, and what is read of them.
 use Rattle.std.specs.Prelude.{◌≡◌, ℕ, ◌+◌, ◌==◌, List, count_by, codes, nat_eq, Result, Err, if◌then◌else◌, MatchBool}
 use Rattle.std.specs.List.{after_first, position_or_len, starts_with}
-use Rattle.sndlib_lex.specs.Tokens.{Lexeme, lexemes}
+use Rattle.sndlib_grammar.specs.Tokens.{Lexeme, lexemes}
 use Rattle.sndlib_grammar.specs.declared.refusal.NetKind.TheVariants as netkinds
 use Rattle.sndlib_grammar.specs.declared.refusal.NetRefusal.{NetRefusal}
 use Rattle.sndlib_grammar.specs.declared.mode.Part.TheVariants as parts

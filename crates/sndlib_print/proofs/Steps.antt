@@ -5,12 +5,12 @@ use Rattle.std.specs.Prelude.{codes}
 use Rattle.std.proofs.lemmas.List.{append-nil, map-append, take-append-drop, take_more}
 use Rattle.text_lines.specs.Lines.{Line, spelled, text_of}
 use Rattle.sndlib_grammar.specs.Rows.{NetRows, names_of_nodes}
-use Rattle.sndlib_text.specs.Canonical.{canonical_text, closing_line, first_line, opening_line, section, node_line, link_line, demand_line}
-use Rattle.line_writer.specs.Spelling.{behind}
+use Rattle.sndlib_grammar.specs.Canonical.{canonical_text, closing_line, first_line, opening_line, section, node_line, link_line, demand_line}
+use Rattle.text_lines.specs.Spelling.{behind}
 use Rattle.mcf_base.specs.Sink.{SinkView}
-use Rattle.line_writer.specs.Writing.{Puts, ended, failed}
-use Rattle.line_writer.proofs.Joining.{joined_is}
-use Rattle.line_writer.proofs.Putting.{puts_then, puts_stop}
+use Rattle.text_lines.specs.Writing.{Puts, ended, failed}
+use Rattle.text_lines.proofs.Joining.{joined_is}
+use Rattle.text_lines.proofs.Putting.{puts_then, puts_stop}
 
 pub first_stops : {E : Type 0} (a b : SinkView) (u v : List ℕ) (e : E) (p q r : List ℕ) → Puts a b u v (failed (Unit {0}) E e) p → Puts a b u v (failed (Unit {0}) E e) (p ++ (q ++ r))
 first_stops {E} a b u v e p q r h = puts_stop a b u v v e p (q ++ r) h

@@ -2,14 +2,14 @@
 
 ghost use Rattle.std.specs.Prelude.{◌≡◌, ◌<◌, ◌∷◌, ◌++◌, [], length, map};
 ghost use Rattle.text_lines.specs.Lines.{spelled};
-ghost use Rattle.line_writer.specs.Writing.{Puts};
-ghost use Rattle.line_writer.specs.Spelling.{behind};
+ghost use Rattle.text_lines.specs.Writing.{Puts};
+ghost use Rattle.text_lines.specs.Spelling.{behind};
 ghost use Rattle.sndlib_grammar.specs.Rows.{node_at, link_at, demand_at, names_of_nodes, AreNetRows};
-ghost use Rattle.sndlib_text.specs.Canonical.{node_line, link_line, demand_line};
+ghost use Rattle.sndlib_grammar.specs.Canonical.{node_line, link_line, demand_line};
 
-use line_writer::Buffer;
 use mcf_base::{Sink, WriteFault};
 use sndlib_read::RawNet;
+use text_lines::Buffer;
 
 // Puts the words, a space before each, and a line feed.
 fn put_last_words<K: Sink>(

@@ -3,14 +3,14 @@
 ghost use Rattle.std.specs.Prelude.{◌≡◌, ◌++◌, [], length, map, OnOk, OnErr};
 ghost use Rattle.text_lines.specs.Lines.{text_of};
 ghost use Rattle.mcf_base.specs.Sink.{Wrote};
-ghost use Rattle.line_writer.specs.Writing.{Puts};
+ghost use Rattle.text_lines.specs.Writing.{Puts};
 ghost use Rattle.sndlib_grammar.specs.Rows.{names_of_nodes};
-ghost use Rattle.sndlib_text.specs.Canonical.{node_line, link_line, demand_line, canonical_text};
+ghost use Rattle.sndlib_grammar.specs.Canonical.{node_line, link_line, demand_line, canonical_text};
 
 use crate::entries::{put_demand, put_link, put_node};
-use line_writer::Buffer;
 use mcf_base::{Sink, WriteFault};
 use sndlib_read::RawNet;
+use text_lines::Buffer;
 
 /// The first line, and the line that opens the nodes.
 const NODES: &[u8] = b"?SNDlib native format; type: network; version: 1.0\nNODES (\n";

@@ -2,7 +2,7 @@
 use Rattle.std.proofs.Common.{◌+◌, ◌≤◌, List, ℕ, length, drop, arith, length-drop}
 use Rattle.std.specs.Prelude.{◌==◌}
 use Rattle.std.specs.List.{position_or_len}
-use Rattle.sndlib_lex.proofs.Lengths.{length-lexemes}
+use Rattle.sndlib_grammar.proofs.Lengths.{length-lexemes}
 use Rattle.sndlib_grammar.specs.Text.{tokens_of}
 
 pub length-tokens_of : (text : List ℕ) → length (tokens_of text) ≤ length text

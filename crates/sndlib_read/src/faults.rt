@@ -7,7 +7,7 @@ ghost use Rattle.sndlib_read.specs.Views.{word_view, node_view, link_view, deman
 
 use crate::kept::{DemandWords, Kept, LinkWords, NodeWords, Word};
 use mcf_limits::{MAX_DEMANDS, MAX_LINKS, MAX_NODES};
-use sndlib_number::is_number;
+use sndlib_grammar::is_number;
 
 const UNLIMITED: &[u8] = b"UNLIMITED";
 

@@ -19,8 +19,7 @@ use crate::net::RawNet;
 use crate::refusal::ReadNetEnd;
 use crate::text::read_words;
 use mcf_limits::MAX_NET_BYTES;
-use sndlib_grammar::{NetKind, NetRefusal};
-use sndlib_lex::end_line;
+use sndlib_grammar::{NetKind, NetRefusal, end_line};
 use std::alloc::Global;
 
 fn refusal(kind: NetKind, line: u32) -> ReadNetEnd

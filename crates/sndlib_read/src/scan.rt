@@ -1,7 +1,7 @@
 //! The rows of the tokens, read one by one.
 
 ghost use Rattle.std.specs.Prelude.{◌≡◌, ◌+◌, ◌<◌, ◌≤◌, ◌^◌, ◌-◌, length, IfOk, OnOk};
-ghost use Rattle.sndlib_lex.specs.Tokens.{lexeme};
+ghost use Rattle.sndlib_grammar.specs.Tokens.{lexeme};
 ghost use Rattle.sndlib_grammar.specs.declared.mode.Part.TheVariants as parts;
 ghost use Rattle.sndlib_grammar.specs.declared.mode.Mode.TheVariants.{Between};
 ghost use Rattle.sndlib_grammar.specs.Modes.{depth_of};
@@ -12,8 +12,9 @@ ghost use Rattle.sndlib_read.specs.Views.{sofar_view};
 use crate::kept::{Kept, Word};
 use crate::refusal::ReadNetEnd;
 use crate::sofar::Sofar;
-use sndlib_grammar::{Mode, NetKind, NetRefusal, Part, closed, named, opened};
-use sndlib_lex::{Token, TokenKind, Tokens};
+use sndlib_grammar::{
+    Mode, NetKind, NetRefusal, Part, Token, TokenKind, Tokens, closed, named, opened,
+};
 use std::alloc::Global;
 
 fn refused(kind: NetKind, line: u32) -> ReadNetEnd

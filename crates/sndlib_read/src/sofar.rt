@@ -10,8 +10,7 @@ ghost use Rattle.sndlib_read.specs.Views.{sofar_view, draft_view, demand_view, l
 
 use crate::kept::{DemandWords, Kept, LinkWords, NodeWords, Word};
 use mcf_limits::{MAX_DEMANDS, MAX_LINKS, MAX_NODES};
-use sndlib_grammar::Mode;
-use sndlib_number::is_number;
+use sndlib_grammar::{Mode, is_number};
 use std::alloc::{AllocError, Global};
 use std::mem;
 

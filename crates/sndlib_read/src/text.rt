@@ -9,8 +9,7 @@ use crate::kept::Kept;
 use crate::refusal::ReadNetEnd;
 use crate::scan::scan_tokens;
 use mcf_limits::MAX_NET_BYTES;
-use sndlib_grammar::{NetKind, NetRefusal};
-use sndlib_lex::{Tokens, end_line};
+use sndlib_grammar::{NetKind, NetRefusal, Tokens, end_line};
 use std::alloc::Global;
 
 const HEADER: &[u8] = b"?SNDlib native format; type: network;";

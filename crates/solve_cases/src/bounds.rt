@@ -2,10 +2,10 @@
 
 ghost use Rattle.std.specs.Prelude.{◌≡◌, ◌<◌, ◌≤◌, IfOk, All, length};
 
+use dijkstra_paths::Graph;
 use dual_bound::{bound, bound_in, cut_bound};
 use fixed_exp::{LengthTable, Powers};
 use flow_model::Setting;
-use net_graph::Graph;
 use std::test::Fail;
 use walk_rows::{cell, demand, network};
 

@@ -18,7 +18,7 @@ use Rattle.flow_paths.specs.DualRows.{DualRows}
 use Rattle.flow_paths.specs.PathRows.{row_at, no_row}
 use Rattle.flow_paths.specs.Evaluation.{fill, loads_of}
 use Rattle.flow_paths.specs.Certificate.{PathsAreWalks, PhasesAreCarried, LoadsFit, ScaleDivides, IsValidRouting, IsRoutingOf, IsRowOf, lower_of, upper_of}
-use Rattle.path_rows.proofs.NoneFuller.{IsFullest, fullest}
+use Rattle.flow_paths.proofs.NoneFuller.{IsFullest, fullest}
 use Rattle.flow_core.specs.Phase.{Routed, amounts_along}
 use Rattle.solver_run.specs.declared.options.SolveOptions.{SolveOptions}
 use Rattle.solver_run.specs.Options.{AreOptions}

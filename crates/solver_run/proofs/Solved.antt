@@ -16,8 +16,8 @@ use Rattle.flow_paths.specs.declared.certificate.Proof.{Proof}
 use Rattle.flow_paths.specs.declared.certificate.Routing.{Routing}
 use Rattle.flow_paths.specs.Certificate.{FractionsArePrinted, IsValid, IsValidRouting, IsRoutingOf, IsRowOf, IsCertified, lengths_in, lower_of, upper_of}
 use Rattle.flow_paths.specs.Evaluation.{fraction_le}
-use Rattle.path_rows.specs.Least.{IsFirstLeast}
-use Rattle.path_rows.proofs.Least.{least-first}
+use Rattle.flow_paths.specs.Least.{IsFirstLeast}
+use Rattle.flow_paths.proofs.Least.{least-first}
 use Rattle.dual_bound.specs.Bounds.{ShowsBound, cut_lengths}
 use Rattle.dual_bound.proofs.Distances.{cut-volume}
 use Rattle.cert_check.proofs.Sound.{valid_certifies}

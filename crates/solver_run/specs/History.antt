@@ -8,7 +8,7 @@ use Rattle.gap_fraction.specs.Fraction.{Fraction}
 use Rattle.flow_paths.specs.declared.certificate.Proof.{Proof}
 use Rattle.flow_paths.specs.PathRows.{row_at}
 use Rattle.flow_paths.specs.Evaluation.{fill, loads_of}
-use Rattle.path_rows.specs.RowOrder.{row_lt}
+use Rattle.flow_paths.specs.RowOrder.{row_lt}
 use Rattle.flow_core.specs.Phase.{Routed, amounts_along}
 use Rattle.solver_run.specs.declared.options.Entry.{Entry}
 use Rattle.solver_run.specs.declared.options.SolveOptions.{SolveOptions}

@@ -7,7 +7,7 @@ use Rattle.gap_fraction.specs.Fraction.{IsWithinGap}
 use Rattle.flow_paths.specs.declared.certificate.Proof.{Proof}
 use Rattle.flow_paths.specs.DualRows.{DualRows}
 use Rattle.flow_paths.specs.Certificate.{upper_of}
-use Rattle.path_rows.specs.Least.{least_by}
+use Rattle.flow_paths.specs.Least.{least_by}
 use Rattle.flow_core.specs.Phase.{Routed, IsPhase}
 use Rattle.solver_run.specs.declared.options.SolveOptions.{SolveOptions}
 use Rattle.dual_bound.specs.Bounds.{IsBoundOf, IsCutDual}

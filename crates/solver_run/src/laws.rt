@@ -9,7 +9,7 @@ ghost use Rattle.fixed_exp.specs.Far.{EmptyAreFar};
 ghost use Rattle.flow_paths.specs.DualRows.{DualRows};
 ghost use Rattle.flow_paths.specs.Certificate.{FractionsArePrinted, IsCertified, upper_of};
 ghost use Rattle.flow_paths.specs.Evaluation.{loads_of};
-ghost use Rattle.path_rows.specs.Least.{IsFirstLeast};
+ghost use Rattle.flow_paths.specs.Least.{IsFirstLeast};
 ghost use Rattle.flow_core.specs.Phase.{Routed, IsPhase};
 ghost use Rattle.dual_bound.specs.Bounds.{IsBoundOf, IsCutDual, ShowsBound, cut_lengths};
 ghost use Rattle.solver_run.specs.declared.options.SolveOptions.{SolveOptions};

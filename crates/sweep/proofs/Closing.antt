@@ -4,7 +4,7 @@ use Rattle.std.proofs.lemmas.Bool.Decides.{nat_tests}
 use Rattle.flow_model.specs.Network.{Network}
 use Rattle.flow_model.specs.Routing.{Row, IsFeasible, scaled}
 use Rattle.flow_paths.specs.Evaluation.{Evaluation, edited, fill, loads_of}
-use Rattle.cell_dir.specs.Closed.{caps_of, with_link}
+use Rattle.unit_scale.specs.Closed.{caps_of, with_link}
 use Rattle.whatif.proofs.Sound.{bound_under, feasible_under}
 use Rattle.sweep.specs.Sweep.{sweep_evaluation}
 use Rattle.sweep.specs.Laws.{ClosedIsBounded, ClosedIsFeasible}

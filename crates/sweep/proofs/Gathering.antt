@@ -4,7 +4,7 @@ use Rattle.std.proofs.lemmas.Bool.{cases_eq}
 use Rattle.std.proofs.lemmas.List.{length-map}
 use Rattle.std.specs.List.{range_with_len}
 use Rattle.flow_paths.specs.Evaluation.{Evaluation}
-use Rattle.net_options.specs.declared.modes.LinkMode.{LinkMode}
+use Rattle.unit_scale.specs.declared.modes.LinkMode.{LinkMode}
 use Rattle.whatif.specs.declared.bounds.Bounds.{Bounds}
 use Rattle.whatif.specs.Planned.{Planned, evaluation_of}
 use Rattle.sweep.specs.Sweep.{sweep_evaluation, sweep_evaluations}

@@ -1,11 +1,11 @@
 -- The cells of a closed link get their capacities back.
 use Rattle.std.proofs.Common.{◌≡◌, ◌≢◌, ℕ, ◌+◌, ◌*◌, ◌/◌, ◌<◌, ◌≤◌, List, length, get_or, set, ext_get_or, length-set, get_or-set_same, get_or-set_other, ap, sym, ◌∙◌, arith, inl, inr}
 use Rattle.std.proofs.lemmas.Bool.{cases_eq}
-use Rattle.net_options.specs.declared.modes.LinkMode.{LinkMode}
-use Rattle.net_options.specs.declared.modes.LinkMode.TheVariants.{Directed, Undirected, Bidirected}
-use Rattle.cell_dir.specs.Names.{cells_of, name_of}
-use Rattle.cell_dir.specs.Closed.{with_link}
-use Rattle.cell_dir.proofs.Links.{set_of_other, with_link_length}
+use Rattle.unit_scale.specs.declared.modes.LinkMode.{LinkMode}
+use Rattle.unit_scale.specs.declared.modes.LinkMode.TheVariants.{Directed, Undirected, Bidirected}
+use Rattle.unit_scale.specs.Names.{cells_of, name_of}
+use Rattle.unit_scale.specs.Closed.{with_link}
+use Rattle.unit_scale.proofs.Links.{set_of_other, with_link_length}
 use Rattle.whatif.specs.Planned.{Planned, with_cap}
 
 -- ---- the cells of a link

@@ -4,7 +4,7 @@ use Rattle.std.specs.Prelude.{zip}
 use Rattle.std.proofs.lemmas.List.{take_all, take_more, take-append-drop}
 use Rattle.std.proofs.lemmas.List.Concat.{flat_map-append}
 use Rattle.text_lines.specs.Lines.{Line, text_of, spelled}
-use Rattle.line_writer.specs.Writing.{ended, failed}
+use Rattle.text_lines.specs.Writing.{ended, failed}
 use Rattle.mcf_base.specs.Sink.{SinkView, Wrote}
 use Rattle.mcf_base.proofs.Known.{wrote_then, wrote_stops}
 use Rattle.whatif.specs.declared.bounds.Bounds.{Bounds}

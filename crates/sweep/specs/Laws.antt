@@ -5,8 +5,8 @@ use Rattle.flow_model.specs.Routing.{Row, IsFeasible, scaled}
 use Rattle.flow_paths.specs.declared.certificate.Proof.{Proof}
 use Rattle.flow_paths.specs.Certificate.{IsValid, upper_of}
 use Rattle.flow_paths.specs.Evaluation.{Evaluation, fill, loads_of, lower_under}
-use Rattle.net_options.specs.declared.modes.LinkMode.{LinkMode}
-use Rattle.cell_dir.specs.Closed.{caps_of, closed}
+use Rattle.unit_scale.specs.declared.modes.LinkMode.{LinkMode}
+use Rattle.unit_scale.specs.Closed.{caps_of, closed}
 use Rattle.sweep.specs.Sweep.{sweep_evaluation}
 
 -- what a certificate is worth on a network

@@ -1,8 +1,8 @@
 -- A place for what a plan is worth without a link, on the way to all of them.
 use Rattle.std.specs.Prelude.{◌≡◌, ℕ, ◌+◌, ◌<◌, ◌≤◌, length, Option, None, IfSome}
 use Rattle.mcf_limits.specs.declared.TheConstants.{MAX_LINKS}
-use Rattle.net_options.specs.declared.modes.LinkMode.{LinkMode}
-use Rattle.cell_dir.specs.Names.{cells_of}
+use Rattle.unit_scale.specs.declared.modes.LinkMode.{LinkMode}
+use Rattle.unit_scale.specs.Names.{cells_of}
 use Rattle.whatif.specs.declared.bounds.Bounds.{Bounds}
 use Rattle.whatif.specs.Planned.{Planned, evaluation_of}
 use Rattle.sweep.specs.Sweep.{sweep_evaluation}

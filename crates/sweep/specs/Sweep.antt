@@ -4,8 +4,8 @@ use Rattle.std.specs.List.{range_with_len}
 use Rattle.flow_model.specs.Network.{Network}
 use Rattle.flow_paths.specs.declared.certificate.Proof.{Proof}
 use Rattle.flow_paths.specs.Evaluation.{Evaluation, evaluation}
-use Rattle.net_options.specs.declared.modes.LinkMode.{LinkMode}
-use Rattle.cell_dir.specs.Closed.{with_link}
+use Rattle.unit_scale.specs.declared.modes.LinkMode.{LinkMode}
+use Rattle.unit_scale.specs.Closed.{with_link}
 
 -- what the certificate is worth under these capacities with the link's cells at 0
 abbrev pub sweep_evaluation : LinkMode → Network → Proof → List ℕ → ℕ → Evaluation

@@ -6,8 +6,8 @@ ghost use Rattle.text_lines.specs.Lines.{spelled};
 ghost use Rattle.whatif.specs.Planned.{evaluation_of};
 ghost use Rattle.sweep.specs.Lines.{sweep_line, sweep_text};
 
-use line_writer::{Word, write_line};
 use mcf_base::{Sink, WriteFault};
+use text_lines::{Word, write_line};
 use whatif::{Bounds, value_down, value_up};
 
 // Writes the line of a link.

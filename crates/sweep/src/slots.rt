@@ -1,17 +1,16 @@
 //! A slot for each link, filled by threads.
 
 ghost use Rattle.std.specs.Prelude.{◌≡◌, ℕ, ◌+◌, ◌<◌, ◌≤◌, None, Some, IfOk, length, map, slice_index_or};
-ghost use Rattle.cell_dir.specs.Names.{cells_of};
+ghost use Rattle.unit_scale.specs.Names.{cells_of};
 ghost use Rattle.whatif.specs.Planned.{evaluation_of};
 ghost use Rattle.sweep.specs.Sweep.{sweep_evaluation};
 ghost use Rattle.sweep.specs.Slots.{IsBlank, IsSwept};
 
-use cell_dir::cells_of;
 use mcf_limits::{MAX_LINKS, MAX_WORKERS};
-use net_options::LinkMode;
 use std::alloc::{AllocError, Global};
 use std::thread;
 use std::thread::Threads;
+use unit_scale::{LinkMode, cells_of};
 use whatif::{Bounds, Plan};
 
 /// A thread is started for no fewer links than these: it takes a copy of the plan first, which costs as much as they do.

@@ -1,15 +1,15 @@
 //! What a plan is worth with each single link closed.
 
 ghost use Rattle.std.specs.Prelude.{◌≡◌, ◌≤◌, IfOk, length, map};
-ghost use Rattle.cell_dir.specs.Names.{cells_of};
+ghost use Rattle.unit_scale.specs.Names.{cells_of};
 ghost use Rattle.whatif.specs.Planned.{evaluation_of};
 ghost use Rattle.sweep.specs.Sweep.{sweep_evaluations};
 
 use crate::slots::{fill_all, gathered};
 use mcf_limits::MAX_LINKS;
-use net_options::LinkMode;
 use std::alloc::{AllocError, Global};
 use std::thread::Threads;
+use unit_scale::LinkMode;
 use whatif::{Bounds, Plan};
 
 /// For each of so many links, in their order, both fractions of the plan with that link's cells at capacity 0 and every other

@@ -3,9 +3,11 @@
 use crate::files::{net_text, tell_refusal};
 use anyhow::Result;
 use mcf_limits::MAX_DECIMALS;
-use net_options::{LinkMode, ModuleMode, NetOptions};
 use sndlib_read::{RawNet, ReadNetEnd, read_net};
-use unit_scale::{Decimal, ScaleEnd, Scaled, UnitFault, read_decimal, scale, units};
+use unit_scale::{
+    Decimal, LinkMode, ModuleMode, NetOptions, ScaleEnd, Scaled, UnitFault, read_decimal, scale,
+    units,
+};
 
 /// A word in millionths.
 pub fn tell_number(rt: &HostRuntime, word: &str) -> Result<()> {

@@ -11,7 +11,7 @@ use Rattle.unit_scale.specs.Scaling.{first_line, is_large_link, cells_of_link, l
 use Rattle.unit_scale.specs.Sizes.{capacity, in_units}
 use Rattle.unit_scale.specs.Seen.{Seen, seen, seen_size, seen_link, link_over}
 use Rattle.unit_scale.specs.Stages.{Faulted, AreLinkSizes}
-use Rattle.net_options.specs.declared.options.NetOptions.{NetOptions}
+use Rattle.unit_scale.specs.declared.options.NetOptions.{NetOptions}
 use Rattle.unit_scale.specs.declared.links.LinkSize.{LinkSize}
 use Rattle.unit_scale.specs.declared.refusal.ScaleEnd.{ScaleEnd}
 use Rattle.unit_scale.specs.declared.refusal.ScaleEnd.TheVariants.{Refused}

@@ -12,8 +12,8 @@ use Rattle.flow_model.specs.Network.{Network}
 use Rattle.sndlib_grammar.specs.Rows.{NetLink, NetDemand, NetRows}
 use Rattle.sndlib_grammar.specs.declared.refusal.NetRefusal.{NetRefusal}
 use Rattle.sndlib_grammar.specs.declared.refusal.NetKind.TheVariants.{TooLarge, NoDemand}
-use Rattle.net_options.specs.declared.options.NetOptions.{NetOptions}
-use Rattle.net_options.specs.declared.modes.ModuleMode.{ModuleMode}
+use Rattle.unit_scale.specs.declared.options.NetOptions.{NetOptions}
+use Rattle.unit_scale.specs.declared.modes.ModuleMode.{ModuleMode}
 use Rattle.unit_scale.specs.declared.links.LinkSize.{LinkSize}
 use Rattle.unit_scale.specs.declared.demands.DemandSize.{DemandSize}
 use Rattle.unit_scale.specs.Sizes.{serves, AreDecimals, sizes, capacity, counted, amount, is_left_out, is_fine_link, is_fine_demand}

@@ -1,6 +1,6 @@
 -- Words and their values, by computing.
 use Rattle.std.specs.Prelude.{◌≡◌, ℕ, codes, Some, None, Option, Ok, Err, refl, List, []}
-use Rattle.sndlib_number.specs.Number.{number_of}
+use Rattle.sndlib_grammar.specs.Number.{number_of}
 use Rattle.unit_scale.specs.Units.{decimal_of, units_read}
 use Rattle.unit_scale.specs.declared.decimal.Decimal.{Decimal}
 use Rattle.unit_scale.specs.declared.decimal.Decimal.TheVariants.{Millionths, Fine, Huge}

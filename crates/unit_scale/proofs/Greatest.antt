@@ -10,15 +10,15 @@ use Rattle.std.proofs.lemmas.Bool.Decides.{nat_tests}
 use Rattle.std.proofs.lemmas.List.{take_more, take-append-drop}
 use Rattle.std.proofs.lemmas.Str.Parse.{digit_at}
 use Rattle.std.proofs.lemmas.Int.Digits.{digits_value-lt}
-use Rattle.sndlib_number.specs.declared.parse.NumberParts.{NumberParts}
-use Rattle.sndlib_number.specs.Number.{Number, number_of}
-use Rattle.sndlib_number.specs.Views.{number_view}
+use Rattle.sndlib_grammar.specs.declared.parse.NumberParts.{NumberParts}
+use Rattle.sndlib_grammar.specs.Number.{Number, number_of}
+use Rattle.sndlib_grammar.specs.Views.{number_view}
 use Rattle.unit_scale.specs.declared.compare.LongNumber.{LongNumber}
 use Rattle.unit_scale.specs.Short.{short}
 use Rattle.unit_scale.specs.Units.{digits, quotient, units_of}
 use Rattle.unit_scale.specs.Sizes.{is_fine, is_over, value, millionths, millionths_of}
 use Rattle.unit_scale.proofs.Adding.{over-short}
-use Rattle.sndlib_number.specs.Number.{AreDigits}
+use Rattle.sndlib_grammar.specs.Number.{AreDigits}
 use Rattle.unit_scale.specs.Largest.{amount_of, best_amount, IsFit, IsBest, IsLong, AreLongDigits, long_digit, written}
 use Rattle.unit_scale.proofs.Quotients.{pow-ten}
 use Rattle.unit_scale.proofs.UnitLaws.{units_raise, units_cut}

@@ -15,3 +15,8 @@ pub mod Greatest
 pub mod Modules
 pub mod Keeping
 pub mod WholeScaling
+pub mod Parts
+pub mod Cells
+pub mod Links
+pub mod Named
+mod CellExamples

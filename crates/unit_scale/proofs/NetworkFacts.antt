@@ -14,14 +14,14 @@ use Rattle.flow_model.specs.declared.net.Commodity.{Commodity}
 use Rattle.flow_model.specs.Network.{IsCell, IsCommodity, IsNetwork}
 use Rattle.sndlib_grammar.specs.Rows.{NetLink, NetDemand, NetRows, AreNetRows, IsNetLink, IsNetDemand}
 use Rattle.unit_scale.specs.ScaledFacts.{AreKeptRows}
-use Rattle.net_options.specs.declared.options.NetOptions.{NetOptions}
+use Rattle.unit_scale.specs.declared.options.NetOptions.{NetOptions}
 use Rattle.unit_scale.specs.Sizes.{serves, AreDecimals, sizes, capacity, counted, amount, in_units, is_left_out}
 use Rattle.unit_scale.specs.Scaling.{first_line, first_large, is_large_link, is_large_demand, counted_units, kept_from, cell_going, link_cells, capacity_in, cells_of_link, commodity_of, net_of}
-use Rattle.net_options.specs.declared.modes.LinkMode.{LinkMode}
-use Rattle.net_options.specs.declared.modes.LinkMode.TheVariants.{Directed, Undirected, Bidirected}
-use Rattle.net_options.specs.declared.modes.Sign.{Sign}
-use Rattle.net_options.specs.declared.modes.Sign.TheVariants.{Along, Against, Both}
-use Rattle.net_options.specs.Modes.{signs}
+use Rattle.unit_scale.specs.declared.modes.LinkMode.{LinkMode}
+use Rattle.unit_scale.specs.declared.modes.LinkMode.TheVariants.{Directed, Undirected, Bidirected}
+use Rattle.unit_scale.specs.declared.modes.Sign.{Sign}
+use Rattle.unit_scale.specs.declared.modes.Sign.TheVariants.{Along, Against, Both}
+use Rattle.unit_scale.specs.Modes.{signs}
 
 bool_is : (b : Bool) → (b ≡ true) ⊎ (b ≡ false)
 bool_is true = inl refl

@@ -7,7 +7,7 @@ use Rattle.unit_scale.specs.Scaling.{first_line}
 use Rattle.unit_scale.specs.Sizes.{is_fine_link, is_fine_demand}
 use Rattle.unit_scale.specs.Seen.{seen_size, seen_link, seen_amount, seen_demand}
 use Rattle.unit_scale.specs.Stages.{Faulted, AreLinkSizes, AreDemandSizes}
-use Rattle.net_options.specs.declared.modes.ModuleMode.{ModuleMode}
+use Rattle.unit_scale.specs.declared.modes.ModuleMode.{ModuleMode}
 use Rattle.unit_scale.specs.declared.links.LinkSize.{LinkSize}
 use Rattle.unit_scale.specs.declared.demands.DemandSize.{DemandSize}
 use Rattle.unit_scale.specs.declared.refusal.ScaleEnd.{ScaleEnd}

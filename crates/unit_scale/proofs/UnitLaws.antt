@@ -1,7 +1,7 @@
 -- Units of a number, by its exponent.
 use Rattle.std.proofs.Common.{◌≡◌, ℕ, ◌+◌, ◌*◌, ◌^◌, ◌-◌, ◌≤◌, ◌<◌, Some, arith, ◌∙◌, ap}
 use Rattle.std.proofs.lemmas.Nat.{pow-add}
-use Rattle.sndlib_number.specs.Number.{Number}
+use Rattle.sndlib_grammar.specs.Number.{Number}
 use Rattle.unit_scale.specs.Units.{digits, places, quotient, units_of}
 use Rattle.unit_scale.proofs.Quotients.{quotient_whole, quotient-mul, pow-ten}
 

@@ -3,9 +3,9 @@ use Rattle.std.specs.Prelude.{◌≡◌, ℕ, ◌+◌, ◌-◌, ◌*◌, ◌/◌
 use Rattle.std.specs.Option.{unwrap_or, is_some}
 use Rattle.std.specs.Str.Parse.{AllDigits, digits_value}
 use Rattle.mcf_limits.specs.declared.TheConstants.{MAX_DECIMALS}
-use Rattle.sndlib_number.specs.declared.parse.NumberParts.{NumberParts}
-use Rattle.sndlib_number.specs.Number.{Number, AreDigits}
-use Rattle.sndlib_number.specs.Views.{number_view}
+use Rattle.sndlib_grammar.specs.declared.parse.NumberParts.{NumberParts}
+use Rattle.sndlib_grammar.specs.Number.{Number, AreDigits}
+use Rattle.sndlib_grammar.specs.Views.{number_view}
 use Rattle.unit_scale.specs.Short.{short}
 use Rattle.unit_scale.specs.Units.{units_of}
 use Rattle.unit_scale.specs.declared.compare.LongNumber.{LongNumber}

@@ -7,3 +7,7 @@ pub mod Seen
 pub mod ScaledFacts
 pub mod Largest
 pub mod Stages
+pub mod Modes
+pub mod Names
+pub mod Closed
+pub mod Laws

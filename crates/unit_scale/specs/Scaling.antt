@@ -6,19 +6,19 @@ use Rattle.flow_model.specs.declared.net.Cell.{Cell}
 use Rattle.flow_model.specs.declared.net.Commodity.{Commodity}
 use Rattle.flow_model.specs.Network.{Network}
 use Rattle.mcf_limits.specs.declared.TheConstants.{MAX_TOTAL}
-use Rattle.sndlib_number.specs.Number.{number_of}
+use Rattle.sndlib_grammar.specs.Number.{number_of}
 use Rattle.sndlib_grammar.specs.Rows.{NetLink, NetDemand, NetRows}
 use Rattle.sndlib_grammar.specs.declared.refusal.NetRefusal.{NetRefusal}
 use Rattle.sndlib_grammar.specs.declared.refusal.NetKind.{NetKind}
 use Rattle.sndlib_grammar.specs.declared.refusal.NetKind.TheVariants.{TooFine, TooLarge, NoDemand}
 use Rattle.unit_scale.specs.Units.{most}
 use Rattle.unit_scale.specs.Sizes.{AreDecimals, decimals_of, sizes, in_units, capacity, amount, looked_at, is_over, is_fine_link, is_fine_demand, is_left_out}
-use Rattle.net_options.specs.declared.options.NetOptions.{NetOptions}
-use Rattle.net_options.specs.declared.modes.ModuleMode.{ModuleMode}
-use Rattle.net_options.specs.declared.modes.LinkMode.{LinkMode}
-use Rattle.net_options.specs.declared.modes.Sign.{Sign}
-use Rattle.net_options.specs.declared.modes.Sign.TheVariants.{Along, Against, Both}
-use Rattle.net_options.specs.Modes.{signs}
+use Rattle.unit_scale.specs.declared.options.NetOptions.{NetOptions}
+use Rattle.unit_scale.specs.declared.modes.ModuleMode.{ModuleMode}
+use Rattle.unit_scale.specs.declared.modes.LinkMode.{LinkMode}
+use Rattle.unit_scale.specs.declared.modes.Sign.{Sign}
+use Rattle.unit_scale.specs.declared.modes.Sign.TheVariants.{Along, Against, Both}
+use Rattle.unit_scale.specs.Modes.{signs}
 
 -- ---- the network, with this number of decimals
 

@@ -5,7 +5,7 @@ use Rattle.std.specs.List.{list_any}
 use Rattle.mcf_limits.specs.declared.TheConstants.{MAX_DECIMALS, MAX_TOTAL, MAX_UNITS}
 use Rattle.sndlib_grammar.specs.Rows.{NetLink, NetDemand}
 use Rattle.unit_scale.specs.Sizes.{capacity, amount, looked_at, is_over, is_left_out}
-use Rattle.net_options.specs.declared.modes.ModuleMode.{ModuleMode}
+use Rattle.unit_scale.specs.declared.modes.ModuleMode.{ModuleMode}
 use Rattle.unit_scale.specs.declared.links.LinkSize.{LinkSize}
 use Rattle.unit_scale.specs.declared.demands.DemandSize.{DemandSize}
 

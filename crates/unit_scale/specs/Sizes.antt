@@ -3,11 +3,11 @@ use Rattle.std.specs.Prelude.{◌≡◌, ℕ, ◌+◌, ◌-◌, ◌*◌, ◌/◌
 use Rattle.std.specs.Option.{unwrap_or, is_none}
 use Rattle.std.specs.List.{list_all, list_any, range_with_len}
 use Rattle.mcf_limits.specs.declared.TheConstants.{MAX_DECIMALS}
-use Rattle.sndlib_number.specs.Number.{Number, number_of}
+use Rattle.sndlib_grammar.specs.Number.{Number, number_of}
 use Rattle.sndlib_grammar.specs.Rows.{NetLink, NetDemand, NetRows}
 use Rattle.unit_scale.specs.Units.{units_of, most}
-use Rattle.net_options.specs.declared.modes.ModuleMode.{ModuleMode}
-use Rattle.net_options.specs.declared.modes.ModuleMode.TheVariants.{Ignore, Largest, Sum}
+use Rattle.unit_scale.specs.declared.modes.ModuleMode.{ModuleMode}
+use Rattle.unit_scale.specs.declared.modes.ModuleMode.TheVariants.{Ignore, Largest, Sum}
 
 abbrev pub millionths_of : Option Number → Option ℕ
 millionths_of None = None

@@ -7,7 +7,7 @@ use Rattle.sndlib_grammar.specs.declared.refusal.NetKind.{NetKind}
 use Rattle.unit_scale.specs.Sizes.{is_left_out}
 use Rattle.unit_scale.specs.Seen.{seen_size, seen_link, seen_amount, seen_demand}
 use Rattle.unit_scale.specs.Scaling.{refused, commodity_of, kept_from}
-use Rattle.net_options.specs.declared.modes.ModuleMode.{ModuleMode}
+use Rattle.unit_scale.specs.declared.modes.ModuleMode.{ModuleMode}
 use Rattle.unit_scale.specs.declared.links.LinkSize.{LinkSize}
 use Rattle.unit_scale.specs.declared.demands.DemandSize.{DemandSize}
 use Rattle.unit_scale.specs.declared.commodities.Kept.{Kept}

@@ -2,7 +2,7 @@
 use Rattle.std.specs.Prelude.{ℕ, ◌+◌, ◌*◌, ◌/◌, ◌%◌, ◌^◌, ◌++◌, length, Option, Some, None, Result, Ok, Err, ◌==◌, if◌then◌else◌, nat_le}
 use Rattle.std.specs.Str.Parse.{digits_value}
 use Rattle.mcf_limits.specs.declared.TheConstants.{MAX_DECIMALS, MAX_UNITS}
-use Rattle.sndlib_number.specs.Number.{Number}
+use Rattle.sndlib_grammar.specs.Number.{Number}
 use Rattle.unit_scale.specs.declared.decimal.Decimal.{Decimal}
 use Rattle.unit_scale.specs.declared.decimal.Decimal.TheVariants.{Millionths, Fine, Huge}
 use Rattle.unit_scale.specs.declared.decimal.UnitFault.{UnitFault}

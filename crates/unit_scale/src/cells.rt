@@ -4,15 +4,15 @@ ghost use Rattle.std.specs.Prelude.{◌≡◌, ◌≤◌, ◌++◌, [], ◌∷�
 ghost use Rattle.std.specs.List.{flat_map};
 ghost use Rattle.sndlib_grammar.specs.declared.refusal.NetKind.TheVariants.{TooLarge as TooLargeIs};
 ghost use Rattle.unit_scale.specs.Scaling.{first_line, is_large_link, cells_of_link, link_cells, cell_going};
-ghost use Rattle.net_options.specs.declared.modes.LinkMode.TheVariants.{Bidirected as BidirectedIs};
+ghost use Rattle.unit_scale.specs.declared.modes.LinkMode.TheVariants.{Bidirected as BidirectedIs};
 ghost use Rattle.unit_scale.specs.Stages.{Stage, AreLinkSizes};
 
 use crate::links::LinkSize;
 use crate::refusal::{ScaleEnd, refused};
 use crate::sizes::{unit_of, units_of_size};
+use crate::{LinkMode, NetOptions, Sign};
 use flow_model::Cell;
 use mcf_limits::MAX_DECIMALS;
-use net_options::{LinkMode, NetOptions, Sign};
 use sndlib_read::{LinkRow, NetKind, RawNet};
 use std::alloc::{AllocError, Global};
 

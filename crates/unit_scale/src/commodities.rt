@@ -11,7 +11,7 @@ use crate::refusal::{ScaleEnd, refused};
 use crate::sizes::unit_of;
 use flow_model::Commodity;
 use mcf_limits::{MAX_DECIMALS, MAX_TOTAL, MAX_UNITS};
-use sndlib_number::is_number;
+use sndlib_grammar::is_number;
 use sndlib_read::{DemandRow, NetKind, RawNet};
 use std::alloc::{AllocError, Global};
 

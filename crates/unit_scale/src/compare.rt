@@ -2,11 +2,11 @@
 
 ghost use Rattle.std.specs.Prelude.{◌≡◌, ◌+◌, ◌-◌, ◌*◌, ◌/◌, ◌%◌, ◌^◌, ◌++◌, ◌<◌, ◌≤◌, length, nat_lt};
 ghost use Rattle.std.specs.Str.Parse.{AllDigits, digits_value};
-ghost use Rattle.sndlib_number.specs.Views.{number_view};
+ghost use Rattle.sndlib_grammar.specs.Views.{number_view};
 ghost use Rattle.unit_scale.specs.Largest.{amount_of, IsFit, IsLong, AreLongDigits, long_digit};
 
 use mcf_limits::MAX_DECIMALS;
-use sndlib_number::NumberParts;
+use sndlib_grammar::NumberParts;
 
 /// A number in millionths: digits with zeros behind them, or without some zeros at their end.
 #[derive(Clone, Copy, Debug)]

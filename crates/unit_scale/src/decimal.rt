@@ -1,13 +1,13 @@
 //! The numbers of words, read in a fixed unit.
 
 ghost use Rattle.std.specs.Prelude.{◌≡◌, ◌≤◌};
-ghost use Rattle.sndlib_number.specs.Number.{number_of as number_of_lem};
+ghost use Rattle.sndlib_grammar.specs.Number.{number_of as number_of_lem};
 ghost use Rattle.unit_scale.specs.Units.{decimal_of, decimal_from as decimal_from_lem, units_read, units_from as units_from_lem};
 
 use crate::number::short_units;
 use crate::short::MOST;
 use mcf_limits::{MAX_DECIMALS, MAX_UNITS};
-use sndlib_number::number_parts;
+use sndlib_grammar::number_parts;
 
 /// A number in millionths.
 #[derive(Clone, Copy, Debug, PartialEq, Eq)]

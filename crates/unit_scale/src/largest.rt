@@ -2,7 +2,7 @@
 
 ghost use Rattle.std.specs.Prelude.{◌≡◌, ◌<◌, ◌≤◌, ◌||◌, ◌^◌, true, false, length, map, max, nat_lt, MatchOption};
 ghost use Rattle.std.specs.List.{list_any};
-ghost use Rattle.sndlib_number.specs.Views.{number_view};
+ghost use Rattle.sndlib_grammar.specs.Views.{number_view};
 ghost use Rattle.unit_scale.specs.Largest.{amount_of, best_amount, IsFit, IsBest};
 ghost use Rattle.unit_scale.specs.Short.{short};
 ghost use Rattle.unit_scale.specs.Seen.{bytes_of};
@@ -13,7 +13,7 @@ use crate::number::short_units;
 use crate::short::MOST;
 use crate::sizes::either;
 use mcf_limits::MAX_DECIMALS;
-use sndlib_number::{NumberParts, number_parts};
+use sndlib_grammar::{NumberParts, number_parts};
 
 /// The greatest capacity so far in short, its number where there is one, and whether some capacity is over the limit.
 #[derive(Clone, Copy, Debug)]

@@ -9,11 +9,11 @@ ghost use Rattle.unit_scale.specs.Stages.{Stage, AreLinkSizes};
 ghost use Rattle.sndlib_read.specs.RowViews.{link_row_view};
 ghost use Rattle.sndlib_grammar.specs.declared.refusal.NetKind.TheVariants.{TooFine as TooFineIs};
 
+use crate::ModuleMode;
 use crate::largest::largest;
 use crate::refusal::{ScaleEnd, refused};
 use crate::short::MOST;
 use crate::sizes::{either, word_size};
-use net_options::ModuleMode;
 use sndlib_read::{LinkRow, NetKind, RawNet};
 use std::alloc::Global;
 

@@ -3,14 +3,14 @@
 ghost use Rattle.std.specs.Prelude.{◌≡◌, ◌+◌, ◌*◌, ◌^◌, ◌++◌, ◌<◌, ◌≤◌, length};
 ghost use Rattle.std.specs.Option.{option_map};
 ghost use Rattle.std.specs.Str.Parse.{AllDigits, digits_value};
-ghost use Rattle.sndlib_number.specs.Number.{AreDigits};
-ghost use Rattle.sndlib_number.specs.Views.{number_view};
+ghost use Rattle.sndlib_grammar.specs.Number.{AreDigits};
+ghost use Rattle.sndlib_grammar.specs.Views.{number_view};
 ghost use Rattle.unit_scale.specs.Short.{short};
 ghost use Rattle.unit_scale.specs.Units.{quotient, units_of};
 
 use crate::short::{are_zeros, extended, raised, shortened};
 use mcf_limits::MAX_DECIMALS;
-use sndlib_number::NumberParts;
+use sndlib_grammar::NumberParts;
 
 /// The number of the digits with that many zeros more, in short.
 pub fn raised_digits(whole: &[u8], fraction: &[u8], zeros: usize) -> u64

@@ -3,6 +3,7 @@
 ghost use Rattle.std.specs.Prelude.{◌≡◌};
 ghost use Rattle.unit_scale.specs.ScaleEnd.{Scales, ScalesByParts};
 
+use crate::NetOptions;
 use crate::cells::cells_of;
 use crate::commodities::{hop_count, kept_demands};
 use crate::demands::demand_sizes;
@@ -10,7 +11,6 @@ use crate::links::link_sizes;
 use crate::refusal::{ScaleEnd, refused};
 use crate::sizes::least_decimals;
 use flow_model::Net;
-use net_options::NetOptions;
 use sndlib_read::{NetKind, RawNet};
 use std::alloc::Global;
 use std::marker::Model;

@@ -10,7 +10,7 @@ use crate::demands::DemandSize;
 use crate::links::LinkSize;
 use crate::number::short_units;
 use mcf_limits::{MAX_DECIMALS, MAX_UNITS};
-use sndlib_number::number_parts;
+use sndlib_grammar::number_parts;
 
 /// The number that the word is, in millionths, in short, if it is a whole number of them.
 pub fn word_size(word: &[u8]) -> Option<u64>

@@ -4,11 +4,10 @@ ghost use Rattle.std.specs.Prelude.{◌≡◌, ◌<◌, ◌≤◌, IfOk, All, le
 ghost use Rattle.flow_model.specs.Lengths.{AreLengths, IsSetting, lengths_of};
 
 use crate::{Words, cell, demand, loads, network};
-use dijkstra_paths::Scratch;
+use dijkstra_paths::{Arc, Graph, Scratch};
 use fixed_exp::{LengthTable, Powers};
 use flow_model::{Cell, Net, Setting};
 use mcf_limits::MAX_LENGTH;
-use net_graph::{Arc, Graph};
 use std::alloc::{AllocError, Global};
 use std::process::Abort;
 use std::test::Fail;

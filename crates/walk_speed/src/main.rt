@@ -6,11 +6,10 @@
 ghost use Rattle.std.specs.Prelude.{◌≡◌, ◌+◌, ◌-◌, ◌*◌, ◌<◌, ◌≤◌, length, All, IfOk};
 
 use anyhow::{Context, Result, ensure};
-use dijkstra_paths::Scratch;
+use dijkstra_paths::{Graph, Scratch};
 use fixed_exp::{LengthTable, Powers};
 use flow_model::{Net, Setting};
 use mcf_limits::{MAX_CELLS, MAX_LENGTH, MAX_NODES};
-use net_graph::Graph;
 use std::alloc::Global;
 use std::env;
 use std::rt::Clock;

@@ -10,10 +10,10 @@ use Rattle.flow_paths.specs.Certificate.{length_of}
 use Rattle.flow_paths.specs.Evaluation.{with_caps}
 use Rattle.whatif.specs.declared.ratio.Ratio.{Ratio}
 use Rattle.whatif.specs.Ratios.{ratio_of}
-use Rattle.net_options.specs.declared.modes.LinkMode.{LinkMode}
+use Rattle.unit_scale.specs.declared.modes.LinkMode.{LinkMode}
 use Rattle.script.specs.declared.step.Step.TheVariants.{Edit}
 use Rattle.whatif.specs.Planned.{Planned, IsPlanned, IsKept, after_step, with_cap}
-use Rattle.cell_dir.proofs.Links.{with_link_length}
+use Rattle.unit_scale.proofs.Links.{with_link_length}
 use Rattle.whatif.proofs.Links.{with_link-small}
 use Rattle.whatif.proofs.Sums.{with_caps-length, volume-set, volume-le, part-le, ratios-set}
 use Rattle.whatif.proofs.Filling.{ratios-length}

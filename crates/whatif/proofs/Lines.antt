@@ -4,9 +4,9 @@ use Rattle.std.proofs.lemmas.List.{take_more, take-append-drop}
 use Rattle.std.proofs.lemmas.List.Concat.{flat_map-append}
 use Rattle.std.proofs.lemmas.List.Elements.{All-cons, All-nil}
 use Rattle.text_lines.specs.Lines.{Line, text_of, spelled}
-use Rattle.line_writer.specs.Writing.{ended, failed}
-use Rattle.line_writer.specs.Spelling.{decimal_word, fraction_word, millionths_word}
-use Rattle.net_options.specs.declared.modes.LinkMode.{LinkMode}
+use Rattle.text_lines.specs.Writing.{ended, failed}
+use Rattle.text_lines.specs.Spelling.{decimal_word, fraction_word, millionths_word}
+use Rattle.unit_scale.specs.declared.modes.LinkMode.{LinkMode}
 use Rattle.mcf_base.specs.Sink.{AppendsFront, SinkView, Wrote}
 use Rattle.mcf_base.proofs.Known.{wrote_then, wrote_stops}
 use Rattle.std.proofs.lemmas.Option.{slice_get-get_or}
@@ -17,7 +17,7 @@ use Rattle.script.specs.declared.step.Step.TheVariants.{Edit, Show}
 use Rattle.script.specs.Steps.{AreStepsOfCells, IsStep}
 use Rattle.whatif.specs.Planned.{Planned, after_step, after_steps, shown_of}
 use Rattle.whatif.specs.Shown.{IsStopped, show_line, shown_lines, shown_text}
-use Rattle.cell_dir.proofs.Links.{with_link_length}
+use Rattle.unit_scale.proofs.Links.{with_link_length}
 
 pub decimal_is : (whole micro n : ℕ) → micro < 1000000 → whole * 1000000 + micro ≡ n → decimal_word whole micro ≡ millionths_word n
 decimal_is whole micro n six e =

@@ -2,12 +2,12 @@
 use Rattle.std.proofs.Common.{◌≡◌, ℕ, zero, suc, ◌+◌, ◌-◌, ◌*◌, ◌≤◌, List, set, sym, ap, subst, ◌∙◌, arith, All}
 use Rattle.std.proofs.lemmas.List.Elements.{All-set}
 use Rattle.mcf_limits.specs.declared.TheConstants.{MAX_UNITS}
-use Rattle.net_options.specs.declared.modes.LinkMode.{LinkMode}
-use Rattle.net_options.specs.declared.modes.LinkMode.TheVariants.{Directed, Undirected, Bidirected}
-use Rattle.cell_dir.specs.Names.{cells_of, per}
-use Rattle.cell_dir.specs.Closed.{with_link}
+use Rattle.unit_scale.specs.declared.modes.LinkMode.{LinkMode}
+use Rattle.unit_scale.specs.declared.modes.LinkMode.TheVariants.{Directed, Undirected, Bidirected}
+use Rattle.unit_scale.specs.Names.{cells_of, per}
+use Rattle.unit_scale.specs.Closed.{with_link}
 use Rattle.whatif.specs.Planned.{Planned}
-use Rattle.cell_dir.proofs.Links.{with_link_directed, with_link_undirected, with_link_bidirected}
+use Rattle.unit_scale.proofs.Links.{with_link_directed, with_link_undirected, with_link_bidirected}
 
 -- so many cells from the first on, set one after the other
 abbrev pub set_run : List ℕ → ℕ → ℕ → ℕ → List ℕ

@@ -8,8 +8,8 @@ use Rattle.flow_model.specs.Bound.{volume}
 use Rattle.flow_paths.specs.declared.certificate.Proof.{Proof}
 use Rattle.flow_paths.specs.Certificate.{IsProofOf, IsValid, lengths_in, upper_of}
 use Rattle.flow_paths.specs.Evaluation.{Evaluation, evaluation, fill, loads_of, with_caps}
-use Rattle.net_options.specs.declared.modes.LinkMode.{LinkMode}
-use Rattle.cell_dir.specs.Closed.{with_link}
+use Rattle.unit_scale.specs.declared.modes.LinkMode.{LinkMode}
+use Rattle.unit_scale.specs.Closed.{with_link}
 use Rattle.script.specs.declared.step.Step.{Step}
 use Rattle.script.specs.declared.step.Step.TheVariants.{Edit, Show}
 use Rattle.whatif.specs.declared.bounds.Bounds.{Bounds}

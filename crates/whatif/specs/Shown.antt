@@ -4,8 +4,8 @@ use Rattle.std.specs.Io.KnownBytes.{Appends}
 use Rattle.mcf_base.specs.Faults.{FailedLast}
 use Rattle.mcf_base.specs.Sink.{AppendsFront, SinkView}
 use Rattle.text_lines.specs.Lines.{Line, spelled, text_of}
-use Rattle.line_writer.specs.Spelling.{fraction_word, millionths_word}
-use Rattle.net_options.specs.declared.modes.LinkMode.{LinkMode}
+use Rattle.text_lines.specs.Spelling.{fraction_word, millionths_word}
+use Rattle.unit_scale.specs.declared.modes.LinkMode.{LinkMode}
 use Rattle.gap_fraction.specs.Fraction.{Fraction}
 use Rattle.gap_fraction.specs.Decimals.{millionths_down, millionths_up}
 use Rattle.flow_paths.specs.Evaluation.{Evaluation}

@@ -10,17 +10,16 @@ ghost use Rattle.whatif.specs.Ratios.{IsRatio, ratios};
 use crate::bounds::Bounds;
 use crate::ratio::{MAX_LOAD, Ratio, ratio_of};
 use crate::tree::Tree;
-use cell_dir::cells_of;
 use cert_check::{cell_lengths, path_loads};
 use flow_model::{Cell, Net};
 use flow_paths::{Dual, Proof};
 use gap_fraction::Frac;
 use mcf_limits::{MAX_CELLS, MAX_LENGTH, MAX_LINKS, MAX_UNITS};
-use net_options::LinkMode;
 use std::alloc::{AllocError, Global};
 use std::marker::Model;
 use std::snapshot::Snapshot;
 use std::sync::Arc;
+use unit_scale::{LinkMode, cells_of};
 
 // What a plan is of, which clauses alone read. It has no bytes.
 #[derive(Drop)]
@@ -101,8 +100,8 @@ fn see_potentials(dual: &Dual)
 }
 
 impl Plan {
-    ghost use Rattle.cell_dir.specs.Names.{cells_of};
-    ghost use Rattle.cell_dir.specs.Closed.{with_link};
+    ghost use Rattle.unit_scale.specs.Names.{cells_of};
+    ghost use Rattle.unit_scale.specs.Closed.{with_link};
     ghost use Rattle.whatif.specs.Planned.{AreBounds, IsPlanned, evaluation_of, shown_of, with_cap};
 
     /// The plan of a valid certificate, with the capacities of its network.

@@ -4,7 +4,7 @@ ghost use Rattle.std.specs.Prelude.{◌≡◌, ◌∷◌, ◌<◌, ◌≤◌, []
 ghost use Rattle.mcf_base.specs.Sink.{Wrote};
 ghost use Rattle.text_lines.specs.Lines.{spelled};
 ghost use Rattle.gap_fraction.specs.Decimals.{millionths_down, millionths_up};
-ghost use Rattle.line_writer.specs.Spelling.{millionths_word};
+ghost use Rattle.text_lines.specs.Spelling.{millionths_word};
 ghost use Rattle.script.specs.Steps.{AreStepsOfCells};
 ghost use Rattle.whatif.specs.Planned.{after_step, after_steps, evaluation_of};
 ghost use Rattle.whatif.specs.Shown.{IsStopped, show_line, shown_text};
@@ -12,10 +12,10 @@ ghost use Rattle.whatif.specs.Shown.{IsStopped, show_line, shown_text};
 use crate::bounds::Bounds;
 use crate::plan::Plan;
 use gap_fraction::Frac;
-use line_writer::{Word, write_line};
 use mcf_base::{Sink, WriteFault};
-use net_options::LinkMode;
 use script::{Script, Step};
+use text_lines::{Word, write_line};
+use unit_scale::LinkMode;
 
 /// The value of a fraction with six digits behind the point, rounded down.
 pub fn value_down(fraction: &Frac) -> Word

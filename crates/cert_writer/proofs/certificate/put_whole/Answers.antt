@@ -1,4 +1,4 @@
-use Rattle.line_writer.proofs.Putting.{written_front, written_out}
+use Rattle.text_lines.proofs.Putting.{written_front, written_out}
 use Rattle.cert_writer.proofs.certificate.put_whole.Goals as goal
 
 pub returns-in-Err : goal.returns-in-Err

@@ -1,6 +1,6 @@
 use Rattle.std.proofs.Common.{◌∷◌, []}
-use Rattle.line_writer.specs.Spelling.{behind}
-use Rattle.line_writer.proofs.Putting.{puts_then, puts_stop}
+use Rattle.text_lines.specs.Spelling.{behind}
+use Rattle.text_lines.proofs.Putting.{puts_then, puts_stop}
 use Rattle.cert_names.specs.Sheet.{cell_word}
 use Rattle.cert_writer.proofs.LinePuts.{word_alone}
 use Rattle.cert_writer.proofs.writing.put_cell_front.Goals as goal

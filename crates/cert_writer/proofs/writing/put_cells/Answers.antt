@@ -1,4 +1,4 @@
-use Rattle.line_writer.proofs.Joining.{one_word_on, word_stops}
+use Rattle.text_lines.proofs.Joining.{one_word_on, word_stops}
 use Rattle.cert_names.specs.Sheet.{cell_word}
 use Rattle.cert_writer.proofs.writing.put_cells.Goals as goal
 

@@ -1,8 +1,8 @@
 use Rattle.std.proofs.Common.{take}
 use Rattle.std.specs.Prelude.{map}
 use Rattle.mcf_base.specs.declared.writing.WriteFault.{WriteFault}
-use Rattle.line_writer.specs.Writing.{Puts, ended}
-use Rattle.line_writer.specs.Spelling.{behind}
+use Rattle.text_lines.specs.Writing.{Puts, ended}
+use Rattle.text_lines.specs.Spelling.{behind}
 use Rattle.cert_names.specs.Sheet.{cell_word}
 use Rattle.cert_writer.proofs.writing.put_cells.Given as goal
 

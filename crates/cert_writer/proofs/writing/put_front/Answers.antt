@@ -1,6 +1,6 @@
 use Rattle.std.proofs.Common.{ℕ, Bor, List, map}
-use Rattle.line_writer.specs.Spelling.{behind}
-use Rattle.line_writer.proofs.Putting.{puts_then, puts_stop}
+use Rattle.text_lines.specs.Spelling.{behind}
+use Rattle.text_lines.proofs.Putting.{puts_then, puts_stop}
 use Rattle.cert_writer.proofs.writing.put_front.Goals as goal
 
 pub returns-in-Err : goal.returns-in-Err

@@ -2,7 +2,7 @@ use Rattle.std.proofs.Common.{take}
 use Rattle.std.specs.Prelude.{map}
 use Rattle.text_lines.specs.Lines.{text_of}
 use Rattle.mcf_base.specs.declared.writing.WriteFault.{WriteFault}
-use Rattle.line_writer.specs.Writing.{Puts, ended}
+use Rattle.text_lines.specs.Writing.{Puts, ended}
 use Rattle.cert_lines.specs.Spelling.{length_words}
 use Rattle.cert_writer.proofs.writing.put_lengths.Given as goal
 

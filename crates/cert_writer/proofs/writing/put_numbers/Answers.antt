@@ -1,5 +1,5 @@
 use Rattle.std.specs.Fmt.{decimal}
-use Rattle.line_writer.proofs.Joining.{one_word_on, word_stops}
+use Rattle.text_lines.proofs.Joining.{one_word_on, word_stops}
 use Rattle.cert_writer.proofs.writing.put_numbers.Goals as goal
 
 pub returns-in-Err : goal.returns-in-Err

@@ -2,8 +2,8 @@ use Rattle.std.proofs.Common.{take}
 use Rattle.std.specs.Prelude.{map}
 use Rattle.std.specs.Fmt.{decimal}
 use Rattle.mcf_base.specs.declared.writing.WriteFault.{WriteFault}
-use Rattle.line_writer.specs.Writing.{Puts, ended}
-use Rattle.line_writer.specs.Spelling.{behind}
+use Rattle.text_lines.specs.Writing.{Puts, ended}
+use Rattle.text_lines.specs.Spelling.{behind}
 use Rattle.cert_writer.proofs.writing.put_numbers.Given as goal
 
 abbrev pub invariant-loop-number : goal.invariant-loop-number

@@ -1,7 +1,7 @@
 use Rattle.std.proofs.Common.{◌≡◌, ℕ, ◌*◌, List, length, sym, ap, ◌∙◌, subst, arith}
 use Rattle.std.proofs.lemmas.List.{length-replicate}
 use Rattle.flow_model.specs.declared.net.Cell.{Cell}
-use Rattle.path_history.specs.Rows.{HistoryView, phases_kept, AreRowsFor}
+use Rattle.flow_solver.specs.Rows.{HistoryView, phases_kept, AreRowsFor}
 use Rattle.solver_run.specs.History.{loads_after}
 use Rattle.mcf_limits.specs.declared.TheConstants.{MAX_TOTAL}
 use Rattle.flow_solver.proofs.Routing.{no-loads, none-above, idle-hands}

@@ -5,7 +5,7 @@ use Rattle.flow_core.specs.Core.{IsStart}
 use Rattle.phase_engine.specs.declared.hand.Hand.{Hand}
 use Rattle.phase_engine.specs.Hands.{IsFresh}
 use Rattle.phase_engine.specs.Routing.{IsRoutedPhase}
-use Rattle.path_history.specs.Routes.{IsRoutedOnce, HaveRouted}
+use Rattle.flow_solver.specs.Routes.{IsRoutedOnce, HaveRouted}
 use Rattle.flow_solver.specs.declared.search.Search.{Search}
 use Rattle.flow_solver.specs.Search.{AreIdle}
 use Rattle.flow_solver.proofs.Routing.{start-of, loads-size, fresh-hands, idle-again, search-more, routed-more}

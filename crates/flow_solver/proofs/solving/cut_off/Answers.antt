@@ -1,5 +1,5 @@
 use Rattle.std.proofs.Common.{refl, sym, ap, subst, inl}
-use Rattle.path_history.specs.Phases.{EntriesView}
+use Rattle.flow_solver.specs.Phases.{EntriesView}
 use Rattle.solver_run.specs.History.{SolvedView}
 use Rattle.solver_run.specs.Run.{IsSolverRun}
 use Rattle.dual_bound.proofs.Bounding.{has-cut}

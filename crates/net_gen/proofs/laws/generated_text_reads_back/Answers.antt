@@ -1,4 +1,4 @@
-use Rattle.sndlib_text.proofs.ReadBack.{reads_back}
+use Rattle.sndlib_grammar.proofs.ReadBack.{reads_back}
 use Rattle.net_gen.specs.Generated.{generated_rows}
 use Rattle.net_gen.proofs.Printing.{rows_printable}
 use Rattle.net_gen.proofs.laws.generated_text_reads_back.Goals as goal

@@ -2,7 +2,7 @@ use Rattle.std.proofs.Common.{ap, subst, sym, List, ℕ, length, ◌≤◌, ◌�
 use Rattle.std.specs.String.{string_bytes}
 use Rattle.rand_pcg.specs.Lcg.{Lcg}
 use Rattle.text_lines.specs.Lines.{text_of}
-use Rattle.sndlib_text.specs.Canonical.{link_line, demand_line}
+use Rattle.sndlib_grammar.specs.Canonical.{link_line, demand_line}
 use Rattle.net_gen.specs.Draws.{past, generator_of}
 use Rattle.net_gen.specs.Generated.{generated_rows, generated_names, generated_links, generated_demands, words_before_link}
 use Rattle.mcf_limits.specs.declared.TheConstants.{MAX_NET_BYTES}

@@ -1,6 +1,6 @@
 use Rattle.std.proofs.Common.{◌≡◌, ◌++◌, ◌*◌}
 use Rattle.std.specs.String.{string_bytes}
-use Rattle.sndlib_text.specs.Canonical.{demand_line}
+use Rattle.sndlib_grammar.specs.Canonical.{demand_line}
 use Rattle.net_gen.specs.Draws.{past}
 use Rattle.net_gen.specs.Generated.{generated_names, generated_demand}
 use Rattle.net_gen.proofs.Putting.{lines_below}

@@ -3,7 +3,7 @@ use Rattle.std.proofs.lemmas.List.{append-nil}
 use Rattle.std.specs.String.{string_bytes}
 use Rattle.rand_pcg.specs.Lcg.{Lcg}
 use Rattle.text_lines.specs.Lines.{spelled}
-use Rattle.sndlib_text.specs.Canonical.{link_line}
+use Rattle.sndlib_grammar.specs.Canonical.{link_line}
 use Rattle.net_gen.specs.Draws.{past}
 use Rattle.net_gen.specs.Generated.{generated_names, generated_link, words_of_link, words_before_link}
 use Rattle.net_gen.proofs.Drawing.{past_none, then_past}

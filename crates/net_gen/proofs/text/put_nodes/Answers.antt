@@ -1,4 +1,4 @@
-use Rattle.sndlib_text.specs.Canonical.{node_line}
+use Rattle.sndlib_grammar.specs.Canonical.{node_line}
 use Rattle.net_gen.specs.Generated.{generated_node}
 use Rattle.net_gen.proofs.Putting.{line_more}
 use Rattle.net_gen.proofs.text.put_nodes.Goals as goal

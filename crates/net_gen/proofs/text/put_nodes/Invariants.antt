@@ -1,6 +1,6 @@
 use Rattle.std.proofs.Common.{◌≡◌, ◌++◌}
 use Rattle.std.specs.String.{string_bytes}
-use Rattle.sndlib_text.specs.Canonical.{node_line}
+use Rattle.sndlib_grammar.specs.Canonical.{node_line}
 use Rattle.net_gen.specs.Generated.{generated_node}
 use Rattle.net_gen.proofs.Putting.{lines_below}
 use Rattle.net_gen.proofs.text.put_nodes.Given as goal

@@ -1,9 +1,9 @@
 use Rattle.std.proofs.Common.{◌∙◌, ap, subst, length, ℕ, get_or, arith}
 use Rattle.std.proofs.lemmas.List.FromFn.{length-map-range_with_len}
-use Rattle.net_options.specs.declared.options.NetOptions.{NetOptions}
+use Rattle.unit_scale.specs.declared.options.NetOptions.{NetOptions}
 use Rattle.flow_model.specs.Network.{Network, IsNetwork}
-use Rattle.cell_dir.specs.Names.{cells_of}
-use Rattle.cell_dir.specs.Closed.{caps_of}
+use Rattle.unit_scale.specs.Names.{cells_of}
+use Rattle.unit_scale.specs.Closed.{caps_of}
 use Rattle.script.proofs.Capacities.{cap_more}
 use Rattle.script.proofs.read.capacities.Goals as goal
 

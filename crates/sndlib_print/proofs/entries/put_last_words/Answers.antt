@@ -1,4 +1,4 @@
-use Rattle.line_writer.proofs.Putting.{puts_then, puts_stop}
+use Rattle.text_lines.proofs.Putting.{puts_then, puts_stop}
 use Rattle.sndlib_print.proofs.entries.put_last_words.Goals as goal
 
 pub returns-in-Err : goal.returns-in-Err

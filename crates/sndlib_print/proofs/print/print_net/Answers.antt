@@ -1,4 +1,4 @@
-use Rattle.line_writer.proofs.Putting.{written_front, written_out}
+use Rattle.text_lines.proofs.Putting.{written_front, written_out}
 use Rattle.sndlib_print.proofs.print.print_net.Goals as goal
 
 pub returns-in-Err : goal.returns-in-Err

@@ -1,5 +1,5 @@
 use Rattle.text_lines.specs.Lines.{spelled}
-use Rattle.sndlib_text.specs.Canonical.{closing_line}
+use Rattle.sndlib_grammar.specs.Canonical.{closing_line}
 use Rattle.sndlib_print.proofs.Steps.{first_stops, second_stops, three_put, opens_demands, demand_lines}
 use Rattle.sndlib_print.proofs.print.put_from_demands.Goals as goal
 

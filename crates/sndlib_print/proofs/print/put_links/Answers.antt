@@ -1,6 +1,6 @@
 use Rattle.std.proofs.Common.{◌<◌, length, arith}
 use Rattle.sndlib_grammar.specs.Rows.{no_link, names_of_nodes}
-use Rattle.sndlib_text.specs.Canonical.{link_line}
+use Rattle.sndlib_grammar.specs.Canonical.{link_line}
 use Rattle.sndlib_print.proofs.Steps.{line_more_put, line_stops}
 use Rattle.sndlib_print.proofs.print.put_links.Goals as goal
 

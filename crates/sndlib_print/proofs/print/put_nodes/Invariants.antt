@@ -1,8 +1,8 @@
 use Rattle.std.proofs.Common.{take, map}
 use Rattle.mcf_base.specs.declared.writing.WriteFault.{WriteFault}
 use Rattle.text_lines.specs.Lines.{text_of}
-use Rattle.line_writer.specs.Writing.{Puts, ended}
-use Rattle.sndlib_text.specs.Canonical.{node_line}
+use Rattle.text_lines.specs.Writing.{Puts, ended}
+use Rattle.sndlib_grammar.specs.Canonical.{node_line}
 use Rattle.sndlib_print.proofs.print.put_nodes.Given as goal
 
 abbrev pub invariant-loop-i : goal.invariant-loop-i

@@ -1,6 +1,6 @@
 use Rattle.std.proofs.Common.{refl, ap, subst, arith, Ok}
-use Rattle.sndlib_lex.specs.Tokens.{lexeme}
-use Rattle.sndlib_lex.specs.Reading.{TakesNext}
+use Rattle.sndlib_grammar.specs.Tokens.{lexeme}
+use Rattle.sndlib_grammar.specs.Lexing.{TakesNext}
 use Rattle.sndlib_grammar.specs.Reading.{at_start}
 use Rattle.sndlib_read.specs.Stored.{Partial}
 use Rattle.sndlib_read.proofs.Scanning.{scans_more}

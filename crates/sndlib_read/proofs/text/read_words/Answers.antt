@@ -1,5 +1,5 @@
 use Rattle.std.proofs.Common.{ap, arith, length}
-use Rattle.sndlib_lex.specs.Tokens.{Lexeme}
+use Rattle.sndlib_grammar.specs.Tokens.{Lexeme}
 use Rattle.sndlib_read.proofs.Bounds.{length-tokens_of}
 use Rattle.sndlib_read.proofs.text.read_words.Goals as goal
 

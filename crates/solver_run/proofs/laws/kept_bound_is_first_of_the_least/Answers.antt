@@ -1,5 +1,5 @@
 use Rattle.flow_paths.specs.Certificate.{upper_of}
-use Rattle.path_rows.proofs.Least.{least-first}
+use Rattle.flow_paths.proofs.Least.{least-first}
 use Rattle.solver_run.specs.Run.{no_dual}
 use Rattle.solver_run.proofs.Solved.{run-keeps}
 use Rattle.solver_run.proofs.laws.kept_bound_is_first_of_the_least.Goals as goal

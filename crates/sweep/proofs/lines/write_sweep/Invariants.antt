@@ -1,7 +1,7 @@
 use Rattle.std.proofs.Common.{take}
 use Rattle.mcf_base.specs.declared.writing.WriteFault.{WriteFault}
 use Rattle.mcf_base.specs.Sink.{Wrote}
-use Rattle.line_writer.specs.Writing.{ended}
+use Rattle.text_lines.specs.Writing.{ended}
 use Rattle.text_lines.specs.Lines.{text_of}
 use Rattle.sweep.proofs.Written.{lines}
 use Rattle.sweep.proofs.lines.write_sweep.Given as goal

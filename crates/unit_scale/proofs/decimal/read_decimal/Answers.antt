@@ -1,6 +1,6 @@
 use Rattle.std.proofs.Common.{ap, ◌∙◌, Some}
 use Rattle.unit_scale.specs.Units.{decimal_of, decimal_from, units_of}
-use Rattle.sndlib_number.specs.Views.{number_view}
+use Rattle.sndlib_grammar.specs.Views.{number_view}
 use Rattle.unit_scale.proofs.Ends.{decimal-short}
 use Rattle.unit_scale.proofs.decimal.read_decimal.Goals as goal
 

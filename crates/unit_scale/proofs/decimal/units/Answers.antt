@@ -1,6 +1,6 @@
 use Rattle.std.proofs.Common.{ap, ◌∙◌}
 use Rattle.unit_scale.specs.Units.{units_read, units_from, units_of}
-use Rattle.sndlib_number.specs.Views.{number_view}
+use Rattle.sndlib_grammar.specs.Views.{number_view}
 use Rattle.unit_scale.proofs.Ends.{units-short}
 use Rattle.unit_scale.proofs.decimal.units.Goals as goal
 

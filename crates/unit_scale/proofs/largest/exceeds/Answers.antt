@@ -1,5 +1,5 @@
 use Rattle.std.proofs.Common.{◌≤◌, ◌<◌, ◌∙◌, ap, subst, nat_lt}
-use Rattle.sndlib_number.specs.Views.{number_view}
+use Rattle.sndlib_grammar.specs.Views.{number_view}
 use Rattle.unit_scale.specs.Short.{short}
 use Rattle.unit_scale.specs.Largest.{amount_of, best_amount}
 use Rattle.unit_scale.proofs.Greatest.{best_short, short_less, over_less}

@@ -1,5 +1,5 @@
 use Rattle.std.proofs.Common.{◌∙◌, ◌||◌, ap, arith, Bool}
-use Rattle.sndlib_number.specs.Views.{number_view}
+use Rattle.sndlib_grammar.specs.Views.{number_view}
 use Rattle.unit_scale.specs.Largest.{amount_of, best_amount}
 use Rattle.unit_scale.specs.Sizes.{value}
 use Rattle.unit_scale.proofs.Greatest.{word_facts, greater_is, greater_not}

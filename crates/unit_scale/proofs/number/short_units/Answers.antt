@@ -1,7 +1,7 @@
 use Rattle.std.proofs.Common.{ap, sym, ◌∙◌, refl}
 use Rattle.std.specs.Option.{option_map}
 use Rattle.unit_scale.specs.Short.{short}
-use Rattle.sndlib_number.specs.Views.{number_view}
+use Rattle.sndlib_grammar.specs.Views.{number_view}
 use Rattle.unit_scale.proofs.UnitLaws.{units_raise, units_cut}
 use Rattle.unit_scale.proofs.number.short_units.Goals as goal
 

@@ -1,7 +1,7 @@
 use Rattle.std.proofs.Common.{◌≡◌, take}
 use Rattle.mcf_base.specs.declared.writing.WriteFault.{WriteFault}
 use Rattle.mcf_base.specs.Sink.{Wrote}
-use Rattle.line_writer.specs.Writing.{ended}
+use Rattle.text_lines.specs.Writing.{ended}
 use Rattle.whatif.specs.Planned.{after_steps}
 use Rattle.whatif.specs.Shown.{shown_text}
 use Rattle.whatif.proofs.run.take_steps.Given as goal

@@ -1,7 +1,7 @@
 use Rattle.std.proofs.Common.{◌≡◌, ◌<◌, ◌++◌, ℕ, List, length, ap, sym, subst, ◌∙◌}
-use Rattle.cell_dir.specs.declared.names.CellName.{CellName}
-use Rattle.cell_dir.specs.Names.{name_of}
-use Rattle.net_options.specs.declared.options.NetOptions.{NetOptions}
+use Rattle.unit_scale.specs.declared.names.CellName.{CellName}
+use Rattle.unit_scale.specs.Names.{name_of}
+use Rattle.unit_scale.specs.declared.options.NetOptions.{NetOptions}
 use Rattle.sndlib_grammar.specs.Rows.{NetLink, link_at}
 use Rattle.cert_names.specs.Sheet.{Sheet, cell_sign, cell_id, sheet_of, sheets_of, sheet_for}
 use Rattle.cert_names.proofs.Looked.{id_is, link_of_cell, whole_word}

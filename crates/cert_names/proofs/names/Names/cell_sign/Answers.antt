@@ -1,7 +1,7 @@
 use Rattle.std.proofs.Common.{◌≡◌, ◌<◌, length, ap, sym, subst, ◌∙◌}
 use Rattle.cert_names.specs.Sheet.{Sheet, cell_sign, sign_mark, sheet_of, sheets_of, sheet_for}
-use Rattle.cell_dir.specs.Names.{name_of}
-use Rattle.net_options.specs.declared.options.NetOptions.{NetOptions}
+use Rattle.unit_scale.specs.Names.{name_of}
+use Rattle.unit_scale.specs.declared.options.NetOptions.{NetOptions}
 use Rattle.cert_names.proofs.Looked.{sign_is}
 use Rattle.cert_names.proofs.names.Names.cell_sign.Goals as goal
 

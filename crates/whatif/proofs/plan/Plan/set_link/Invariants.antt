@@ -1,5 +1,5 @@
 use Rattle.std.proofs.Common.{◌≡◌, ◌+◌, ◌-◌, ◌≤◌}
-use Rattle.cell_dir.specs.Names.{cells_of}
+use Rattle.unit_scale.specs.Names.{cells_of}
 use Rattle.whatif.proofs.Links.{run_of}
 use Rattle.whatif.proofs.plan.Plan.set_link.Given as goal
 

@@ -1,5 +1,0 @@
-pub mod Parts
-pub mod Cells
-pub mod Links
-pub mod Named
-mod Examples

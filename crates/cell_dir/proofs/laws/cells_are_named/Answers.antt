@@ -1,5 +1,0 @@
-use Rattle.cell_dir.proofs.Named.{cells_counted, cell_named}
-use Rattle.cell_dir.proofs.laws.cells_are_named.Goals as goal
-
-pub returns : goal.returns
-returns c = λ o s rows. (cells_counted o s rows, cell_named o s rows)

@@ -1,5 +1,0 @@
-use Rattle.cell_dir.proofs.Links.{set_of_link, set_of_other}
-use Rattle.cell_dir.proofs.laws.link_is_set.Goals as goal
-
-pub returns : goal.returns
-returns c = λ mode caps link cap cell h. (set_of_link mode caps link cap cell h, set_of_other mode caps link cap cell h)

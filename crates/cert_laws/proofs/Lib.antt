@@ -1,4 +1,0 @@
-pub mod LineFits
-pub mod NewFits
-pub mod PaperFits
-pub mod Steps

@@ -1,4 +1,0 @@
-pub mod Finds
-pub mod Goings
-pub mod Logs
-pub mod Spans

@@ -1,5 +1,0 @@
-pub mod Found
-pub mod Going
-pub mod Routes
-pub mod Steps
-pub mod Work

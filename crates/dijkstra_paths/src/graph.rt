@@ -1,0 +1,143 @@
+//! Arcs over positive cells, in one list by node.
+
+ghost use Rattle.std.specs.Prelude.{◌≡◌, ℕ, All, Contains, ◌++◌, ◌<◌, ◌≤◌, length, slice_range, OnOk, IfOk};
+ghost use Rattle.std.specs.Option.{option_to_list};
+ghost use Rattle.flow_model.specs.Network.{IsNetwork};
+ghost use Rattle.flow_model.specs.Walk.{PassesOver};
+ghost use Rattle.dijkstra_paths.specs.Arcs.{arcs_over, arcs_from};
+
+use flow_model::{Cell, Net};
+use mcf_limits::MAX_CELLS;
+use std::alloc::{AllocError, Global};
+use std::marker::Model;
+use std::snapshot::Snapshot;
+
+/// A way over a positive cell.
+#[derive(Clone, Copy, Debug, PartialEq, Eq)]
+pub struct Arc {
+    pub cell: u16,
+    pub to: u16,
+}
+
+/// The arcs of a network. It is seen as that network.
+#[derive(Drop)]
+pub struct Graph {
+    net: Snapshot<Net>,
+    nodes: u16,
+    first: Vec<u32>,
+    arcs: Vec<Arc>,
+}
+
+impl Model for Graph {
+    ghost use Rattle.std.specs.Prelude.{◌≡◌};
+    ghost use Rattle.flow_model.specs.Network.{Network, IsNetwork};
+
+    ghost Value = { Network };
+
+    ghost use Rattle.dijkstra_paths.specs.Arcs.{AreArcs};
+
+    ghost view = { λ g. g.net.value };
+
+    ghost invariant = { λ g. IsNetwork g.net.value × (g.nodes ≡ g.net.value.nodes) × AreArcs g.net.value.cells g.net.value.nodes g.first.items g.arcs.items };
+}
+
+/// The arc over this cell from the node, if one may go over it from there.
+fn arc_of(cell: &Cell, number: u16, from: u16) -> Option<Arc>
+    ensures { option_to_list result ≡ arcs_over cell.now number from }
+{
+    if cell.cap == 0 {
+        None
+    } else if cell.tail == from {
+        Some(Arc {
+            cell: number,
+            to: cell.head,
+        })
+    } else if cell.both && cell.head == from {
+        Some(Arc {
+            cell: number,
+            to: cell.tail,
+        })
+    } else {
+        None
+    }
+}
+
+/// Appends the arcs from a node, in the order of cells.
+fn append_arcs(cells: &[Cell], from: u16, arcs: &mut Vec<Arc>) -> Result<(), AllocError>
+    requires { length cells.now ≤ MAX_CELLS }
+    ensures { OnOk result (arcs.new.items ≡ arcs.old.items ++ arcs_from cells.now 0 from) }
+{
+    for (number, cell) in cells.iter().enumerate() {
+        if let Some(arc) = arc_of(cell, number as u16, from) {
+            arcs.push(arc)?;
+        }
+    }
+    Ok(())
+}
+
+/// The arcs from one place up to another.
+#[inline(always)]
+fn part(arcs: &[Arc], start: usize, end: usize) -> &[Arc]
+    requires start { start ≤ end }
+    requires end { end ≤ length arcs.now }
+    ensures { result.now ≡ slice_range arcs.now start end }
+{
+    &arcs[start..end]
+}
+
+impl Graph {
+    pub fn new(alloc: Global, net: &Net) -> Result<Self, AllocError>
+        ensures { IfOk result (λ g. g ≡ net.now) }
+    {
+        let cells = net.cells();
+        let mut first = Vec::new(alloc);
+        let mut arcs = Vec::new(alloc);
+        for from in 0..net.nodes() {
+            first.push(arcs.len() as u32)?;
+            append_arcs(cells, from, &mut arcs)?;
+        }
+        first.push(arcs.len() as u32)?;
+        Ok(Graph {
+            net: Snapshot::of(net),
+            nodes: net.nodes(),
+            first,
+            arcs,
+        })
+    }
+
+    pub fn nodes(&self) -> u16
+        ensures value { result ≡ self.now.nodes }
+        ensures net { IsNetwork self.now }
+    {
+        self.nodes
+    }
+
+    /// The node's part of the list.
+    #[inline(always)]
+    fn arcs_at(&self, from: u16) -> &[Arc]
+        requires { from < self.now.nodes }
+        ensures value { result.now ≡ arcs_from self.now.cells 0 from }
+        ensures over { All (λ arc. PassesOver self.now.cells arc.cell from arc.to) result.now }
+        ensures each { (c x : ℕ) → PassesOver self.now.cells c from x → Contains result.now (record { cell = c; to = x }) }
+        ensures net { IsNetwork self.now }
+    {
+        let at = from as usize;
+        let first = self.first.as_slice();
+        let start = first[at] as usize;
+        let end = first[at + 1] as usize;
+        part(&self.arcs, start, end)
+    }
+
+    /// Every way from the node over a positive cell, in the order of cells.
+    /// A cell from the node to itself stands once.
+    #[inline(always)]
+    pub fn out(&self, from: u16) -> &[Arc]
+        requires { from < self.now.nodes }
+        ensures value { result.now ≡ arcs_from self.now.cells 0 from }
+        ensures over { All (λ arc. PassesOver self.now.cells arc.cell from arc.to) result.now }
+        ensures each { (c x : ℕ) → PassesOver self.now.cells c from x → Contains result.now (record { cell = c; to = x }) }
+        ensures net { IsNetwork self.now }
+    {
+        self.arcs_at(from)
+    }
+}

@@ -1,0 +1,49 @@
+-- A phase that is being added: its first entries, with their rows.
+use Rattle.std.specs.Prelude.{◌≡◌, ℕ, ◌+◌, ◌*◌, ◌<◌, ◌≤◌, List, [], ◌∷◌, ◌++◌, All, Contains, Option, MatchOption, Some, length, slice_get, slice_index_or}
+use Rattle.flow_model.specs.Network.{Network}
+use Rattle.flow_model.specs.Routing.{Row}
+use Rattle.flow_paths.specs.PathRows.{row_at, HasNoRow, IsFirstRow}
+use Rattle.phase_engine.specs.declared.hand.Hand.{Hand}
+use Rattle.solver_run.specs.declared.options.Entry.{Entry}
+use Rattle.solver_run.specs.History.{path_named, IsWeighed, NamesRows}
+use Rattle.flow_solver.specs.declared.places.Place.{Place}
+use Rattle.flow_solver.specs.Rows.{AreApart}
+
+abbrev pub no_place : Place
+no_place = record { hand = 0; path = record { ref_ptr = (0, 0); now = [] } }
+
+-- the number is w, and this hand has routed the commodity along the path
+pub record IsPlaceAt (w : ℕ) (hand : Hand) (k : ℕ) (p : Place) : Type 0 where
+  pub hand_is : p.hand ≡ w
+  pub along : Contains hand.routes (record { commodity = k; path = p.path.now })
+
+-- the path of commodity k
+abbrev pub path_at : List Place → ℕ → List ℕ
+path_at places k = (slice_index_or places k no_place).path.now
+
+-- the first row of commodity k and of its path, or none where there is none
+pub record IsRowFor (rows : List Row) (places : List Place) (k : ℕ) (row : Option ℕ) : Type 0 where
+  pub is : MatchOption row (HasNoRow rows k (path_at places k)) (IsFirstRow rows k (path_at places k))
+
+-- rows are appended, and the old ones keep their commodity and path
+pub record KeepsRows (old new : List Row) : Type 0 where
+  pub more : length old ≤ length new
+  pub commodity : (n : ℕ) → n < length old → (row_at new n).commodity ≡ (row_at old n).commodity
+  pub walk : (n : ℕ) → n < length old → (row_at new n).walk ≡ (row_at old n).walk
+
+-- the phases and the first entries of one more have these rows
+pub record AreBegun (net : Network) (history : List (List Entry)) (entries : List Entry) (rows : List Row) : Type 0 where
+  pub apart : AreApart rows
+  pub before : All (NamesRows net rows) history
+  pub begun : (k : ℕ) (e : Entry) → slice_get entries k ≡ Some e → (e.row < length rows) × ((row_at rows e.row).commodity ≡ k)
+  pub weighed : (n : ℕ) (row : Row) → slice_get rows n ≡ Some row → IsWeighed net (history ++ entries ∷ []) n row
+  pub few : length rows ≤ length net.commodities * length history + length entries
+
+-- the entry's worker is the hand at its commodity's place, and its row is of the path there
+pub record IsNamedAt (places : List Place) (rows : List Row) (k : ℕ) (e : Entry) : Type 0 where
+  pub worker : e.worker ≡ (slice_index_or places k no_place).hand
+  pub path : path_named rows e ≡ path_at places k
+
+-- so for each entry
+pub record AreNamed (places : List Place) (rows : List Row) (entries : List Entry) : Type 0 where
+  pub each : (k : ℕ) (e : Entry) → slice_get entries k ≡ Some e → IsNamedAt places rows k e

@@ -1,0 +1,178 @@
+//! The paths and entries of a run.
+
+ghost use Rattle.std.specs.Prelude.{◌≡◌};
+
+use crate::entries::Entries;
+use crate::found::found_rows;
+use crate::places::{Place, places_of};
+use flow_model::Net;
+use flow_paths::{PathStore, new_numbers, order_of, stored};
+use mcf_limits::{MAX_LENGTH, MAX_PHASES, MAX_WORK, MAX_WORKERS};
+use phase_engine::Hand;
+use solver_run::Entry;
+use std::alloc::{AllocError, Global};
+use std::marker::Model;
+use std::thread::Threads;
+
+/// Path rows with weights, and for each phase an entry for each commodity, which names a row. Contracts see how
+/// many commodities there are, the rows, and a list of phases.
+#[derive(Drop)]
+pub struct PathHistory {
+    paths: PathStore,
+    entries: Entries,
+}
+
+/// The rows in ascending order of commodity and then cells, and the entries, which name them by their new numbers.
+#[derive(Drop)]
+pub struct OrderedHistory {
+    pub paths: PathStore,
+    pub entries: Entries,
+}
+
+impl Model for PathHistory {
+    ghost use Rattle.std.specs.Prelude.{All, length};
+    ghost use Rattle.flow_solver.specs.Phases.{NamesBelow};
+    ghost use Rattle.flow_solver.specs.Rows.{HistoryView};
+
+    ghost Value = { HistoryView };
+
+    ghost view = { λ h. record { commodities = h.entries.commodities; rows = h.paths; history = h.entries.phases } };
+
+    ghost invariant = { λ h. All (NamesBelow (length h.paths)) h.entries.phases };
+}
+
+impl PathHistory {
+    ghost use Rattle.std.specs.Prelude.{◌≡◌, ℕ, ◌+◌, ◌*◌, ◌<◌, ◌≤◌, ◌++◌, ◌∷◌, [], List, None, OnOk, OnErr, IfOk, MatchOption, length, map, slice_index_or};
+    ghost use Rattle.flow_model.specs.Network.{Network};
+    ghost use Rattle.flow_paths.specs.PathRows.{row_at, HasNoRow, IsFirstRow, Adds};
+    ghost use Rattle.flow_core.specs.Phase.{Routed};
+    ghost use Rattle.solver_run.specs.History.{routed_in, AreRowsOf};
+    ghost use Rattle.flow_solver.specs.Rows.{phases_kept, AreRowsFor};
+    ghost use Rattle.flow_solver.specs.Routes.{IsRoutedOnce, HaveRouted};
+    ghost use Rattle.flow_solver.specs.Adding.{IsRowFor, KeepsRows, AreBegun, AreNamed};
+
+    /// No phase and no row, for the commodities of the network.
+    pub fn new(alloc: Global, net: &Net) -> Self
+        ensures value { result ≡ record { commodities = length net.now.commodities; rows = []; history = [] } }
+        ensures rows { AreRowsFor net.now [] [] }
+    {
+        PathHistory {
+            paths: PathStore::new(alloc),
+            entries: Entries::new(alloc, net.commodities().len() as u32),
+        }
+    }
+
+    /// How many phases there are.
+    pub fn phases(&self) -> u32
+        ensures { result ≡ length self.now.history }
+    {
+        self.entries.phases()
+    }
+
+    /// Adds a path to the rows: its row grows where it was found, and else there is none, so one is appended.
+    fn add_path(
+        &mut self,
+        found: Option<u32>,
+        k: u32,
+        path: &[u16],
+        amount: u64,
+    ) -> Result<u32, AllocError>
+        requires found { MatchOption found (HasNoRow self.old.rows k path.now) (IsFirstRow self.old.rows k path.now) }
+        requires room { length self.old.rows < 4294967295 }
+        requires amount { amount ≤ MAX_LENGTH }
+        requires weight { (n : ℕ) → IsFirstRow self.old.rows k path.now n → (row_at self.old.rows n).weight + amount ≤ MAX_LENGTH }
+        ensures commodities { self.new.commodities ≡ self.old.commodities }
+        ensures history { self.new.history ≡ self.old.history }
+        ensures ok { IfOk result (Adds self.old.rows self.new.rows k path.now amount) }
+        ensures err { OnErr result (self.new.rows ≡ self.old.rows) }
+    {
+        match found {
+            Some(row) => {
+                self.paths.grow(row, amount);
+                Ok(row)
+            }
+            None => self.paths.push(k, path, amount),
+        }
+    }
+
+    /// Adds the path of each commodity to the rows, as it was found among them or not, and answers the entries.
+    fn name_rows(
+        &mut self,
+        alloc: Global,
+        net: &Net,
+        places: &[Place],
+        found: &[Option<u32>],
+    ) -> Result<Vec<Entry>, AllocError>
+        requires rows { AreRowsFor net.now self.old.history self.old.rows }
+        requires phases { length self.old.history < MAX_PHASES }
+        requires work { length net.now.commodities * (length self.old.history + 1) ≤ MAX_WORK }
+        requires count { length places.now ≡ length net.now.commodities }
+        requires found_count { length found.now ≡ length net.now.commodities }
+        requires found { (k : ℕ) → k < length net.now.commodities → IsRowFor self.old.rows places.now k (slice_index_or found.now k None) }
+        ensures commodities { self.new.commodities ≡ self.old.commodities }
+        ensures history { self.new.history ≡ self.old.history }
+        ensures keeps { KeepsRows self.old.rows self.new.rows }
+        ensures count { IfOk result (λ v. length v.items ≡ length net.now.commodities) }
+        ensures begun { IfOk result (λ v. AreBegun net.now self.old.history v.items self.new.rows) }
+        ensures named { IfOk result (λ v. AreNamed places.now self.new.rows v.items) }
+    {
+        let commodities = net.commodities();
+        let mut entries = Vec::with_capacity(alloc, commodities.len())?;
+        for k in 0..commodities.len() {
+            let row = self.add_path(found[k], k as u32, places[k].path, commodities[k].amount)?;
+            entries.push(Entry {
+                worker: places[k].hand,
+                row,
+            })?;
+        }
+        self.paths.index_rows()?;
+        Ok(entries)
+    }
+
+    /// Appends the phase that the hands have routed: each path is found among the rows, which grow by the
+    /// commodity's amount, or appended. The rows are found in as many threads as there are hands, where that pays.
+    /// `Err` is for want of memory: the phases are as before, but weights may have grown, so nothing more can be
+    /// added.
+    pub fn add_phase<R: Threads + Sync>(
+        &mut self,
+        rt: &R,
+        alloc: Global,
+        net: &Net,
+        hands: &[Hand],
+    ) -> Result<(), AllocError>
+        requires commodities { self.old.commodities ≡ length net.now.commodities }
+        requires rows { AreRowsFor net.now self.old.history self.old.rows }
+        requires phases { length self.old.history < MAX_PHASES }
+        requires work { self.old.commodities * (length self.old.history + 1) ≤ MAX_WORK }
+        requires hands { length hands.now ≤ MAX_WORKERS }
+        requires routes { HaveRouted net.now hands.now }
+        ensures commodities { self.new.commodities ≡ self.old.commodities }
+        ensures rows { OnOk result (AreRowsFor net.now self.new.history self.new.rows) }
+        ensures phases { OnOk result ((entries : List Routed) → IsRoutedOnce net.now hands.now entries → phases_kept self.new ≡ phases_kept self.old ++ entries ∷ []) }
+        ensures err { OnErr result (phases_kept self.new ≡ phases_kept self.old) }
+    {
+        let places = places_of(alloc, net, hands)?;
+        let found = found_rows(rt, alloc, hands.len(), &self.paths, &places)?;
+        let entries = self.name_rows(alloc, net, &places, &found)?;
+        self.entries.push(&entries)?;
+        Ok(())
+    }
+
+    /// The same phases, with the rows in ascending order of commodity and then cells.
+    pub fn ordered(self, alloc: Global) -> Result<OrderedHistory, AllocError>
+        ensures commodities { IfOk result (λ r. r.entries.commodities ≡ self.commodities) }
+        ensures phases { IfOk result (λ r. map (routed_in r.paths) r.entries.phases ≡ phases_kept self) }
+        ensures rows { IfOk result (λ r. (net : Network) → AreRowsFor net self.history self.rows → AreRowsOf net r.entries.phases r.paths) }
+    {
+        let PathHistory { paths, entries } = self;
+        let mut entries = entries;
+        let order = order_of(alloc, &paths)?;
+        let numbers = new_numbers(alloc, &order)?;
+        let paths = stored(alloc, &paths, &order)?;
+        entries.renumber(&numbers);
+        Ok(OrderedHistory { paths, entries })
+    }
+}
+
+#[cfg(test)]
+mod tests;

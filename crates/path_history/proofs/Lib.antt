@@ -1,8 +1,0 @@
-pub mod ByPhase
-pub mod Adds
-pub mod Times
-pub mod OneMore
-pub mod Placed
-pub mod Named
-pub mod RowsFound
-pub mod Renumbered

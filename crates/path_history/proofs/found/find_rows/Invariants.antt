@@ -1,5 +1,0 @@
-use Rattle.path_history.proofs.RowsFound.{AreFound}
-use Rattle.path_history.proofs.found.find_rows.Given as goal
-
-abbrev pub invariant-loop-i : goal.invariant-loop-i
-invariant-loop-i l = AreFound l.store l.places l.first l.i l.rows

@@ -1,9 +1,0 @@
-use Rattle.std.proofs.Common.{◌≡◌, length}
-use Rattle.path_history.proofs.Placed.{ArePlaced}
-use Rattle.path_history.proofs.places.places_of.Given as goal
-
-abbrev pub invariant-loop-w : goal.invariant-loop-w
-invariant-loop-w l = record {
-  count : length l.places.items ≡ length l.fn.net.commodities;
-  placed : ArePlaced l.hands l.places.items l.w;
-}

@@ -1,4 +1,0 @@
-pub mod Phases
-pub mod Rows
-pub mod Routes
-pub mod Adding

@@ -1,5 +1,0 @@
-use Rattle.path_rows.proofs.FirstFullest.{first-fullest, none-loaded}
-use Rattle.path_rows.proofs.laws.fullest_is_first_of_the_least.Goals as goal
-
-pub returns : goal.returns
-returns c = record { some = λ cells loads c e inside some. first-fullest cells loads c e inside some; none = λ cells loads h. none-loaded cells loads h }

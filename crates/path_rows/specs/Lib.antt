@@ -1,6 +1,0 @@
-pub mod Least
-pub mod Fullness
-pub mod Fullest
-pub mod RowOrder
-pub mod Ordering
-pub mod Sorted

@@ -1,0 +1,265 @@
+-- How the one worker of a view gets on.
+use Rattle.std.proofs.Common.{◌≡◌, ◌≢◌, ℕ, zero, suc, ◌+◌, ◌-◌, ◌*◌, ◌<◌, ◌≤◌, Bool, true, false, ◌||◌, ◌&&◌, nat_eq, List, [], ◌∷◌, ◌++◌, take, length, get_or, refl, sym, ap, ◌∙◌, subst, arith, add-one, append_assoc, append-nil, ne_eqb}
+use Rattle.std.proofs.Math.Nat.{suc-mul}
+use Rattle.std.specs.Prelude.{All}
+use Rattle.std.specs.List.Sorted.{IsStrictlyIncreasing}
+use Rattle.std.proofs.lemmas.List.{take_more, map_push, get_or-take, length-take}
+use Rattle.std.proofs.lemmas.List.Kept.{AllPairs-from_increasing}
+use Rattle.flow_model.specs.Network.{Network}
+use Rattle.flow_model.specs.Least.{AreDifferent}
+use Rattle.dijkstra_paths.specs.Searched.{Searched}
+use Rattle.phase_engine.specs.Found.{known_path, to_at, routes_to}
+use Rattle.flow_core.specs.declared.state.Entry.{Entry}
+use Rattle.flow_core.specs.declared.state.Worker.{Worker}
+use Rattle.flow_core.specs.Core.{Terms, entry, worker, has, is_pair, cell_count, NotBelowLast, LastMayAdd, with_read, with_add, has_read, has_added}
+use Rattle.load_table.specs.declared.view.View.{View}
+use Rattle.load_table.specs.declared.view.Hand.{Hand}
+use Rattle.load_table.specs.Views.{hand, view_of, first_works, with_work}
+use Rattle.load_table.specs.Rule.{MayRead, MayAdd, LastReads}
+use Rattle.phase_engine.specs.Routes.{Route}
+use Rattle.phase_engine.specs.Steps.{LastWhere, OneWhere, IsFresh, IsReadyFor, IsReadyForAll, put_reads, reads_all, more_adds, adds_all, HasAddedAll, adds_along, adds_of}
+
+-- two steps of the first worker are one
+works-works : (f g h : Worker → Worker) → ((u : Worker) → f (g u) ≡ h u) → (hs : List Hand) → first_works f (first_works g hs) ≡ first_works h hs
+works-works f g h same [] = refl
+works-works f g h same (x ∷ xs) = ap (λ (u : Worker). hand x.number u ∷ xs) (same x.work)
+
+pub with-with : (f g h : Worker → Worker) → ((u : Worker) → f (g u) ≡ h u) → (v : View) → with_work f (with_work g v) ≡ with_work h v
+with-with f g h same v = ap (view_of v.terms v.left v.made) (works-works f g h same v.hands)
+
+-- a step that changes nothing where the fact holds
+same-work : (P : Entry → Type 0) (f : Worker → Worker) → ((u : Worker) → LastWhere P u.log → u ≡ f u) → (v : View) → OneWhere P v.hands → v ≡ with_work f v
+same-work P f same v one = ap (view_of v.terms v.left v.made) (hands v.hands one)
+  where
+    hands : (hs : List Hand) → OneWhere P hs → hs ≡ first_works f hs
+    hands [] h = absurd h
+    hands (x ∷ []) h = ap (λ (u : Worker). hand x.number u ∷ []) (same x.work h)
+    hands (x ∷ y ∷ xs) h = absurd h
+
+-- reads
+
+reads-more : (x : ℕ) (rs : List ℕ) (u : Worker) → has_read x (reads_all rs u) ≡ reads_all (rs ++ x ∷ []) u
+reads-more x rs u = ap (λ (l : List Entry). worker l u.stopped u.ticket u.found) (log u.log)
+  where
+    log : (l : List Entry) → with_read x (put_reads rs l) ≡ put_reads (rs ++ x ∷ []) l
+    log [] = refl
+    log (e ∷ es) = refl
+
+pub reads_one : (x : ℕ) (rs : List ℕ) (v w : View) → w ≡ with_work (reads_all rs) v → with_work (has_read x) w ≡ with_work (reads_all (rs ++ x ∷ [])) v
+reads_one x rs v w is = ap (with_work (has_read x)) is ∙ with-with (has_read x) (reads_all rs) (reads_all (rs ++ x ∷ [])) (reads-more x rs) v
+
+pub reads_none : (v : View) → OneWhere IsFresh v.hands → v ≡ with_work (reads_all []) v
+reads_none v one = same-work IsFresh (reads_all []) (λ u h. ap (λ (l : List Entry). worker l u.stopped u.ticket u.found) (log u.log h)) v one
+  where
+    log : (l : List Entry) → LastWhere IsFresh l → l ≡ put_reads [] l
+    log [] h = absurd h
+    log (e ∷ es) h = ap (λ (rs : List ℕ). entry e.ticket rs e.adds ∷ es) h.0
+
+pub may_read : (t : Terms) (c : ℕ) (rs : List ℕ) (v w : View) → OneWhere IsFresh v.hands → w ≡ with_work (reads_all rs) v → length rs ≡ c → c < cell_count t → MayRead t c w.hands
+may_read t c rs v w one is here few = subst (λ (x : View). MayRead t c x.hands) (sym is) (hands v.hands one)
+  where
+    log : (l : List Entry) → LastWhere IsFresh l → LastReads t c (put_reads rs l)
+    log [] h = absurd h
+    log (e ∷ es) h = (here, few, h.1)
+
+    hands : (hs : List Hand) → OneWhere IsFresh hs → MayRead t c (first_works (reads_all rs) hs)
+    hands [] h = absurd h
+    hands (x ∷ []) h = log x.work.log h
+    hands (x ∷ y ∷ xs) h = absurd h
+
+-- adds
+
+adds-more : (k c x : ℕ) (ps : List (ℕ × ℕ)) (xs : List ℕ) (u : Worker) → has_added k c x (adds_all ps xs u) ≡ adds_all (ps ++ (k, c) ∷ []) (xs ++ x ∷ []) u
+adds-more k c x ps xs u = λ i. worker (log u.log i) u.stopped u.ticket (append_assoc u.found xs (x ∷ []) i)
+  where
+    log : (l : List Entry) → with_add k c (more_adds ps l) ≡ more_adds (ps ++ (k, c) ∷ []) l
+    log [] = refl
+    log (e ∷ es) = ap (λ (qs : List (ℕ × ℕ)). entry e.ticket e.reads qs ∷ es) (append_assoc e.adds ps ((k, c) ∷ []))
+
+adds-twice : (ps qs : List (ℕ × ℕ)) (xs ys : List ℕ) (u : Worker) → adds_all qs ys (adds_all ps xs u) ≡ adds_all (ps ++ qs) (xs ++ ys) u
+adds-twice ps qs xs ys u = λ i. worker (log u.log i) u.stopped u.ticket (append_assoc u.found xs ys i)
+  where
+    log : (l : List Entry) → more_adds qs (more_adds ps l) ≡ more_adds (ps ++ qs) l
+    log [] = refl
+    log (e ∷ es) = ap (λ (xs : List (ℕ × ℕ)). entry e.ticket e.reads xs ∷ es) (append_assoc e.adds ps qs)
+
+adds-nothing : (u : Worker) → u ≡ adds_all [] [] u
+adds-nothing u = λ i. worker (log u.log i) u.stopped u.ticket (sym (append-nil u.found) i)
+  where
+    log : (l : List Entry) → l ≡ more_adds [] l
+    log [] = refl
+    log (e ∷ es) = ap (λ (xs : List (ℕ × ℕ)). entry e.ticket e.reads xs ∷ es) (sym (append-nil e.adds))
+
+pub adds_none : (v : View) → HasAddedAll [] v v
+adds_none v = ([], ap (view_of v.terms v.left v.made) (hands v.hands))
+  where
+    hands : (hs : List Hand) → hs ≡ first_works (adds_all [] []) hs
+    hands [] = refl
+    hands (x ∷ xs) = ap (λ (u : Worker). hand x.number u ∷ xs) (adds-nothing x.work)
+
+pub adds_one : (k c x : ℕ) (ps : List (ℕ × ℕ)) (v w y : View) → HasAddedAll ps v w → y ≡ with_work (has_added k c x) w → HasAddedAll (ps ++ (k, c) ∷ []) v y
+adds_one k c x ps v w y h now =
+    let xs = h.0 in
+    (xs ++ x ∷ [], now ∙ (ap (with_work (has_added k c x)) h.1 ∙ with-with (has_added k c x) (adds_all ps xs) (adds_all (ps ++ (k, c) ∷ []) (xs ++ x ∷ [])) (adds-more k c x ps xs) v))
+
+pub adds_two : (ps qs : List (ℕ × ℕ)) (v w x : View) → HasAddedAll ps v w → HasAddedAll qs w x → HasAddedAll (ps ++ qs) v x
+adds_two ps qs v w x h g =
+    let xs = h.0 in
+    let ys = g.0 in
+    (xs ++ ys, g.1 ∙ (ap (with_work (adds_all qs ys)) h.1 ∙ with-with (adds_all qs ys) (adds_all ps xs) (adds_all (ps ++ qs) (xs ++ ys)) (adds-twice ps qs xs ys) v))
+
+-- whether an add may come
+
+has-append : (k c : ℕ) (xs ys : List (ℕ × ℕ)) → has k c xs ≡ false → has k c ys ≡ false → has k c (xs ++ ys) ≡ false
+has-append k c [] ys a b = b
+has-append k c (x ∷ xs) ys a b = both (is_pair k c x) (has k c xs) a (λ r. has-append k c xs ys r b)
+  where
+    both : (p q : Bool) → (p || q) ≡ false → (q ≡ false → has k c (xs ++ ys) ≡ false) → (p || has k c (xs ++ ys)) ≡ false
+    both true q h f = h
+    both false q h f = f h
+
+head-all : {A : Type 0} (P : A → Type 0) (x : A) (xs : List A) → All P (x ∷ xs) → P x
+head-all P x xs h = h 0 x (omega arith)
+
+tail-all : {A : Type 0} (P : A → Type 0) (x : A) (xs : List A) → All P (x ∷ xs) → All P xs
+tail-all P x xs h = λ j d l. h (suc j) d (omega arith)
+
+no-pair : (k c : ℕ) (x : ℕ × ℕ) → k ≢ x.0 → is_pair k c x ≡ false
+no-pair k c x n = ap (λ (b : Bool). b && nat_eq c x.1) (ne_eqb k x.0 n)
+
+has-below : (k c : ℕ) (xs : List (ℕ × ℕ)) → All (λ (x : ℕ × ℕ). x.0 < k) xs → has k c xs ≡ false
+has-below k c [] h = refl
+has-below k c (x ∷ xs) h =
+    let less : x.0 < k = head-all (λ (x : ℕ × ℕ). x.0 < k) x xs h in
+    ap (λ (b : Bool). b || has k c xs) (no-pair k c x (λ e. omega arith)) ∙ has-below k c xs (tail-all (λ (x : ℕ × ℕ). x.0 < k) x xs h)
+
+has-along : (k c : ℕ) (path : List ℕ) → ((j : ℕ) → j < length path → get_or path j 0 ≢ c) → has k c (adds_along k path) ≡ false
+has-along k c [] h = refl
+has-along k c (x ∷ xs) h =
+    let off : nat_eq c x ≡ false = ne_eqb c x (λ e. h 0 (omega arith) (sym e)) in
+    ap (λ (b : Bool). (nat_eq k k && b) || has k c (adds_along k xs)) off ∙ (ap (λ (b : Bool). b || has k c (adds_along k xs)) (and-false (nat_eq k k)) ∙ has-along k c xs (λ j l. h (suc j) (omega arith)))
+  where
+    and-false : (b : Bool) → (b && false) ≡ false
+    and-false true = refl
+    and-false false = refl
+
+not-below : (k : ℕ) (xs : List (ℕ × ℕ)) → All (λ (x : ℕ × ℕ). x.0 ≤ k) xs → NotBelowLast k xs
+not-below k [] h = tt
+not-below k (x ∷ []) h = head-all (λ (x : ℕ × ℕ). x.0 ≤ k) x [] h
+not-below k (x ∷ y ∷ xs) h = not-below k (y ∷ xs) (tail-all (λ (x : ℕ × ℕ). x.0 ≤ k) x (y ∷ xs) h)
+
+all-cons : {A : Type 0} (P : A → Type 0) (x : A) (xs : List A) → P x → All P xs → All P (x ∷ xs)
+all-cons P x xs p h zero d l = p
+all-cons P x xs p h (suc j) d l = h j d (omega arith)
+
+all-nil : {A : Type 0} (P : A → Type 0) → All P []
+all-nil P = λ j d l. absurd (omega arith)
+
+all-append : {A : Type 0} (P : A → Type 0) (xs ys : List A) → All P xs → All P ys → All P (xs ++ ys)
+all-append P [] ys a b = b
+all-append P (x ∷ xs) ys a b = all-cons P x (xs ++ ys) (head-all P x xs a) (all-append P xs ys (tail-all P x xs a) b)
+
+all-weaker : {A : Type 0} (P Q : A → Type 0) → ((x : A) → P x → Q x) → (xs : List A) → All P xs → All Q xs
+all-weaker P Q f [] h = all-nil Q
+all-weaker P Q f (x ∷ xs) h = all-cons Q x xs (f x (head-all P x xs h)) (all-weaker P Q f xs (tail-all P x xs h))
+
+all-along : (P : ℕ × ℕ → Type 0) (k : ℕ) (path : List ℕ) → ((c : ℕ) → P (k, c)) → All P (adds_along k path)
+all-along P k [] f = all-nil P
+all-along P k (c ∷ cs) f = all-cons P (k, c) (adds_along k cs) (f c) (all-along P k cs f)
+
+pub may_add : (t : Terms) (k c : ℕ) (path : List ℕ) (v w : View) → OneWhere (IsReadyFor t k) v.hands → HasAddedAll (adds_along k path) v w → c < cell_count t → ((j : ℕ) → j < length path → get_or path j 0 ≢ c) → MayAdd t k c w.hands
+may_add t k c path v w one is few new = subst (λ (x : View). MayAdd t k c x.hands) (sym is.1) (hands v.hands one)
+  where
+    log : (l : List Entry) → LastWhere (IsReadyFor t k) l → LastMayAdd t k c (more_adds (adds_along k path) l)
+    log [] h = absurd h
+    log (e ∷ es) h = (
+      h.0,
+      h.1,
+      h.2,
+      not-below k (e.adds ++ adds_along k path) (all-append (λ (x : ℕ × ℕ). x.0 ≤ k) e.adds (adds_along k path)
+          (all-weaker (λ (x : ℕ × ℕ). x.0 < k) (λ (x : ℕ × ℕ). x.0 ≤ k) (λ x less. omega arith) e.adds h.3) (all-along (λ (x : ℕ × ℕ). x.0 ≤ k) k path (λ c. omega arith))),
+      has-append k c e.adds (adds_along k path) (has-below k c e.adds h.3) (has-along k c path new),
+    )
+
+    hands : (hs : List Hand) → OneWhere (IsReadyFor t k) hs → MayAdd t k c (first_works (adds_all (adds_along k path) is.0) hs)
+    hands [] h = absurd h
+    hands (x ∷ []) h = (few, log x.work.log h)
+    hands (x ∷ y ∷ xs) h = absurd h
+
+pub along-more : (k : ℕ) (path : List ℕ) (i : ℕ) → i < length path → adds_along k (take (i + 1) path) ≡ adds_along k (take i path) ++ (k, get_or path i 0) ∷ []
+along-more k path i l = ap (adds_along k) (take_more path i 0 l) ∙ map_push (λ (c : ℕ). (k, c)) (take i path) (get_or path i 0)
+
+-- a cell of a path of different cells isn't among those before it
+pub fresh-at : (path : List ℕ) (i : ℕ) → i < length path → AreDifferent path → (j : ℕ) → j < length (take i path) → get_or (take i path) j 0 ≢ get_or path i 0
+fresh-at path i l d j inside e =
+    let less : j < i = omega (arith, length-take i path) in
+    d j i less l (sym (get_or-take i path j 0 less) ∙ e)
+
+-- routes
+
+routes-more : (net : Network) (s : Searched) (ms : List ℕ) (i : ℕ) → i < length ms
+    → routes_to net s (take (i + 1) ms) ≡ routes_to net s (take i ms) ++ record { commodity = get_or ms i 0; path = known_path s (to_at net (get_or ms i 0)) } ∷ []
+routes-more net s ms i l = ap (routes_to net s) (take_more ms i 0 l) ∙ map_push (λ (k : ℕ). record { commodity = k; path = known_path s (to_at net k) }) (take i ms) (get_or ms i 0)
+
+adds-of-push : (rs : List Route) (r : Route) → adds_of (rs ++ r ∷ []) ≡ adds_of rs ++ adds_along r.commodity r.path
+adds-of-push [] r = append-nil (adds_along r.commodity r.path)
+adds-of-push (x ∷ xs) r = ap (λ (ps : List (ℕ × ℕ)). adds_along x.commodity x.path ++ ps) (adds-of-push xs r) ∙ sym (append_assoc (adds_along x.commodity x.path) (adds_of xs) (adds_along r.commodity r.path))
+
+pub group-more : (net : Network) (s s' : Searched) (ms : List ℕ) (i : ℕ) (v w x : View) → i < length ms → s' ≡ s → HasAddedAll (adds_of (routes_to net s (take i ms))) v w
+    → HasAddedAll (adds_along (get_or ms i 0) (known_path s' (to_at net (get_or ms i 0)))) w x → HasAddedAll (adds_of (routes_to net s (take (i + 1) ms))) v x
+group-more net s s' ms i v w x l same before now =
+    let k = get_or ms i 0 in
+    let path = known_path s (to_at net k) in
+    let now' : HasAddedAll (adds_along k path) w x = subst (λ (s : Searched). HasAddedAll (adds_along k (known_path s (to_at net k))) w x) same now in
+    let more : adds_of (routes_to net s (take (i + 1) ms)) ≡ adds_of (routes_to net s (take i ms)) ++ adds_along k path =
+    ap adds_of (routes-more net s ms i l) ∙ adds-of-push (routes_to net s (take i ms)) (record { commodity = k; path = path }) in
+    subst (λ (ps : List (ℕ × ℕ)). HasAddedAll ps v x) (sym more) (adds_two (adds_of (routes_to net s (take i ms))) (adds_along k path) v w x before now')
+
+pub routes-next : (net : Network) (s s' : Searched) (ms : List ℕ) (i : ℕ) (old before now : List Route) → i < length ms → s' ≡ s → before ≡ old ++ routes_to net s (take i ms)
+    → now ≡ before ++ record { commodity = get_or ms i 0; path = known_path s' (to_at net (get_or ms i 0)) } ∷ [] → now ≡ old ++ routes_to net s (take (i + 1) ms)
+routes-next net s s' ms i old before now l same b n =
+    let k = get_or ms i 0 in
+    let n' : now ≡ before ++ record { commodity = k; path = known_path s (to_at net k) } ∷ [] = subst (λ (s : Searched). now ≡ before ++ record { commodity = k; path = known_path s (to_at net k) } ∷ []) same n in
+    n' ∙ (ap (λ (xs : List Route). xs ++ record { commodity = k; path = known_path s (to_at net k) } ∷ []) b
+    ∙ (append_assoc old (routes_to net s (take i ms)) (record { commodity = k; path = known_path s (to_at net k) } ∷ []) ∙ ap (λ (xs : List Route). old ++ xs) (sym (routes-more net s ms i l))))
+
+below-adds : (net : Network) (s : Searched) (k : ℕ) (ms : List ℕ) → All (λ m. m < k) ms → All (λ (x : ℕ × ℕ). x.0 < k) (adds_of (routes_to net s ms))
+below-adds net s k [] h = all-nil (λ (x : ℕ × ℕ). x.0 < k)
+below-adds net s k (m ∷ ms) h =
+    let less : m < k = head-all (λ m. m < k) m ms h in
+    all-append (λ (x : ℕ × ℕ). x.0 < k) (adds_along m (known_path s (to_at net m))) (adds_of (routes_to net s ms)) (all-along (λ (x : ℕ × ℕ). x.0 < k) m (known_path s (to_at net m)) (λ c. less)) (below-adds net s k ms (tail-all (λ m. m < k) m ms h))
+
+before-below : (ms : List ℕ) (i : ℕ) → i < length ms → IsStrictlyIncreasing ms → All (λ m. m < get_or ms i 0) (take i ms)
+before-below ms i l up = λ j d inside.
+    let less : j < i = omega (arith, length-take i ms) in
+    let pairs = AllPairs-from_increasing ms up in
+    let is : get_or (take i ms) j d ≡ get_or ms j d = get_or-take i ms j d less in
+    let same : get_or ms j d ≡ get_or ms j 0 = any-default ms j d 0 (omega arith) in
+    let below : get_or ms j 0 < get_or ms i 0 = pairs j i 0 less l in
+    omega arith
+  where
+    any-default : (xs : List ℕ) (j d e : ℕ) → j < length xs → get_or xs j d ≡ get_or xs j e
+    any-default [] j d e l = absurd (omega arith)
+    any-default (x ∷ xs) zero d e l = refl
+    any-default (x ∷ xs) (suc j) d e l = any-default xs j d e (omega arith)
+
+pub ready_next : (t : Terms) (net : Network) (s : Searched) (ms : List ℕ) (i : ℕ) (v w : View) → i < length ms → IsStrictlyIncreasing ms → OneWhere (IsReadyForAll t ms) v.hands
+    → HasAddedAll (adds_of (routes_to net s (take i ms))) v w → OneWhere (IsReadyFor t (get_or ms i 0)) w.hands
+ready_next t net s ms i v w l up one is = subst (λ (x : View). OneWhere (IsReadyFor t (get_or ms i 0)) x.hands) (sym is.1) (hands v.hands one)
+  where
+    log : (es : List Entry) → LastWhere (IsReadyForAll t ms) es → LastWhere (IsReadyFor t (get_or ms i 0)) (more_adds (adds_of (routes_to net s (take i ms))) es)
+    log [] h = absurd h
+    log (e ∷ es) h =
+        let m = h.2 i 0 l in
+        let ps = adds_of (routes_to net s (take i ms)) in
+        (h.0, m.0, m.1, subst (λ (qs : List (ℕ × ℕ)). All (λ (x : ℕ × ℕ). x.0 < get_or ms i 0) (qs ++ ps)) (sym h.1) (below-adds net s (get_or ms i 0) (take i ms) (before-below ms i l up)))
+
+    hands : (hs : List Hand) → OneWhere (IsReadyForAll t ms) hs → OneWhere (IsReadyFor t (get_or ms i 0)) (first_works (adds_all (adds_of (routes_to net s (take i ms))) is.0) hs)
+    hands [] h = absurd h
+    hands (x ∷ []) h = log x.work.log h
+    hands (x ∷ y ∷ xs) h = absurd h
+
+pub room-left : (left n room room' : ℕ) → (left + 1) * n ≤ room → room - n ≤ room' → left * n ≤ room'
+room-left left n room room' h g =
+    let e : (left + 1) * n ≡ left * n + n = rw (add-one left) (suc-mul left n) in
+    omega arith

@@ -1,0 +1,74 @@
+use Rattle.std.proofs.Common.{arith, ℕ, List, ◌≡◌, ◌∙◌, ◌++◌, ◌<◌, length, get_or, subst, sym, ap}
+use Rattle.std.specs.Prelude.{All}
+use Rattle.std.specs.List.Sorted.{IsStrictlyIncreasing}
+use Rattle.flow_model.specs.Network.{Network}
+use Rattle.flow_model.specs.Lengths.{lengths_of}
+use Rattle.flow_model.specs.Groups.{members_of, group_sources}
+use Rattle.dijkstra_paths.specs.Searched.{Searched}
+use Rattle.flow_core.specs.Core.{IsComplete, entry}
+use Rattle.phase_engine.specs.Steps.{OneWhere, IsReadyForAll, adds_of}
+use Rattle.phase_engine.specs.Found.{HasPath, to_at, routes_to}
+use Rattle.phase_engine.proofs.Finds.{claimed-fresh, ready-all, found-all, complete-entry, routes-are, members-ascend, members-inside, source-inside, search-is}
+use Rattle.phase_engine.proofs.worker.route_ticket.Goals as goal
+
+pub read_all-requires-clause-fresh : goal.read_all-requires-clause-fresh
+read_all-requires-clause-fresh c = claimed-fresh c.args.g c.args.pass.now.view.hands c.requires.claimed
+
+pub search-requires-clause-from : goal.search-requires-clause-from
+search-requires-clause-from c =
+    let at = c.source-source.ensures ∙ ap (λ (m : Network). get_or (group_sources m) c.args.g 0) c.requires.groups in
+    let inside = source-inside c.args.net.now c.args.g c.requires.group in
+    omega (arith, c.requires.nodes)
+
+pub route_group-requires-clause-ready : goal.route_group-requires-clause-ready
+route_group-requires-clause-ready c =
+    let net = c.args.net.now in
+    let ms : c.members.result.now ≡ members_of net c.args.g = c.members.ensures ∙ ap (λ (m : Network). members_of m c.args.g) c.requires.groups in
+    let all : length c.read_all.new.reads.items ≡ length net.cells = c.read_all.ensures.count ∙ ap (λ (m : Network). length m.cells) c.requires.loads in
+    subst (λ (xs : List ℕ). OneWhere (IsReadyForAll c.args.loads.now.terms xs) c.read_all.new.pass.view.hands) (sym ms)
+    (ready-all c.args.loads.now.terms net c.args.g c.read_all.new.reads.items c.args.pass.now.view c.read_all.new.pass.view c.requires.loads c.requires.claimed c.read_all.ensures.view all)
+
+pub route_group-requires-clause-ascending : goal.route_group-requires-clause-ascending
+route_group-requires-clause-ascending c =
+    let ms : c.members.result.now ≡ members_of c.args.net.now c.args.g = c.members.ensures ∙ ap (λ (m : Network). members_of m c.args.g) c.requires.groups in
+    subst IsStrictlyIncreasing (sym ms) (members-ascend c.args.net.now c.args.g)
+
+pub route_group-requires-clause-members : goal.route_group-requires-clause-members
+route_group-requires-clause-members c =
+    let net = c.args.net.now in
+    let ms : c.members.result.now ≡ members_of net c.args.g = c.members.ensures ∙ ap (λ (m : Network). members_of m c.args.g) c.requires.groups in
+    subst (All (λ k. k < length net.commodities)) (sym ms) (members-inside net c.args.g)
+
+pub route_group-requires-clause-found : goal.route_group-requires-clause-found
+route_group-requires-clause-found c =
+    let net = c.args.net.now in
+    let s = c.search.new.self in
+    let ms : c.members.result.now ≡ members_of net c.args.g = c.members.ensures ∙ ap (λ (m : Network). members_of m c.args.g) c.requires.groups in
+    let search = search-is net c.args.graph.now c.args.groups.now c.lengths.result.now c.source-source.result c.args.g s c.requires.graph c.requires.groups c.source-source.ensures c.search.ensures.least c.search.ensures.paths in
+    let nodes : s.nodes ≡ net.nodes = c.search.ensures.nodes ∙ c.requires.nodes in
+    subst (All (λ k. HasPath net.cells s (to_at net k))) (sym ms) (found-all net c.lengths.result.now c.args.g s c.requires.network c.requires.no_cut search nodes)
+
+pub returns-clause-complete : goal.returns-clause-complete
+returns-clause-complete c =
+    let net = c.args.net.now in
+    let t = c.args.loads.now.terms in
+    let s = c.search.new.self in
+    let reads = c.read_all.new.reads.items in
+    let search = search-is net c.args.graph.now c.args.groups.now c.lengths.result.now c.source-source.result c.args.g s c.requires.graph c.requires.groups c.source-source.ensures c.search.ensures.least c.search.ensures.paths in
+    let nodes : s.nodes ≡ net.nodes = c.search.ensures.nodes ∙ c.requires.nodes in
+    let all : length reads ≡ length net.cells = c.read_all.ensures.count ∙ ap (λ (m : Network). length m.cells) c.requires.loads in
+    let n : c.update.new.self.net ≡ net = c.update.ensures.net ∙ c.requires.table.0 in
+    let set : c.update.new.self.setting ≡ t.setting = c.update.ensures.setting ∙ c.requires.table.1 in
+    let loads : c.update.new.self.loads ≡ reads = c.update.ensures.loads ∙ c.as_slice.ensures.value in
+    let under : c.lengths.result.now ≡ lengths_of net t.setting reads = c.lengths.ensures.value ∙ (λ i. lengths_of (n i) (set i) (loads i)) in
+    let whole = complete-entry t net c.lengths.result.now c.args.g s reads c.requires.loads c.requires.network c.requires.no_cut search nodes all under in
+    subst (λ (x : Searched). IsComplete t (entry c.args.g reads (adds_of (routes_to net x (members_of net c.args.g))))) (sym c.route_group.ensures.scratch) whole
+
+pub returns-clause-routes : goal.returns-clause-routes
+returns-clause-routes c =
+    let net = c.args.net.now in
+    let g = c.args.g in
+    let ms : c.members.result.now ≡ members_of net g = c.members.ensures ∙ ap (λ (m : Network). members_of m g) c.requires.groups in
+    let found : c.route_group.new.buffer.routes ≡ c.args.buffer.now.routes ++ routes_to net c.route_group.new.scratch (members_of net g) =
+    c.route_group.ensures.routes ∙ (λ i. c.args.buffer.now.routes ++ routes_to net (sym c.route_group.ensures.scratch i) (ms i)) in
+    (found, routes-are net g c.route_group.new.scratch c.read_all.new.reads.items)

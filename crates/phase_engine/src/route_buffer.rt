@@ -1,0 +1,114 @@
+//! The cells of all paths in one buffer, with room made beforehand.
+
+ghost use Rattle.std.specs.Prelude.{◌≡◌, ◌+◌, ◌-◌, ◌<◌, ◌≤◌, ◌++◌, [], ◌∷◌, length, OnOk, vec_len, vec_capacity};
+ghost use Rattle.phase_engine.specs.Routes.{Route, RouteRoom, route_of, AreSpans};
+
+use std::alloc::{AllocError, Global};
+use std::marker::Model;
+
+/// A commodity, and where the cells of its path stand.
+#[derive(Clone, Copy, Debug, PartialEq, Eq)]
+pub(crate) struct Span {
+    pub commodity: u32,
+    pub start: usize,
+    pub len: usize,
+}
+
+/// Routes. Contracts see them, and how many more routes and cells there is room for.
+#[derive(Drop)]
+pub(crate) struct RouteBuffer {
+    spans: Vec<Span>,
+    cells: Vec<u16>,
+}
+
+impl Model for RouteBuffer {
+    ghost use Rattle.std.specs.Prelude.{◌-◌, map, vec_len, vec_capacity};
+    ghost use Rattle.phase_engine.specs.Routes.{RouteRoom, route_of, AreSpans};
+
+    ghost Value = { RouteRoom };
+
+    ghost view = { λ b. record { routes = map (route_of b.cells.items) b.spans.items; paths = vec_capacity b.spans - vec_len b.spans; cells = vec_capacity b.cells - vec_len b.cells } };
+
+    ghost invariant = { λ b. AreSpans b.cells.items b.spans.items };
+}
+
+impl RouteBuffer {
+    ghost use Rattle.std.specs.Prelude.{◌≡◌, ◌+◌, ◌-◌, ◌<◌, ◌≤◌, ◌++◌, [], ◌∷◌, length, OnOk, slice_index_or};
+    ghost use Rattle.phase_engine.specs.Routes.{Route};
+
+    pub(crate) fn new(alloc: Global) -> Self
+        ensures { result.routes ≡ [] }
+    {
+        RouteBuffer {
+            spans: Vec::new(alloc),
+            cells: Vec::new(alloc),
+        }
+    }
+
+    pub(crate) fn len(&self) -> usize
+        ensures { result ≡ length self.now.routes }
+    {
+        self.spans.len()
+    }
+
+    pub(crate) fn commodity(&self, i: usize) -> u32
+        requires { i < length self.now.routes }
+        ensures { result ≡ (slice_index_or self.now.routes i (record { commodity = 0; path = [] })).commodity }
+    {
+        self.spans.as_slice()[i].commodity
+    }
+
+    pub(crate) fn path(&self, i: usize) -> &[u16]
+        requires { i < length self.now.routes }
+        ensures { result.now ≡ (slice_index_or self.now.routes i (record { commodity = 0; path = [] })).path }
+    {
+        let span = self.spans.as_slice()[i];
+        &self.cells[span.start..span.start + span.len]
+    }
+
+    pub(crate) fn clear(&mut self)
+        ensures { self.new.routes ≡ [] }
+    {
+        self.spans.clear();
+        self.cells.clear();
+    }
+
+    /// Makes room for so many more paths, of so many cells together.
+    pub(crate) fn reserve(&mut self, paths: usize, cells: usize) -> Result<(), AllocError>
+        ensures same { self.new.routes ≡ self.old.routes }
+        ensures paths { OnOk result (paths ≤ self.new.paths) }
+        ensures cells { OnOk result (cells ≤ self.new.cells) }
+    {
+        self.spans.reserve(paths)?;
+        self.cells.reserve(cells)
+    }
+
+    /// Appends a route, for which there is room.
+    pub(crate) fn push(&mut self, commodity: u32, path: &[u16])
+        requires paths { 0 < self.old.paths }
+        requires cells { length path.now ≤ self.old.cells }
+        ensures routes { self.new.routes ≡ self.old.routes ++ record { commodity = commodity; path = path.now } ∷ [] }
+        ensures paths { self.new.paths ≡ self.old.paths - 1 }
+        ensures cells { self.new.cells ≡ self.old.cells - length path.now }
+    {
+        let start = self.cells.len();
+        append(&mut self.cells, path);
+        self.spans.push_reserved(Span {
+            commodity,
+            start,
+            len: path.len(),
+        });
+    }
+}
+
+/// Appends cells, for which there is room.
+fn append(cells: &mut Vec<u16>, path: &[u16])
+    requires { vec_len cells.old + length path.now ≤ vec_capacity cells.old }
+    ensures items { cells.new.items ≡ cells.old.items ++ path.now }
+    ensures room { vec_capacity cells.new ≡ vec_capacity cells.old }
+    ensures count { vec_len cells.new ≡ vec_len cells.old + length path.now }
+{
+    for c in path {
+        cells.push_reserved(*c);
+    }
+}

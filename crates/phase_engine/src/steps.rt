@@ -1,0 +1,110 @@
+//! The steps of a worker for one claimed group: reading all cells, and adding along paths.
+
+ghost use Rattle.std.specs.Prelude.{◌≡◌, ℕ, ◌-◌, ◌*◌, ◌<◌, ◌≤◌, ◌++◌, [], ◌∷◌, All, length, vec_capacity};
+ghost use Rattle.std.specs.List.Sorted.{IsStrictlyIncreasing};
+ghost use Rattle.flow_model.specs.Least.{AreDifferent};
+ghost use Rattle.load_table.specs.Seen.{IsPassOf};
+ghost use Rattle.load_table.specs.Views.{with_work};
+ghost use Rattle.phase_engine.specs.Steps.{OneWhere, IsFresh, IsReadyFor, IsReadyForAll, reads_all, HasAddedAll, adds_along, adds_of};
+ghost use Rattle.phase_engine.specs.Found.{HasPath, known_path, routes_to, to_at};
+
+use crate::route_buffer::RouteBuffer;
+use dijkstra_paths::Scratch;
+use flow_model::Net;
+use load_table::{Loads, Pass};
+use mcf_limits::MAX_LENGTH;
+
+/// Reads all cells for the group that was claimed.
+pub(crate) fn read_all(loads: &Loads, pass: &mut Pass, reads: &mut Vec<u64>)
+    requires of { IsPassOf loads.now pass.old }
+    requires fresh { OneWhere IsFresh pass.old.view.hands }
+    requires room { length loads.now.terms.net.cells ≤ vec_capacity reads.old }
+    ensures of { IsPassOf loads.now pass.new }
+    ensures view { pass.new.view ≡ with_work (reads_all reads.new.items) pass.old.view }
+    ensures count { length reads.new.items ≡ length loads.now.terms.net.cells }
+    ensures small { All (λ x. x ≤ MAX_LENGTH) reads.new.items }
+    ensures room { vec_capacity reads.new ≡ vec_capacity reads.old }
+{
+    reads.clear();
+    for cell in 0..loads.cell_count() {
+        let load = loads.read_cell(pass, cell);
+        reads.push_reserved(load);
+    }
+}
+
+/// Adds the commodity's amount to each cell of its path.
+pub(crate) fn add_path(loads: &Loads, pass: &mut Pass, k: u32, path: &[u16])
+    requires of { IsPassOf loads.now pass.old }
+    requires ready { OneWhere (IsReadyFor loads.now.terms k) pass.old.view.hands }
+    requires inside { All (λ c. c < length loads.now.terms.net.cells) path.now }
+    requires different { AreDifferent path.now }
+    ensures of { IsPassOf loads.now pass.new }
+    ensures view { HasAddedAll (adds_along k path.now) pass.old.view pass.new.view }
+{
+    for cell in path {
+        loads.add_cell(pass, k, *cell);
+    }
+}
+
+/// Routes one commodity along the path that the search found.
+pub(crate) fn route_member(
+    net: &Net,
+    loads: &Loads,
+    pass: &mut Pass,
+    k: u32,
+    scratch: &mut Scratch,
+    buffer: &mut RouteBuffer,
+)
+    requires of { IsPassOf loads.now pass.old }
+    requires net { loads.now.terms.net ≡ net.now }
+    requires nodes { scratch.old.nodes ≡ net.now.nodes }
+    requires ready { OneWhere (IsReadyFor loads.now.terms k) pass.old.view.hands }
+    requires k { k < length net.now.commodities }
+    requires path { HasPath net.now.cells scratch.old (to_at net.now k) }
+    requires paths { 0 < buffer.old.paths }
+    requires cells { net.now.nodes ≤ buffer.old.cells }
+    ensures of { IsPassOf loads.now pass.new }
+    ensures view { HasAddedAll (adds_along k (known_path scratch.old (to_at net.now k))) pass.old.view pass.new.view }
+    ensures scratch { scratch.new ≡ scratch.old }
+    ensures routes { buffer.new.routes ≡ buffer.old.routes ++ record { commodity = k; path = known_path scratch.old (to_at net.now k) } ∷ [] }
+    ensures paths { buffer.new.paths ≡ buffer.old.paths - 1 }
+    ensures cells { buffer.old.cells - net.now.nodes ≤ buffer.new.cells }
+{
+    let commodities = net.commodities();
+    let to = commodities[k as usize].to;
+    match scratch.path_to(to) {
+        Some(path) => {
+            add_path(loads, pass, k, path);
+            buffer.push(k, path);
+        }
+        None => unreachable!(),
+    }
+}
+
+/// Routes the members of the claimed group, one after the other.
+pub(crate) fn route_group(
+    net: &Net,
+    loads: &Loads,
+    pass: &mut Pass,
+    members: &[u32],
+    scratch: &mut Scratch,
+    buffer: &mut RouteBuffer,
+)
+    requires of { IsPassOf loads.now pass.old }
+    requires net { loads.now.terms.net ≡ net.now }
+    requires nodes { scratch.old.nodes ≡ net.now.nodes }
+    requires ready { OneWhere (IsReadyForAll loads.now.terms members.now) pass.old.view.hands }
+    requires ascending { IsStrictlyIncreasing members.now }
+    requires members { All (λ k. k < length net.now.commodities) members.now }
+    requires found { All (λ k. HasPath net.now.cells scratch.old (to_at net.now k)) members.now }
+    requires paths { length members.now ≤ buffer.old.paths }
+    requires cells { length members.now * net.now.nodes ≤ buffer.old.cells }
+    ensures of { IsPassOf loads.now pass.new }
+    ensures view { HasAddedAll (adds_of (routes_to net.now scratch.old members.now)) pass.old.view pass.new.view }
+    ensures scratch { scratch.new ≡ scratch.old }
+    ensures routes { buffer.new.routes ≡ buffer.old.routes ++ routes_to net.now scratch.old members.now }
+{
+    for k in members {
+        route_member(net, loads, pass, *k, scratch, buffer);
+    }
+}

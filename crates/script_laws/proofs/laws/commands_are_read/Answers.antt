@@ -1,5 +1,0 @@
-use Rattle.script_laws.proofs.Spelled.{commands_read}
-use Rattle.script_laws.proofs.laws.commands_are_read.Goals as goal
-
-pub returns : goal.returns
-returns c = commands_read

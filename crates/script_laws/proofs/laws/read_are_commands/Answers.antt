@@ -1,5 +1,0 @@
-use Rattle.script_laws.proofs.Found.{read_commands}
-use Rattle.script_laws.proofs.laws.read_are_commands.Goals as goal
-
-pub returns : goal.returns
-returns c = read_commands

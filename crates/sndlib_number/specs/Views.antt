@@ -1,6 +1,0 @@
--- The parts of a word, without where they lie in memory.
-use Rattle.sndlib_number.specs.declared.parse.NumberParts.{NumberParts}
-use Rattle.sndlib_number.specs.Number.{Number}
-
-abbrev pub number_view : NumberParts → Number
-number_view p = record { whole = p.whole.now; fraction = p.fraction.now; up = p.up; down = p.down }
