@@ -16,7 +16,8 @@ use std::alloc::{AllocError, Global};
 fn add_path(table: &mut [u128], path: &[u16], weight: u64)
     requires cells { All (λ c. c < length table.old) path.now }
     requires room { (c : ℕ) → c < length table.old → slice_index table.old c + weight * length path.now < 2 ^ 128 }
-    ensures { (c : ℕ) → c < length table.old → slice_index table.new c ≡ slice_index table.old c + weight * times c path.now }
+    ensures { (c : ℕ) → c < length table.old → slice_index table.new c
+        ≡ slice_index table.old c + weight * times c path.now }
 {
     for c in path {
         table[*c as usize] += weight as u128;
@@ -58,7 +59,8 @@ pub fn carried_amounts(
 /// Whether each amount is the phases times the commodity's.
 pub fn are_carried(commodities: &[Commodity], amounts: &[u128], phases: u32) -> bool
     requires { length amounts.now ≡ length commodities.now }
-    ensures { IsTrue result ↔ ((k : ℕ) (commodity : CommodityIs) → slice_get commodities.now k ≡ Some commodity → slice_index amounts.now k ≡ phases * commodity.amount) }
+    ensures { IsTrue result ↔ ((k : ℕ) (commodity : CommodityIs)
+        → slice_get commodities.now k ≡ Some commodity → slice_index amounts.now k ≡ phases * commodity.amount) }
 {
     for (k, commodity) in commodities.iter().enumerate() {
         if amounts[k] != phases as u128 * commodity.amount as u128 {
@@ -79,7 +81,8 @@ pub fn is_product_within(load: u128, factor: u64, most: u128) -> bool
 /// any numbers. There are as many loads as cells.
 pub fn do_fit(cells: &[Cell], loads: &[u128], scale_cap: u64, scale_load: u64) -> bool
     requires { length loads.now ≡ length cells.now }
-    ensures { IsTrue result ↔ ((c : ℕ) (cell : CellIs) → slice_get cells.now c ≡ Some cell → slice_index loads.now c * scale_cap ≤ scale_load * cell.cap) }
+    ensures { IsTrue result ↔ ((c : ℕ) (cell : CellIs) → slice_get cells.now c ≡ Some cell
+        → slice_index loads.now c * scale_cap ≤ scale_load * cell.cap) }
 {
     for (c, cell) in cells.iter().enumerate() {
         if !is_product_within(loads[c], scale_cap, scale_load as u128 * cell.cap as u128) {

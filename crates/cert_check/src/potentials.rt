@@ -14,7 +14,8 @@ fn holds_over(cell: Cell, size: u64, potential: &[u64]) -> bool
     requires head { cell.head < length potential.now }
     requires size { size ≤ MAX_LENGTH }
     requires limit { All (λ p. p ≤ MAX_LENGTH) potential.now }
-    ensures { IsTrue result ↔ ((u v : ℕ) → Goes cell u v → slice_index potential.now v ≤ slice_index potential.now u + size) }
+    ensures { IsTrue result ↔ ((u v : ℕ) → Goes cell u v
+        → slice_index potential.now v ≤ slice_index potential.now u + size) }
 {
     let tail = potential[cell.tail as usize];
     let head = potential[cell.head as usize];

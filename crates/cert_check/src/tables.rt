@@ -14,7 +14,8 @@ use std::alloc::{AllocError, Global};
 pub fn length_counts(alloc: Global, cells: usize, dual: &Dual) -> Result<Vec<u64>, AllocError>
     requires { All (λ r. r.cell < cells) dual.now.lengths }
     ensures len { IfOk result (λ v. length v.items ≡ cells) }
-    ensures value { IfOk result (λ v. (c : ℕ) → c < cells → slice_index v.items c ≡ count_by (λ r. r.cell == c) dual.now.lengths) }
+    ensures value { IfOk result (λ v. (c : ℕ) → c < cells
+        → slice_index v.items c ≡ count_by (λ r. r.cell == c) dual.now.lengths) }
 {
     let mut counts = vec![in alloc; 0u64; cells]?;
     for i in 0..dual.lengths() {
@@ -44,7 +45,8 @@ pub fn cell_lengths(alloc: Global, cells: usize, dual: &Dual) -> Result<Vec<u64>
 pub fn row_counts(alloc: Global, nodes: usize, dual: &Dual) -> Result<Vec<u64>, AllocError>
     requires { All (λ r. r.node < nodes) dual.now.potentials }
     ensures len { IfOk result (λ v. length v.items ≡ nodes) }
-    ensures value { IfOk result (λ v. (c : ℕ) → c < nodes → slice_index v.items c ≡ count_by (λ r. r.node == c) dual.now.potentials) }
+    ensures value { IfOk result (λ v. (c : ℕ) → c < nodes
+        → slice_index v.items c ≡ count_by (λ r. r.node == c) dual.now.potentials) }
 {
     let mut counts = vec![in alloc; 0u64; nodes]?;
     for i in 0..dual.rows() {
@@ -62,7 +64,8 @@ pub fn wanted_counts(
 ) -> Result<Vec<u64>, AllocError>
     requires { All (λ k. k.from < nodes) commodities.now }
     ensures len { IfOk result (λ v. length v.items ≡ nodes) }
-    ensures value { IfOk result (λ v. (c : ℕ) → c < nodes → slice_index v.items c ≡ (if is_source commodities.now c then 1 else 0)) }
+    ensures value { IfOk result (λ v. (c : ℕ) → c < nodes
+        → slice_index v.items c ≡ (if is_source commodities.now c then 1 else 0)) }
 {
     let mut wanted = vec![in alloc; 0u64; nodes]?;
     for k in commodities {
@@ -86,7 +89,8 @@ pub fn are_ones(counts: &[u64]) -> bool
 /// Whether each count is the one that is wanted at its place. There are as many of either.
 pub fn are_wanted(counts: &[u64], wanted: &[u64]) -> bool
     requires { length counts.now ≡ length wanted.now }
-    ensures { IsTrue result ↔ ((c : ℕ) → c < length counts.now → slice_index counts.now c ≡ slice_index wanted.now c) }
+    ensures { IsTrue result ↔ ((c : ℕ) → c < length counts.now
+        → slice_index counts.now c ≡ slice_index wanted.now c) }
 {
     for (c, n) in counts.iter().enumerate() {
         if *n != wanted[c] {

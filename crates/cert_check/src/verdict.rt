@@ -90,7 +90,8 @@ fn loads_fit(alloc: Global, net: &Net, routing: &Routing) -> Result<bool, AllocE
 // The first of a routing's four conditions that fails.
 pub fn route_fault(alloc: Global, net: &Net, routing: &Routing) -> Result<Option<Fault>, AllocError>
     requires { IsRoutingOf net.now routing.now }
-    ensures { IfOk result (λ fault. MatchOption fault (IsValidRouting net.now routing.now) (IsFirstRouteFault net.now routing.now)) }
+    ensures { IfOk result (λ fault. MatchOption fault (IsValidRouting net.now routing.now)
+        (IsFirstRouteFault net.now routing.now)) }
 {
     if !are_walks(net, &routing.paths) {
         return Ok(Some(Fault::C1));
@@ -128,7 +129,8 @@ pub fn check_routing(alloc: Global, net: &Net, routing: &Routing) -> Result<Frac
     requires { IsRoutingOf net.now routing.now }
     ensures fraction { IfOk result (λ f. f ≡ lower_of routing.now) }
     ensures valid { OnOk result (IsValidRouting net.now routing.now) }
-    ensures feasible { OnOk result (IsFeasible net.now (routing_of routing.now) (lower_of routing.now).num (lower_of routing.now).den) }
+    ensures feasible { OnOk result (IsFeasible net.now (routing_of routing.now)
+        (lower_of routing.now).num (lower_of routing.now).den) }
     ensures invalid { IfErr result (OnInvalid net.now routing.now) }
 {
     match route_fault(alloc, net, routing)? {

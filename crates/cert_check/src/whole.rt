@@ -57,7 +57,8 @@ pub fn row_is_potential(net: &Net, lengths: &[u64], dual: &Dual, row: usize) -> 
     requires lengths { lengths.now ≡ lengths_in net.now dual.now }
     requires len { length lengths.now ≡ length net.now.cells }
     requires limit { All (λ n. n ≤ MAX_LENGTH) lengths.now }
-    ensures { IsTrue result ↔ IsPotential net.now.cells (lengths_in net.now dual.now) (potential_at dual.now.potentials row).values }
+    ensures { IsTrue result ↔ IsPotential net.now.cells (lengths_in net.now dual.now)
+        (potential_at dual.now.potentials row).values }
 {
     is_potential(net.cells(), lengths, dual.row(row))
 }
@@ -107,7 +108,8 @@ pub fn is_printed(printed: Printed, fraction: &Frac, shown: Shown) -> bool
 fn are_printed(proof: &Proof, lower: &Frac, upper: &Frac) -> bool
     requires lower_micro { proof.now.lower.micro < 1000000 }
     requires upper_micro { proof.now.upper.micro < 1000000 }
-    ensures { IsTrue result ↔ (IsPrinted proof.now.lower lower.now (millionths_down lower.now) × IsPrinted proof.now.upper upper.now (millionths_up upper.now)) }
+    ensures { IsTrue result ↔ (IsPrinted proof.now.lower lower.now (millionths_down lower.now)
+        × IsPrinted proof.now.upper upper.now (millionths_up upper.now)) }
 {
     is_printed(proof.lower, lower, lower.digits_down())
         && is_printed(proof.upper, upper, upper.digits_up())

@@ -118,7 +118,8 @@ impl Graph {
         requires { from < self.now.nodes }
         ensures value { result.now ≡ arcs_from self.now.cells 0 from }
         ensures over { All (λ arc. PassesOver self.now.cells arc.cell from arc.to) result.now }
-        ensures each { (c x : ℕ) → PassesOver self.now.cells c from x → Contains result.now (record { cell = c; to = x }) }
+        ensures each { (c x : ℕ) → PassesOver self.now.cells c from x
+            → Contains result.now (record { cell = c; to = x }) }
         ensures net { IsNetwork self.now }
     {
         let at = from as usize;
@@ -135,7 +136,8 @@ impl Graph {
         requires { from < self.now.nodes }
         ensures value { result.now ≡ arcs_from self.now.cells 0 from }
         ensures over { All (λ arc. PassesOver self.now.cells arc.cell from arc.to) result.now }
-        ensures each { (c x : ℕ) → PassesOver self.now.cells c from x → Contains result.now (record { cell = c; to = x }) }
+        ensures each { (c x : ℕ) → PassesOver self.now.cells c from x
+            → Contains result.now (record { cell = c; to = x }) }
         ensures net { IsNetwork self.now }
     {
         self.arcs_at(from)

@@ -93,8 +93,10 @@ impl Scratch {
         requires from { from < self.old.nodes }
         ensures nodes { self.new.nodes ≡ self.old.nodes }
         ensures cells { self.new.cells ≡ self.old.cells }
-        ensures least { (v : ℕ) → v < self.new.nodes → IsLeast graph.now.cells lengths.now from v (dist_at self.new v) }
-        ensures paths { (v : ℕ) → v < self.new.nodes → IsPath graph.now.cells lengths.now self.new.nodes from v (dist_at self.new v) (path_at self.new v) }
+        ensures least { (v : ℕ) → v < self.new.nodes
+            → IsLeast graph.now.cells lengths.now from v (dist_at self.new v) }
+        ensures paths { (v : ℕ) → v < self.new.nodes
+            → IsPath graph.now.cells lengths.now self.new.nodes from v (dist_at self.new v) (path_at self.new v) }
         ensures near { IsNear graph.now.cells lengths.now self.new }
     {
         let _nodes = graph.nodes();

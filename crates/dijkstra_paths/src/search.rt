@@ -124,7 +124,8 @@ pub fn search(
     requires from { from < length dist.old }
     ensures inverse { AreInverse order.new place.new }
     ensures tree { IsTree graph.now.cells lengths.now from dist.new steps.new }
-    ensures done { (u : ℕ) → u < length dist.new → slice_index dist.new u < MAX_LENGTH → IsDone graph.now.cells lengths.now dist.new u }
+    ensures done { (u : ℕ) → u < length dist.new → slice_index dist.new u < MAX_LENGTH
+        → IsDone graph.now.cells lengths.now dist.new u }
 {
     let _nodes = graph.nodes();
     clear(dist);

@@ -58,7 +58,8 @@ fn distance_rows<R: Threads + Sync>(
     requires graph { graph.now ≡ net.now }
     requires lengths { AreLengths net.now.cells lengths.now }
     ensures sources { IfOk result (λ rows. sources_of rows.items ≡ group_sources net.now) }
-    ensures filled { IfOk result (λ rows. All (IsFilledWith net.now.nodes (IsDistance net.now.cells lengths.now)) rows.items) }
+    ensures filled { IfOk result (λ rows. All
+        (IsFilledWith net.now.nodes (IsDistance net.now.cells lengths.now)) rows.items) }
 {
     let mut rows = source_rows(alloc, net)?;
     fill_all(rt, alloc, graph, lengths, &mut rows, threads);
@@ -73,7 +74,8 @@ fn distance_rows<R: Threads + Sync>(
 fn cut_rows(alloc: Global, net: &Net, graph: &Graph) -> Result<Vec<Row>, AllocError>
     requires graph { graph.now ≡ net.now }
     ensures sources { IfOk result (λ rows. sources_of rows.items ≡ group_sources net.now) }
-    ensures filled { IfOk result (λ rows. All (IsFilledWith net.now.nodes (IsCutPotential net.now.cells)) rows.items) }
+    ensures filled { IfOk result (λ rows. All
+        (IsFilledWith net.now.nodes (IsCutPotential net.now.cells)) rows.items) }
 {
     let mut rows = source_rows(alloc, net)?;
     mark_all(alloc, graph, &mut rows)?;

@@ -36,7 +36,8 @@ fn source_marks(
 ) -> Result<Vec<bool>, AllocError>
     requires { All (λ k. k.from < nodes) commodities.now }
     ensures count { IfOk result (λ marks. length marks.items ≡ nodes) }
-    ensures each { IfOk result (λ marks. (v : ℕ) → v < nodes → mark_at marks.items v ≡ is_source commodities.now v) }
+    ensures each { IfOk result (λ marks. (v : ℕ) → v < nodes
+        → mark_at marks.items v ≡ is_source commodities.now v) }
 {
     let mut marks = vec![in alloc; false; nodes as usize]?;
     for commodity in commodities {
@@ -54,7 +55,8 @@ fn append_row(
     nodes: u16,
 ) -> Result<(), AllocError>
     requires { source < nodes }
-    ensures sources { OnOk result (sources_of rows.new.items ≡ sources_of rows.old.items ++ (if is_source then source ∷ [] else [])) }
+    ensures sources { OnOk result (sources_of rows.new.items
+        ≡ sources_of rows.old.items ++ (if is_source then source ∷ [] else [])) }
     ensures blank { OnOk result (All (IsBlank nodes) rows.old.items → All (IsBlank nodes) rows.new.items) }
 {
     if !is_source {
@@ -112,7 +114,8 @@ fn fill_row(scratch: &mut Scratch, graph: &Graph, lengths: &[u64], row: &mut Row
 pub fn fill_rows(alloc: Global, graph: &Graph, lengths: &[u64], rows: &mut [Row])
     requires lengths { AreLengths graph.now.cells lengths.now }
     requires rows { (k : ℕ) (d : _) → k < length rows.old → IsBlank graph.now.nodes (slice_index_or rows.old k d) }
-    ensures { (k : ℕ) (d : _) → k < length rows.old → Fills graph.now lengths.now (slice_index_or rows.old k d) (slice_index_or rows.new k d) }
+    ensures { (k : ℕ) (d : _) → k < length rows.old
+        → Fills graph.now lengths.now (slice_index_or rows.old k d) (slice_index_or rows.new k d) }
 {
     let nodes = graph.nodes();
     let mut scratch = match Scratch::new(alloc, nodes, lengths.len() as u16) {
@@ -151,7 +154,8 @@ pub fn fill_all<R: Threads + Sync>(
 )
     requires lengths { AreLengths graph.now.cells lengths.now }
     requires rows { (k : ℕ) (d : _) → k < length rows.old → IsBlank graph.now.nodes (slice_index_or rows.old k d) }
-    ensures { (k : ℕ) (d : _) → k < length rows.old → Fills graph.now lengths.now (slice_index_or rows.old k d) (slice_index_or rows.new k d) }
+    ensures { (k : ℕ) (d : _) → k < length rows.old
+        → Fills graph.now lengths.now (slice_index_or rows.old k d) (slice_index_or rows.new k d) }
 {
     let threads = thread_count(rt, lengths.len(), rows.len(), threads);
     if threads == 1 || rows.is_empty() {
@@ -163,8 +167,11 @@ pub fn fill_all<R: Threads + Sync>(
         rows,
         rows.len().div_ceil(threads),
         &|_: usize, part: &mut [Row]|
-            requires { AreLengths graph.now.cells lengths.now × ((k : ℕ) (d : _) → k < length part.now → IsBlank graph.now.nodes (slice_index_or part.now k d)) }
-            ensures { (k : ℕ) (d : _) → k < length part.entry.now → Fills graph.entry.now lengths.entry.now (slice_index_or part.entry.now k d) (slice_index_or part.exit.now k d) }
+            requires { AreLengths graph.now.cells lengths.now
+                × ((k : ℕ) (d : _) → k < length part.now → IsBlank graph.now.nodes (slice_index_or part.now k d)) }
+            ensures { (k : ℕ) (d : _) → k < length part.entry.now
+                → Fills graph.entry.now lengths.entry.now (slice_index_or part.entry.now k d)
+                (slice_index_or part.exit.now k d) }
         { fill_rows(alloc, graph, lengths, part) },
     );
 }
@@ -172,7 +179,8 @@ pub fn fill_all<R: Threads + Sync>(
 /// Puts 0 for a node that was reached, and 1 for every other.
 fn put_marks(reached: &[bool], values: &mut [u64])
     requires { length values.old ≡ length reached.now }
-    ensures { (v : ℕ) → v < length reached.now → slice_index values.new v ≡ (if mark_at reached.now v then 0 else 1) }
+    ensures { (v : ℕ) → v < length reached.now
+        → slice_index values.new v ≡ (if mark_at reached.now v then 0 else 1) }
 {
     for (v, value) in values.iter_mut().enumerate() {
         *value = u64::from(!reached[v]);
@@ -195,7 +203,8 @@ fn mark_row(alloc: Global, graph: &Graph, row: &mut Row) -> Result<(), AllocErro
 /// for want of memory.
 pub fn mark_all(alloc: Global, graph: &Graph, rows: &mut [Row]) -> Result<(), AllocError>
     requires rows { (k : ℕ) (d : _) → k < length rows.old → IsBlank graph.now.nodes (slice_index_or rows.old k d) }
-    ensures sources { OnOk result ((k : ℕ) (d : _) → k < length rows.old → (slice_index_or rows.new k d).source ≡ (slice_index_or rows.old k d).source) }
+    ensures sources { OnOk result ((k : ℕ) (d : _) → k < length rows.old
+        → (slice_index_or rows.new k d).source ≡ (slice_index_or rows.old k d).source) }
     ensures marks { OnOk result (All (IsFilledWith graph.now.nodes (IsCutPotential graph.now.cells)) rows.new) }
 {
     for row in rows.iter_mut() {

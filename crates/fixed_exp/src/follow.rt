@@ -30,7 +30,8 @@ fn put_exponents(
     requires exponents { length kept.old ≡ length cells.now }
     requires within { count ≤ length places.now }
     requires places { AreBelow (length cells.now) count places.now }
-    requires kept { (k : ℕ) → k < length cells.now → IsNotIn count places.now 0 k → KeepsExponent scale.now.setting cells.now loads.now kept.old k }
+    requires kept { (k : ℕ) → k < length cells.now → IsNotIn count places.now 0 k
+        → KeepsExponent scale.now.setting cells.now loads.now kept.old k }
     ensures { (k : ℕ) → k < length cells.now → KeepsExponent scale.now.setting cells.now loads.now kept.new k }
 {
     for j in 0..count {
@@ -69,7 +70,8 @@ fn follow_exponents(
     requires exponents { length kept.old ≡ length cells.now }
     requires within { count ≤ length places.now }
     requires places { AreBelow (length cells.now) count places.now }
-    requires kept { (k : ℕ) → k < length cells.now → IsNotIn count places.now 0 k → KeepsExponent scale.now.setting cells.now loads.now kept.old k }
+    requires kept { (k : ℕ) → k < length cells.now → IsNotIn count places.now 0 k
+        → KeepsExponent scale.now.setting cells.now loads.now kept.old k }
     ensures greatest { result ≡ greatest_exponent scale.now.setting cells.now loads.now }
     ensures kept { (k : ℕ) → k < length cells.now → KeepsExponent scale.now.setting cells.now loads.now kept.new k }
 {
@@ -104,10 +106,15 @@ impl Powers {
         requires into { length into.old ≡ length cells.now }
         requires within { count ≤ length places.now }
         requires places { AreBelow (length cells.now) count places.now }
-        requires least { (k : ℕ) → k < length cells.now → 1 ≤ (cell_at cells.now k).cap → least ≤ (cell_at cells.now k).cap }
-        requires greatest { (k : ℕ) → k < length cells.now → exponent scale.now.setting (cell_at cells.now k) (slice_index loads.now k) ≤ top }
-        requires kept { (k : ℕ) → k < length cells.now → KeepsExponent scale.now.setting cells.now loads.now kept.now k }
-        requires before { (k : ℕ) → k < length cells.now → IsNotIn count places.now 0 k → slice_index into.old k ≡ length_at scale.now.setting top least (cell_at cells.now k) (slice_index loads.now k) }
+        requires least { (k : ℕ) → k < length cells.now → 1 ≤ (cell_at cells.now k).cap
+            → least ≤ (cell_at cells.now k).cap }
+        requires greatest { (k : ℕ) → k < length cells.now
+            → exponent scale.now.setting (cell_at cells.now k) (slice_index loads.now k) ≤ top }
+        requires kept { (k : ℕ) → k < length cells.now
+            → KeepsExponent scale.now.setting cells.now loads.now kept.now k }
+        requires before { (k : ℕ) → k < length cells.now → IsNotIn count places.now 0 k
+            → slice_index into.old k ≡ length_at scale.now.setting top least (cell_at cells.now k)
+            (slice_index loads.now k) }
         ensures { into.new ≡ lengths_at scale.now.setting top least cells.now loads.now }
     {
         for j in 0..count {
@@ -138,9 +145,11 @@ impl Powers {
         requires rates { AreRates cells.now least rates.now }
         requires exponents { length kept.now ≡ length cells.now }
         requires into { length into.old ≡ length cells.now }
-        requires least { (k : ℕ) → k < length cells.now → 1 ≤ (cell_at cells.now k).cap → least ≤ (cell_at cells.now k).cap }
+        requires least { (k : ℕ) → k < length cells.now → 1 ≤ (cell_at cells.now k).cap
+            → least ≤ (cell_at cells.now k).cap }
         requires top { (k : ℕ) → k < length cells.now → slice_index kept.now k ≤ top }
-        ensures { (k : ℕ) → k < length cells.now → slice_index into.new k ≡ length_from top least (cell_at cells.now k) (slice_index kept.now k) }
+        ensures { (k : ℕ) → k < length cells.now
+            → slice_index into.new k ≡ length_from top least (cell_at cells.now k) (slice_index kept.now k) }
     {
         for i in 0..into.len() {
             into[i] = self.near_length(top, least, &cells[i], kept[i], rates[i].length);
@@ -165,9 +174,12 @@ impl Powers {
         requires rates { AreRates cells.now least rates.now }
         requires exponents { length kept.now ≡ length cells.now }
         requires into { length into.old ≡ length cells.now }
-        requires least { (k : ℕ) → k < length cells.now → 1 ≤ (cell_at cells.now k).cap → least ≤ (cell_at cells.now k).cap }
-        requires greatest { (k : ℕ) → k < length cells.now → exponent scale.now.setting (cell_at cells.now k) (slice_index loads.now k) ≤ top }
-        requires kept { (k : ℕ) → k < length cells.now → KeepsExponent scale.now.setting cells.now loads.now kept.now k }
+        requires least { (k : ℕ) → k < length cells.now → 1 ≤ (cell_at cells.now k).cap
+            → least ≤ (cell_at cells.now k).cap }
+        requires greatest { (k : ℕ) → k < length cells.now
+            → exponent scale.now.setting (cell_at cells.now k) (slice_index loads.now k) ≤ top }
+        requires kept { (k : ℕ) → k < length cells.now
+            → KeepsExponent scale.now.setting cells.now loads.now kept.now k }
         ensures { into.new ≡ lengths_at scale.now.setting top least cells.now loads.now }
     {
         for i in 0..into.len() {
@@ -201,9 +213,12 @@ impl Powers {
         requires rates { AreRates cells.now least rates.now }
         requires exponents { length kept.now ≡ length cells.now }
         requires into { length into.old ≡ length cells.now }
-        requires least { (k : ℕ) → k < length cells.now → 1 ≤ (cell_at cells.now k).cap → least ≤ (cell_at cells.now k).cap }
-        requires greatest { (k : ℕ) → k < length cells.now → exponent scale.now.setting (cell_at cells.now k) (slice_index loads.now k) ≤ top }
-        requires kept { (k : ℕ) → k < length cells.now → KeepsExponent scale.now.setting cells.now loads.now kept.now k }
+        requires least { (k : ℕ) → k < length cells.now → 1 ≤ (cell_at cells.now k).cap
+            → least ≤ (cell_at cells.now k).cap }
+        requires greatest { (k : ℕ) → k < length cells.now
+            → exponent scale.now.setting (cell_at cells.now k) (slice_index loads.now k) ≤ top }
+        requires kept { (k : ℕ) → k < length cells.now
+            → KeepsExponent scale.now.setting cells.now loads.now kept.now k }
         ensures { into.new ≡ lengths_at scale.now.setting top least cells.now loads.now }
     {
         if top <= u128::from(u64::MAX) {
@@ -237,10 +252,15 @@ impl Powers {
         requires into { length into.old ≡ length cells.now }
         requires within { count ≤ length places.now }
         requires places { AreBelow (length cells.now) count places.now }
-        requires least { (k : ℕ) → k < length cells.now → 1 ≤ (cell_at cells.now k).cap → least ≤ (cell_at cells.now k).cap }
-        requires greatest { (k : ℕ) → k < length cells.now → exponent scale.now.setting (cell_at cells.now k) (slice_index loads.now k) ≤ top }
-        requires kept { (k : ℕ) → k < length cells.now → KeepsExponent scale.now.setting cells.now loads.now kept.now k }
-        requires before { IsTrue top_stands → (k : ℕ) → k < length cells.now → IsNotIn count places.now 0 k → slice_index into.old k ≡ length_at scale.now.setting top least (cell_at cells.now k) (slice_index loads.now k) }
+        requires least { (k : ℕ) → k < length cells.now → 1 ≤ (cell_at cells.now k).cap
+            → least ≤ (cell_at cells.now k).cap }
+        requires greatest { (k : ℕ) → k < length cells.now
+            → exponent scale.now.setting (cell_at cells.now k) (slice_index loads.now k) ≤ top }
+        requires kept { (k : ℕ) → k < length cells.now
+            → KeepsExponent scale.now.setting cells.now loads.now kept.now k }
+        requires before { IsTrue top_stands → (k : ℕ) → k < length cells.now
+            → IsNotIn count places.now 0 k → slice_index into.old k
+            ≡ length_at scale.now.setting top least (cell_at cells.now k) (slice_index loads.now k) }
         ensures { into.new ≡ lengths_at scale.now.setting top least cells.now loads.now }
     {
         if top_stands {
@@ -276,11 +296,16 @@ impl Powers {
         requires room { length places.old ≡ length cells.now }
         requires exponents { length kept.old ≡ length cells.now }
         requires into { length into.old ≡ length cells.now }
-        requires least { (k : ℕ) → k < length cells.now → 1 ≤ (cell_at cells.now k).cap → least ≤ (cell_at cells.now k).cap }
-        requires kept { (k : ℕ) → k < length cells.now → KeepsExponent scale.now.setting cells.now old.now kept.old k }
-        requires lengths { (k : ℕ) → k < length cells.now → slice_index into.old k ≡ length_at scale.now.setting before least (cell_at cells.now k) (slice_index old.now k) }
+        requires least { (k : ℕ) → k < length cells.now → 1 ≤ (cell_at cells.now k).cap
+            → least ≤ (cell_at cells.now k).cap }
+        requires kept { (k : ℕ) → k < length cells.now
+            → KeepsExponent scale.now.setting cells.now old.now kept.old k }
+        requires lengths { (k : ℕ) → k < length cells.now
+            → slice_index into.old k ≡ length_at scale.now.setting before least
+            (cell_at cells.now k) (slice_index old.now k) }
         ensures greatest { result ≡ greatest_exponent scale.now.setting cells.now loads.now }
-        ensures kept { (k : ℕ) → k < length cells.now → KeepsExponent scale.now.setting cells.now loads.now kept.new k }
+        ensures kept { (k : ℕ) → k < length cells.now
+            → KeepsExponent scale.now.setting cells.now loads.now kept.new k }
         ensures lengths { into.new ≡ lengths_at scale.now.setting result least cells.now loads.now }
     {
         let count = changed_places(old, loads, places);

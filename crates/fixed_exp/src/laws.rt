@@ -5,7 +5,8 @@ ghost use Rattle.flow_model.specs.Powers.{power_table, weight_of, whole_root};
 
 /// The whole root is the greatest number whose square is not above.
 pub fn whole_root_is_greatest()
-    ensures { (n : ℕ) → n < 2 ^ 64 → (whole_root n * whole_root n ≤ n) × (n < (whole_root n + 1) * (whole_root n + 1)) }
+    ensures { (n : ℕ) → n < 2 ^ 64 → (whole_root n * whole_root n ≤ n)
+        × (n < (whole_root n + 1) * (whole_root n + 1)) }
 {}
 
 /// The table has 257 values and never rises.

@@ -45,7 +45,8 @@ impl Model for LengthTable {
 /// Puts each cell's rate in its place.
 fn put_rates(scale: &Scale, cells: &[Cell], least: u64, into: &mut [Rate])
     requires caps { All (λ cell. cell.cap ≤ MAX_UNITS) cells.now }
-    requires least { (k : ℕ) → k < length cells.now → 1 ≤ (cell_at cells.now k).cap → least ≤ (cell_at cells.now k).cap }
+    requires least { (k : ℕ) → k < length cells.now → 1 ≤ (cell_at cells.now k).cap
+        → least ≤ (cell_at cells.now k).cap }
     requires into { length into.old ≡ length cells.now }
     ensures { AreRates cells.now least into.new }
 {
@@ -65,7 +66,8 @@ impl LengthTable {
         setting: &Setting,
     ) -> Result<Self, AllocError>
         requires { IsSetting setting.now }
-        ensures { IfOk result (λ t. t ≡ record { net = net.now; setting = setting.now; loads = replicate (length net.now.cells) 0 }) }
+        ensures { IfOk result (λ t. t ≡ record
+            { net = net.now; setting = setting.now; loads = replicate (length net.now.cells) 0 }) }
     {
         let cells = net.cells();
         let loads = vec![in alloc; 0; cells.len()]?;

@@ -108,7 +108,8 @@ impl Powers {
         requires small { All (λ x. x ≤ MAX_LENGTH) loads.now }
         requires into { length into.old ≡ length cells.now }
         requires greatest { top ≡ greatest_exponent scale.now.setting cells.now loads.now }
-        requires kept { (k : ℕ) → k < length cells.now → KeepsExponent scale.now.setting cells.now loads.now into.old k }
+        requires kept { (k : ℕ) → k < length cells.now
+            → KeepsExponent scale.now.setting cells.now loads.now into.old k }
         ensures { into.new ≡ lengths_at scale.now.setting top (least_capacity cells.now) cells.now loads.now }
     {
         let least = least_of(cells);

@@ -54,7 +54,11 @@ impl Dual {
     /// Appends a length row.
     pub fn push_length(&mut self, cell: u16, value: u64) -> Result<(), AllocError>
         requires { value ≤ MAX_LENGTH }
-        ensures ok { OnOk result (self.new ≡ record { lengths = self.old.lengths ++ record { cell = cell; value = value } ∷ []; potentials = self.old.potentials }) }
+        ensures ok { OnOk result (self.new ≡ record {
+          lengths = self.old.lengths ++ record { cell = cell; value = value } ∷ [];
+          potentials =
+              self.old.potentials;
+        }) }
         ensures err { OnErr result (self.new ≡ self.old) }
     {
         self.lengths.push(LengthRow { cell, value })?;
@@ -64,7 +68,11 @@ impl Dual {
     /// Appends a row of potentials.
     pub fn push_row(&mut self, alloc: Global, node: u16, values: &[u64]) -> Result<(), AllocError>
         requires { All (λ p. p ≤ MAX_LENGTH) values.now }
-        ensures ok { OnOk result (self.new ≡ record { lengths = self.old.lengths; potentials = self.old.potentials ++ record { node = node; values = values.now } ∷ [] }) }
+        ensures ok { OnOk result (self.new ≡ record {
+          lengths = self.old.lengths;
+          potentials = self.old.potentials ++ record
+              { node = node; values = values.now } ∷ [];
+        }) }
         ensures err { OnErr result (self.new ≡ self.old) }
     {
         let row = PotentialRow {

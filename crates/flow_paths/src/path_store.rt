@@ -66,7 +66,8 @@ fn catch_up(index: &mut KeyIndex, rows: &RowBuffer) -> Result<(), AllocError>
 // The first row of this commodity and path, where the index has one.
 fn first_row(rows: &RowBuffer, index: &KeyIndex, k: u32, path: &[u16]) -> Option<u32>
     requires { IsIndexOf index.now rows.now }
-    ensures { MatchOption result (HasNoRowBelow (length index.now) rows.now k path.now) (IsFirstRow rows.now k path.now) }
+    ensures { MatchOption result (HasNoRowBelow (length index.now) rows.now k path.now)
+        (IsFirstRow rows.now k path.now) }
 {
     let mut first = None;
     let mut place = index.latest(path_key(k, path));
@@ -174,7 +175,8 @@ impl PathStore {
     pub fn push(&mut self, k: u32, path: &[u16], weight: u64) -> Result<u32, AllocError>
         requires room { length self.old < 4294967295 }
         requires weight { weight ≤ MAX_LENGTH }
-        ensures ok { OnOk result (self.new ≡ self.old ++ record { commodity = k; walk = path.now; weight = weight } ∷ []) }
+        ensures ok { OnOk result (self.new ≡ self.old ++ record
+            { commodity = k; walk = path.now; weight = weight } ∷ []) }
         ensures number { IfOk result (λ n. n ≡ length self.old) }
         ensures err { OnErr result (self.new ≡ self.old) }
     {
@@ -192,7 +194,8 @@ impl PathStore {
     pub fn add(&mut self, k: u32, path: &[u16], amount: u64) -> Result<u32, AllocError>
         requires room { length self.old < 4294967295 }
         requires amount { amount ≤ MAX_LENGTH }
-        requires weight { (n : ℕ) → IsFirstRow self.old k path.now n → (row_at self.old n).weight + amount ≤ MAX_LENGTH }
+        requires weight { (n : ℕ) → IsFirstRow self.old k path.now n
+            → (row_at self.old n).weight + amount ≤ MAX_LENGTH }
         ensures ok { IfOk result (Adds self.old self.new k path.now amount) }
         ensures err { OnErr result (self.new ≡ self.old) }
     {

@@ -11,7 +11,11 @@ pub fn row_places(alloc: Global, nodes: usize, dual: &Dual) -> Result<Vec<usize>
     requires named { All (λ r. r.node < nodes) dual.now.potentials }
     requires once { (v : ℕ) → v < nodes → count_by (λ r. r.node == v) dual.now.potentials ≤ 1 }
     ensures len { IfOk result (λ v. length v.items ≡ nodes) }
-    ensures value { IfOk result (λ places. (v : ℕ) → v < nodes → count_by (λ r. r.node == v) dual.now.potentials ≡ 1 → (slice_index places.items v < length dual.now.potentials) × (find (λ r. r.node == v) dual.now.potentials ≡ Some (potential_at dual.now.potentials (slice_index places.items v)))) }
+    ensures value { IfOk result (λ places. (v : ℕ) → v < nodes
+        → count_by (λ r. r.node == v) dual.now.potentials ≡ 1
+        → (slice_index places.items v < length dual.now.potentials)
+        × (find (λ r. r.node == v) dual.now.potentials
+        ≡ Some (potential_at dual.now.potentials (slice_index places.items v)))) }
 {
     let mut places = vec![in alloc; 0usize; nodes]?;
     for i in 0..dual.rows() {

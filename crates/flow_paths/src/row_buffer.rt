@@ -78,7 +78,8 @@ impl RowBuffer {
     pub fn push(&mut self, k: u32, path: &[u16], weight: u64) -> Result<u32, AllocError>
         requires room { length self.old < 4294967295 }
         requires weight { weight ≤ MAX_LENGTH }
-        ensures ok { OnOk result (self.new ≡ self.old ++ record { commodity = k; walk = path.now; weight = weight } ∷ []) }
+        ensures ok { OnOk result (self.new ≡ self.old ++ record
+            { commodity = k; walk = path.now; weight = weight } ∷ []) }
         ensures number { IfOk result (λ n. n ≡ length self.old) }
         ensures err { OnErr result (self.new ≡ self.old) }
     {

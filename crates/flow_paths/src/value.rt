@@ -43,8 +43,11 @@ pub fn weighted_distance(commodities: &[Commodity], places: &[usize], dual: &Dua
     requires ends { All (IsCommodity (length places.now)) commodities.now }
     requires total { sum_by (λ k. k.amount) commodities.now ≤ MAX_TOTAL }
     requires wide { All (λ r. length r.values ≡ length places.now) dual.now.potentials }
-    requires rows { All (λ k. (slice_index places.now k.from < length dual.now.potentials) × (find (λ r. r.node == k.from) dual.now.potentials ≡ Some (potential_at dual.now.potentials (slice_index places.now k.from)))) commodities.now }
-    ensures value { result ≡ weighted_distance commodities.now (map (distance_of dual.now.potentials) commodities.now) }
+    requires rows { All (λ k. (slice_index places.now k.from < length dual.now.potentials)
+        × (find (λ r. r.node == k.from) dual.now.potentials
+        ≡ Some (potential_at dual.now.potentials (slice_index places.now k.from)))) commodities.now }
+    ensures value { result ≡ weighted_distance commodities.now
+        (map (distance_of dual.now.potentials) commodities.now) }
     ensures limit { result ≤ 2 ^ 108 }
 {
     let mut total = 0u128;

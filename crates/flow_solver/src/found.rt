@@ -16,7 +16,8 @@ const PATHS_OF_A_START: usize = 2_048;
 fn find_rows(store: &PathStore, places: &[Place], first: usize, rows: &mut [Option<u32>])
     requires few { length places.now ≤ MAX_DEMANDS }
     requires within { first + length rows.old ≤ length places.now }
-    ensures { (i : ℕ) → i < length rows.old → IsRowFor store.now places.now (first + i) (slice_index_or rows.new i None) }
+    ensures { (i : ℕ) → i < length rows.old → IsRowFor store.now places.now (first + i)
+        (slice_index_or rows.new i None) }
 {
     for (i, row) in rows.iter_mut().enumerate() {
         let k = first + i;
@@ -43,7 +44,8 @@ fn find_all<R: Threads + Sync>(
         share.max(PATHS_OF_A_START),
         &|first: usize, part: &mut [Option<u32>]|
             requires { (length places.now ≤ MAX_DEMANDS) × (first + length part.now ≤ length places.now) }
-            ensures { (i : ℕ) → i < length part.entry.now → IsRowFor store.entry.now places.entry.now (first + i) (slice_index_or part.exit.now i None) }
+            ensures { (i : ℕ) → i < length part.entry.now
+                → IsRowFor store.entry.now places.entry.now (first + i) (slice_index_or part.exit.now i None) }
         { find_rows(store, places, first, part) },
     );
 }
@@ -58,7 +60,8 @@ pub(crate) fn found_rows<R: Threads + Sync>(
 ) -> Result<Vec<Option<u32>>, AllocError>
     requires few { length places.now ≤ MAX_DEMANDS }
     ensures count { IfOk result (λ v. length v.items ≡ length places.now) }
-    ensures rows { IfOk result (λ v. (k : ℕ) → k < length places.now → IsRowFor store.now places.now k (slice_index_or v.items k None)) }
+    ensures rows { IfOk result (λ v. (k : ℕ) → k < length places.now
+        → IsRowFor store.now places.now k (slice_index_or v.items k None)) }
 {
     let mut rows = vec![in alloc; None; places.len()]?;
     find_all(rt, threads, store, places, &mut rows);

@@ -24,7 +24,8 @@ fn new_hand(alloc: Global, net: &Net, worker: u16) -> Result<Hand, AllocError>
 /// The hands of so many workers.
 pub(crate) fn new_hands(alloc: Global, net: &Net, workers: u16) -> Result<Vec<Hand>, AllocError>
     ensures count { IfOk result (λ hands. length hands.items ≡ workers) }
-    ensures fresh { IfOk result (λ hands. (k : ℕ) (d : _) → k < workers → IsFresh net.now.nodes k (slice_index_or hands.items k d)) }
+    ensures fresh { IfOk result (λ hands. (k : ℕ) (d : _) → k < workers
+        → IsFresh net.now.nodes k (slice_index_or hands.items k d)) }
 {
     let mut hands = Vec::new(alloc);
     for worker in 0..workers {
@@ -35,7 +36,10 @@ pub(crate) fn new_hands(alloc: Global, net: &Net, workers: u16) -> Result<Vec<Ha
 
 /// Forgets the routes of the phase before, and keeps their memory.
 pub(crate) fn forget_all(hands: &mut [Hand])
-    ensures { (k : ℕ) (d : _) → k < length hands.old → IsSameWorker (slice_index_or hands.old k d) (slice_index_or hands.new k d) × ((slice_index_or hands.new k d).turn ≡ (slice_index_or hands.old k d).turn) × ((slice_index_or hands.new k d).routes ≡ []) }
+    ensures { (k : ℕ) (d : _) → k < length hands.old
+        → IsSameWorker (slice_index_or hands.old k d) (slice_index_or hands.new k d)
+        × ((slice_index_or hands.new k d).turn ≡ (slice_index_or hands.old k d).turn)
+        × ((slice_index_or hands.new k d).routes ≡ []) }
 {
     for hand in hands.iter_mut() {
         hand.routes.clear();

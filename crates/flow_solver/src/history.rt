@@ -77,10 +77,12 @@ impl PathHistory {
         path: &[u16],
         amount: u64,
     ) -> Result<u32, AllocError>
-        requires found { MatchOption found (HasNoRow self.old.rows k path.now) (IsFirstRow self.old.rows k path.now) }
+        requires found { MatchOption found (HasNoRow self.old.rows k path.now)
+            (IsFirstRow self.old.rows k path.now) }
         requires room { length self.old.rows < 4294967295 }
         requires amount { amount ≤ MAX_LENGTH }
-        requires weight { (n : ℕ) → IsFirstRow self.old.rows k path.now n → (row_at self.old.rows n).weight + amount ≤ MAX_LENGTH }
+        requires weight { (n : ℕ) → IsFirstRow self.old.rows k path.now n
+            → (row_at self.old.rows n).weight + amount ≤ MAX_LENGTH }
         ensures commodities { self.new.commodities ≡ self.old.commodities }
         ensures history { self.new.history ≡ self.old.history }
         ensures ok { IfOk result (Adds self.old.rows self.new.rows k path.now amount) }
@@ -108,7 +110,8 @@ impl PathHistory {
         requires work { length net.now.commodities * (length self.old.history + 1) ≤ MAX_WORK }
         requires count { length places.now ≡ length net.now.commodities }
         requires found_count { length found.now ≡ length net.now.commodities }
-        requires found { (k : ℕ) → k < length net.now.commodities → IsRowFor self.old.rows places.now k (slice_index_or found.now k None) }
+        requires found { (k : ℕ) → k < length net.now.commodities
+            → IsRowFor self.old.rows places.now k (slice_index_or found.now k None) }
         ensures commodities { self.new.commodities ≡ self.old.commodities }
         ensures history { self.new.history ≡ self.old.history }
         ensures keeps { KeepsRows self.old.rows self.new.rows }
@@ -148,7 +151,9 @@ impl PathHistory {
         requires routes { HaveRouted net.now hands.now }
         ensures commodities { self.new.commodities ≡ self.old.commodities }
         ensures rows { OnOk result (AreRowsFor net.now self.new.history self.new.rows) }
-        ensures phases { OnOk result ((entries : List Routed) → IsRoutedOnce net.now hands.now entries → phases_kept self.new ≡ phases_kept self.old ++ entries ∷ []) }
+        ensures phases { OnOk result ((entries : List Routed)
+            → IsRoutedOnce net.now hands.now entries
+            → phases_kept self.new ≡ phases_kept self.old ++ entries ∷ []) }
         ensures err { OnErr result (phases_kept self.new ≡ phases_kept self.old) }
     {
         let places = places_of(alloc, net, hands)?;
@@ -162,7 +167,8 @@ impl PathHistory {
     pub fn ordered(self, alloc: Global) -> Result<OrderedHistory, AllocError>
         ensures commodities { IfOk result (λ r. r.entries.commodities ≡ self.commodities) }
         ensures phases { IfOk result (λ r. map (routed_in r.paths) r.entries.phases ≡ phases_kept self) }
-        ensures rows { IfOk result (λ r. (net : Network) → AreRowsFor net self.history self.rows → AreRowsOf net r.entries.phases r.paths) }
+        ensures rows { IfOk result (λ r. (net : Network) → AreRowsFor net self.history self.rows
+            → AreRowsOf net r.entries.phases r.paths) }
     {
         let PathHistory { paths, entries } = self;
         let mut entries = entries;

@@ -21,8 +21,11 @@ pub(crate) struct Place<'a> {
 /// Notes the routes of one hand.
 fn note_routes<'a>(places: &mut [Place<'a>], w: u16, hand: &'a Hand)
     requires { All (λ (r : Route). r.commodity < length places.old) hand.now.routes }
-    ensures kept { (k : ℕ) → k < length places.old → (slice_index_or places.new k no_place ≡ slice_index_or places.old k no_place) ⊎ IsPlaceAt w hand.now k (slice_index_or places.new k no_place) }
-    ensures noted { All (λ (r : Route). IsPlaceAt w hand.now r.commodity (slice_index_or places.new r.commodity no_place)) hand.now.routes }
+    ensures kept { (k : ℕ) → k < length places.old
+        → (slice_index_or places.new k no_place ≡ slice_index_or places.old k no_place)
+        ⊎ IsPlaceAt w hand.now k (slice_index_or places.new k no_place) }
+    ensures noted { All (λ (r : Route). IsPlaceAt w hand.now r.commodity
+        (slice_index_or places.new r.commodity no_place)) hand.now.routes }
 {
     for route in 0..hand.routes.len() {
         let k = hand.routes.commodity(route);
@@ -41,7 +44,9 @@ pub(crate) fn places_of<'a>(
     requires routes { HaveRouted net.now hands.now }
     ensures count { IfOk result (λ v. length v.items ≡ length net.now.commodities) }
     ensures few { IfOk result (λ v. length v.items ≤ MAX_DEMANDS) }
-    ensures places { IfOk result (λ v. (k : ℕ) → k < length net.now.commodities → HasRouted hands.now (slice_index_or v.items k no_place).hand k (slice_index_or v.items k no_place).path.now) }
+    ensures places { IfOk result (λ v. (k : ℕ) → k < length net.now.commodities
+        → HasRouted hands.now (slice_index_or v.items k no_place).hand k
+        (slice_index_or v.items k no_place).path.now) }
 {
     let none = Place { hand: 0, path: &[] };
     let mut places = vec![in alloc; none; net.commodities().len()]?;

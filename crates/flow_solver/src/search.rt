@@ -70,12 +70,19 @@ fn phase_over<G: Gate, R: Threads + Sync>(
     hands: &mut [Hand],
     gate: &G,
 ) -> Result<(), AllocError>
-    requires start { IsStart record { net = net.now; setting = setting; base = loads.old; workers = length hands.old } }
+    requires start { IsStart record {
+      net = net.now;
+      setting = setting;
+      base = loads.old;
+      workers =
+          length hands.old;
+    } }
     requires groups { groups.now ≡ net.now }
     requires graph { graph.now ≡ net.now }
     requires setting { IsSetting setting }
     requires no_cut { HasNoCut net.now }
-    requires fresh { (k : ℕ) (d : _) → k < length hands.old → IsFresh net.now.nodes k (slice_index_or hands.old k d) }
+    requires fresh { (k : ℕ) (d : _) → k < length hands.old
+        → IsFresh net.now.nodes k (slice_index_or hands.old k d) }
     ensures ok { OnOk result (IsRoutedPhase net.now setting loads.old loads.new hands.new) }
     ensures back { AreSameWorkers hands.old hands.new }
     ensures turns { (k : ℕ) (d : _) → k < length hands.old → (slice_index_or hands.new k d).turn ≡ None }

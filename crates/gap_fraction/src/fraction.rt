@@ -87,7 +87,8 @@ impl Frac {
         ensures six { result.micro < 1000000 }
         ensures value { result.whole * 1000000 + result.micro ≡ millionths_down self.now }
         ensures below { (result.whole * 1000000 + result.micro) * self.now.den ≤ self.now.num * 1000000 }
-        ensures greatest { (n : ℕ) → n * self.now.den ≤ self.now.num * 1000000 → n ≤ result.whole * 1000000 + result.micro }
+        ensures greatest { (n : ℕ) → n * self.now.den ≤ self.now.num * 1000000
+            → n ≤ result.whole * 1000000 + result.micro }
     {
         let long = millionths(self.num % self.den, self.den);
         Shown {
@@ -101,7 +102,8 @@ impl Frac {
         ensures six { result.micro < 1000000 }
         ensures value { result.whole * 1000000 + result.micro ≡ millionths_up self.now }
         ensures above { self.now.num * 1000000 ≤ (result.whole * 1000000 + result.micro) * self.now.den }
-        ensures least { (n : ℕ) → self.now.num * 1000000 ≤ n * self.now.den → result.whole * 1000000 + result.micro ≤ n }
+        ensures least { (n : ℕ) → self.now.num * 1000000 ≤ n * self.now.den
+            → result.whole * 1000000 + result.micro ≤ n }
     {
         let whole = self.num / self.den;
         let long = millionths(self.num % self.den, self.den);

@@ -95,7 +95,8 @@ fn one_source(alloc: Global) -> Result<Net, AllocError>
 
 /// One link of 10 in both directions, and 5 each way.
 fn two_ways(alloc: Global) -> Result<Net, AllocError>
-    ensures { IfOk result (λ n. n ≡ record { nodes = 2; cells = UNDIRECTED ∷ []; commodities = THERE ∷ BACK ∷ [] }) }
+    ensures { IfOk result (λ n. n ≡ record
+        { nodes = 2; cells = UNDIRECTED ∷ []; commodities = THERE ∷ BACK ∷ [] }) }
 {
     let cells = vec![in alloc; UNDIRECTED]?;
     let commodities = vec![in alloc; THERE, BACK]?;
@@ -204,7 +205,8 @@ fn two_workers_add_to_one_cell(rt: HostRuntime) -> Result<(), Fail> {
 fn claim_once(loads: &Loads, pass: Pass, worker: u16) -> Pass
     requires of { IsPassOf loads.now pass }
     requires fresh { pass.view.hands ≡ hand worker idle ∷ [] }
-    requires net { loads.now.terms.net ≡ record { nodes = 2; cells = UNDIRECTED ∷ []; commodities = THERE ∷ BACK ∷ [] } }
+    requires net { loads.now.terms.net ≡ record
+        { nodes = 2; cells = UNDIRECTED ∷ []; commodities = THERE ∷ BACK ∷ [] } }
     ensures of { IsPassOf loads.now result }
     ensures splits { (result.view.left ≡ pass.view.left) × (result.view.made ≡ pass.view.made) }
     ensures alone { length result.view.hands ≡ 1 }
@@ -236,7 +238,8 @@ fn two_threads_share_the_words(rt: HostRuntime) -> Result<(), Fail> {
         || -> Pass
             requires of { IsPassOf loads first }
             requires fresh { first.view.hands ≡ hand 0 idle ∷ [] }
-            requires net { loads.terms.net ≡ record { nodes = 2; cells = UNDIRECTED ∷ []; commodities = THERE ∷ BACK ∷ [] } }
+            requires net { loads.terms.net ≡ record
+                { nodes = 2; cells = UNDIRECTED ∷ []; commodities = THERE ∷ BACK ∷ [] } }
             ensures of { IsPassOf loads result }
             ensures splits { (result.view.left ≡ first.view.left) × (result.view.made ≡ first.view.made) }
             ensures alone { length result.view.hands ≡ 1 }
@@ -244,7 +247,8 @@ fn two_threads_share_the_words(rt: HostRuntime) -> Result<(), Fail> {
         || -> Pass
             requires of { IsPassOf loads second }
             requires fresh { second.view.hands ≡ hand 1 idle ∷ [] }
-            requires net { loads.terms.net ≡ record { nodes = 2; cells = UNDIRECTED ∷ []; commodities = THERE ∷ BACK ∷ [] } }
+            requires net { loads.terms.net ≡ record
+                { nodes = 2; cells = UNDIRECTED ∷ []; commodities = THERE ∷ BACK ∷ [] } }
             ensures of { IsPassOf loads result }
             ensures splits { (result.view.left ≡ second.view.left) × (result.view.made ≡ second.view.made) }
             ensures alone { length result.view.hands ≡ 1 }

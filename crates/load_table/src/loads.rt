@@ -78,7 +78,8 @@ impl Loads {
     ) -> Result<(Loads, Pass), AllocError>
         requires groups { groups.now ≡ net.now }
         requires start { IsStart record { net = net.now; setting = setting; base = base.now; workers = workers } }
-        ensures loads { IfOk result (λ r. r.0.terms ≡ record { net = net.now; setting = setting; base = base.now; workers = workers }) }
+        ensures loads { IfOk result (λ r. r.0.terms
+            ≡ record { net = net.now; setting = setting; base = base.now; workers = workers }) }
         ensures pass { IfOk result (λ r. IsPassOf r.0 r.1 × (r.1.view ≡ first_view r.0.terms)) }
         ensures seen { IfOk result (λ r. r.1.seen ≡ start r.0.terms) }
     {

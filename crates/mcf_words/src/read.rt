@@ -76,7 +76,8 @@ fn number_choice(matches: &ArgMatches<'_>, name: &str, most: u64, default: u64) 
 
 // The phase budget, if one is asked.
 fn phases_choice(matches: &ArgMatches<'_>) -> Option<Option<u32>>
-    ensures value { result ≡ read_in (found_of matches.now) PHASES.now (λ w. option_map Some (number_in_lem 1 MAX_PHASES w)) None }
+    ensures value { result ≡ read_in (found_of matches.now) PHASES.now
+        (λ w. option_map Some (number_in_lem 1 MAX_PHASES w)) None }
     ensures limits { IfSome result IsBudget }
 {
     match matches.get_str(PHASES) {
@@ -89,7 +90,8 @@ fn phases_choice(matches: &ArgMatches<'_>) -> Option<Option<u32>>
 }
 
 fn workers_choice(matches: &ArgMatches<'_>) -> Option<u16>
-    ensures value { result ≡ read_in (found_of matches.now) WORKERS.now (number_in_lem 1 MAX_WORKERS) DEFAULT_WORKERS }
+    ensures value { result ≡ read_in (found_of matches.now) WORKERS.now
+        (number_in_lem 1 MAX_WORKERS) DEFAULT_WORKERS }
     ensures limits { IfSome result (λ n. (1 ≤ n) × (n ≤ MAX_WORKERS)) }
 {
     match number_choice(matches, WORKERS, MAX_WORKERS as u64, DEFAULT_WORKERS as u64) {

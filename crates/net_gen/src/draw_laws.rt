@@ -16,7 +16,8 @@ ghost use Rattle.net_gen.specs.Drawn.{drawn_network, drawn_net};
 /// The rows of a generated text stand for the network that was drawn, whatever the options are, and are never
 /// refused.
 pub fn drawn_networks_are_scaled()
-    ensures network { (seed nodes links demands : ℕ) (rows : NetRows) (o : NetOptions) → AreCounts nodes links demands
+    ensures network { (seed nodes links demands : ℕ) (rows : NetRows) (o : NetOptions)
+        → AreCounts nodes links demands
         → rows_of (generated_text seed nodes links demands) ≡ Ok rows
         → scaled_of rows o ≡ Ok (drawn_net o seed nodes links demands) }
     ensures accepted { (seed nodes links demands : ℕ) (rows : NetRows) (o : NetOptions) (r : NetRefusal)

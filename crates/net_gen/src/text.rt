@@ -27,14 +27,16 @@ const END: &str = ")\n";
 
 // Puts the line of a node.
 fn put_node(text: &mut String, i: u16) -> Result<(), AllocError>
-    ensures { OnOk result (string_bytes text.new ≡ string_bytes text.old ++ spelled (node_line (generated_node i))) }
+    ensures { OnOk result (string_bytes text.new
+        ≡ string_bytes text.old ++ spelled (node_line (generated_node i))) }
 {
     write!(text, "  N{i}\n")
 }
 
 // Puts the lines of the nodes.
 fn put_nodes(text: &mut String, nodes: u16) -> Result<(), AllocError>
-    ensures { OnOk result (string_bytes text.new ≡ string_bytes text.old ++ text_of (map node_line (map generated_node (range_with_len 0 nodes)))) }
+    ensures { OnOk result (string_bytes text.new
+        ≡ string_bytes text.old ++ text_of (map node_line (map generated_node (range_with_len 0 nodes)))) }
 {
     for i in 0..nodes {
         put_node(text, i)?;
@@ -44,7 +46,8 @@ fn put_nodes(text: &mut String, nodes: u16) -> Result<(), AllocError>
 
 // Puts the line of a link.
 fn put_link_line(text: &mut String, i: u16, link: &LinkDraw) -> Result<(), AllocError>
-    ensures { OnOk result (string_bytes text.new ≡ string_bytes text.old ++ spelled (drawn_link_line i link.now.source link.now.target link.now.capacity)) }
+    ensures { OnOk result (string_bytes text.new
+        ≡ string_bytes text.old ++ spelled (drawn_link_line i link.now.source link.now.target link.now.capacity)) }
 {
     let LinkDraw {
         source,
@@ -66,7 +69,8 @@ fn put_link(
 ) -> Result<(), AllocError>
     requires some { 2 ≤ nodes }
     requires most { nodes ≤ MAX_NODES }
-    ensures line { OnOk result (string_bytes text.new ≡ string_bytes text.old ++ spelled (link_line (generated_names nodes) (generated_link draws.old nodes i))) }
+    ensures line { OnOk result (string_bytes text.new
+        ≡ string_bytes text.old ++ spelled (link_line (generated_names nodes) (generated_link draws.old nodes i))) }
     ensures rest { OnOk result (draws.new ≡ past (words_of_link nodes i) draws.old) }
 {
     let link = draw_link(draws, nodes, i);
@@ -82,7 +86,9 @@ fn put_links(
 ) -> Result<(), AllocError>
     requires some { 2 ≤ nodes }
     requires most { nodes ≤ MAX_NODES }
-    ensures lines { OnOk result (string_bytes text.new ≡ string_bytes text.old ++ text_of (map (link_line (generated_names nodes)) (generated_links draws.old nodes links))) }
+    ensures lines { OnOk result (string_bytes text.new
+        ≡ string_bytes text.old ++ text_of
+        (map (link_line (generated_names nodes)) (generated_links draws.old nodes links))) }
     ensures rest { OnOk result (draws.new ≡ past (words_before_link nodes links) draws.old) }
 {
     for i in 0..links {
@@ -93,7 +99,8 @@ fn put_links(
 
 // Puts the line of a demand.
 fn put_demand_line(text: &mut String, i: u32, source: u16, target: u16) -> Result<(), AllocError>
-    ensures { OnOk result (string_bytes text.new ≡ string_bytes text.old ++ spelled (drawn_demand_line i source target)) }
+    ensures { OnOk result (string_bytes text.new
+        ≡ string_bytes text.old ++ spelled (drawn_demand_line i source target)) }
 {
     let value = 1 + i % 10;
     write!(text, "  D{i} ( N{source} N{target} ) 1 {value} UNLIMITED\n")
@@ -108,7 +115,9 @@ fn put_demand(
 ) -> Result<(), AllocError>
     requires some { 2 ≤ nodes }
     requires most { nodes ≤ MAX_NODES }
-    ensures line { OnOk result (string_bytes text.new ≡ string_bytes text.old ++ spelled (demand_line (generated_names nodes) (generated_demand draws.old nodes i))) }
+    ensures line { OnOk result (string_bytes text.new
+        ≡ string_bytes text.old ++ spelled
+        (demand_line (generated_names nodes) (generated_demand draws.old nodes i))) }
     ensures rest { OnOk result (draws.new ≡ past 2 draws.old) }
 {
     let (source, target) = draw_ends(draws, nodes);
@@ -124,7 +133,9 @@ fn put_demands(
 ) -> Result<(), AllocError>
     requires some { 2 ≤ nodes }
     requires most { nodes ≤ MAX_NODES }
-    ensures lines { OnOk result (string_bytes text.new ≡ string_bytes text.old ++ text_of (map (demand_line (generated_names nodes)) (generated_demands draws.old nodes demands))) }
+    ensures lines { OnOk result (string_bytes text.new
+        ≡ string_bytes text.old ++ text_of
+        (map (demand_line (generated_names nodes)) (generated_demands draws.old nodes demands))) }
 {
     for i in 0..demands {
         put_demand(text, draws, nodes, i)?;

@@ -24,7 +24,9 @@ use std::thread::Threads;
 /// Forgets all routes.
 fn clear_all(hands: &mut [Hand])
     ensures cleared { All (λ h. h.routes ≡ []) hands.new }
-    ensures back { (k : ℕ) (d : _) → k < length hands.old → IsSameWorker (slice_index_or hands.old k d) (slice_index_or hands.new k d) × ((slice_index_or hands.new k d).turn ≡ (slice_index_or hands.old k d).turn) }
+    ensures back { (k : ℕ) (d : _) → k < length hands.old
+        → IsSameWorker (slice_index_or hands.old k d) (slice_index_or hands.new k d)
+        × ((slice_index_or hands.new k d).turn ≡ (slice_index_or hands.old k d).turn) }
 {
     for hand in hands.iter_mut() {
         hand.routes.clear();
@@ -47,19 +49,27 @@ pub fn phase<G: Gate, R: Threads + Sync>(
     hands: &mut [Hand],
     gate: &G,
 ) -> Result<(), Pass>
-    requires start { IsStart record { net = net.now; setting = setting; base = loads.old; workers = length hands.old } }
+    requires start { IsStart record {
+      net = net.now;
+      setting = setting;
+      base = loads.old;
+      workers =
+          length hands.old;
+    } }
     requires terms { shared.0.terms ≡ terms_of net.now setting loads.old (length hands.old) }
     requires pass { IsPassOf shared.0 shared.1 × (shared.1.view ≡ first_view shared.0.terms) }
     requires groups { groups.now ≡ net.now }
     requires graph { graph.now ≡ net.now }
     requires setting { IsSetting setting }
     requires no_cut { HasNoCut net.now }
-    requires fresh { (k : ℕ) (d : _) → k < length hands.old → IsFresh net.now.nodes k (slice_index_or hands.old k d) }
+    requires fresh { (k : ℕ) (d : _) → k < length hands.old
+        → IsFresh net.now.nodes k (slice_index_or hands.old k d) }
     ensures ok { OnOk result (IsRoutedPhase net.now setting loads.old loads.new hands.new) }
     ensures unfinished { IfErr result (λ p. IsUnfinished shared.0 p) }
     ensures loads { OnErr result (loads.new ≡ loads.old) }
     ensures routes { OnErr result (All (λ h. h.routes ≡ []) hands.new) }
-    ensures back { (k : ℕ) (d : _) → k < length hands.old → IsSameWorker (slice_index_or hands.old k d) (slice_index_or hands.new k d) }
+    ensures back { (k : ℕ) (d : _) → k < length hands.old
+        → IsSameWorker (slice_index_or hands.old k d) (slice_index_or hands.new k d) }
     ensures turns { (k : ℕ) (d : _) → k < length hands.old → (slice_index_or hands.new k d).turn ≡ None }
 {
     let (table, first) = shared;

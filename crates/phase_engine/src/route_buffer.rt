@@ -87,7 +87,8 @@ impl RouteBuffer {
     pub(crate) fn push(&mut self, commodity: u32, path: &[u16])
         requires paths { 0 < self.old.paths }
         requires cells { length path.now ≤ self.old.cells }
-        ensures routes { self.new.routes ≡ self.old.routes ++ record { commodity = commodity; path = path.now } ∷ [] }
+        ensures routes { self.new.routes ≡ self.old.routes ++ record
+            { commodity = commodity; path = path.now } ∷ [] }
         ensures paths { self.new.paths ≡ self.old.paths - 1 }
         ensures cells { self.new.cells ≡ self.old.cells - length path.now }
     {

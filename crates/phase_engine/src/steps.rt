@@ -64,9 +64,11 @@ pub(crate) fn route_member(
     requires paths { 0 < buffer.old.paths }
     requires cells { net.now.nodes ≤ buffer.old.cells }
     ensures of { IsPassOf loads.now pass.new }
-    ensures view { HasAddedAll (adds_along k (known_path scratch.old (to_at net.now k))) pass.old.view pass.new.view }
+    ensures view { HasAddedAll (adds_along k (known_path scratch.old (to_at net.now k)))
+        pass.old.view pass.new.view }
     ensures scratch { scratch.new ≡ scratch.old }
-    ensures routes { buffer.new.routes ≡ buffer.old.routes ++ record { commodity = k; path = known_path scratch.old (to_at net.now k) } ∷ [] }
+    ensures routes { buffer.new.routes ≡ buffer.old.routes ++ record
+        { commodity = k; path = known_path scratch.old (to_at net.now k) } ∷ [] }
     ensures paths { buffer.new.paths ≡ buffer.old.paths - 1 }
     ensures cells { buffer.old.cells - net.now.nodes ≤ buffer.new.cells }
 {

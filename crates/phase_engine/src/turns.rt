@@ -32,9 +32,12 @@ pub(crate) fn hand_out(loads: &Loads, first: Pass, hands: &mut [Hand])
     requires of { IsPassOf loads.now first × (first.view ≡ first_view loads.now.terms) }
     requires some_hand { 0 < length hands.old }
     requires workers { loads.now.terms.workers ≡ length hands.old }
-    requires fresh { (k : ℕ) (d : _) → k < length hands.old → IsFresh loads.now.terms.net.nodes k (slice_index_or hands.old k d) }
-    ensures ready { (k : ℕ) (d : _) → k < length hands.old → ((slice_index_or hands.new k d).worker ≡ k) × IsReady loads.now (slice_index_or hands.new k d) }
-    ensures same { (k : ℕ) (d : _) → k < length hands.old → IsSameWorker (slice_index_or hands.old k d) (slice_index_or hands.new k d) }
+    requires fresh { (k : ℕ) (d : _) → k < length hands.old
+        → IsFresh loads.now.terms.net.nodes k (slice_index_or hands.old k d) }
+    ensures ready { (k : ℕ) (d : _) → k < length hands.old
+        → ((slice_index_or hands.new k d).worker ≡ k) × IsReady loads.now (slice_index_or hands.new k d) }
+    ensures same { (k : ℕ) (d : _) → k < length hands.old
+        → IsSameWorker (slice_index_or hands.old k d) (slice_index_or hands.new k d) }
 {
     let mut first = first;
     for i in 1..hands.len() {
@@ -100,7 +103,8 @@ fn take_turns<G: Gate>(
 )
     requires of { AreOf net.now groups.now graph.now setting.now loads.now }
     requires ready { (k : ℕ) (d : _) → k < length part.old → IsReady loads.now (slice_index_or part.old k d) }
-    ensures { (k : ℕ) (d : _) → k < length part.old → Runs loads.now (slice_index_or part.old k d) (slice_index_or part.new k d) }
+    ensures { (k : ℕ) (d : _) → k < length part.old
+        → Runs loads.now (slice_index_or part.old k d) (slice_index_or part.new k d) }
 {
     for hand in part.iter_mut() {
         take_turn(
@@ -125,7 +129,8 @@ pub(crate) fn run_all<G: Gate, R: Threads + Sync>(
 )
     requires of { AreOf net.now groups.now graph.now setting.now loads.now }
     requires ready { (k : ℕ) (d : _) → k < length hands.old → IsReady loads.now (slice_index_or hands.old k d) }
-    ensures { (k : ℕ) (d : _) → k < length hands.old → Runs loads.now (slice_index_or hands.old k d) (slice_index_or hands.new k d) }
+    ensures { (k : ℕ) (d : _) → k < length hands.old
+        → Runs loads.now (slice_index_or hands.old k d) (slice_index_or hands.new k d) }
 {
     thread_chain::for_each_chunk_mut(
         rt,
@@ -133,8 +138,10 @@ pub(crate) fn run_all<G: Gate, R: Threads + Sync>(
         1,
         &|_: usize, part: &mut [Hand]|
             requires of { AreOf net.now groups.now graph.now setting.now loads.now }
-            requires ready { (k : ℕ) (d : _) → k < length part.now → IsReady loads.now (slice_index_or part.now k d) }
-            ensures { (k : ℕ) (d : _) → k < length part.entry.now → Runs loads.entry.now (slice_index_or part.entry.now k d) (slice_index_or part.exit.now k d) }
+            requires ready { (k : ℕ) (d : _) → k < length part.now
+                → IsReady loads.now (slice_index_or part.now k d) }
+            ensures { (k : ℕ) (d : _) → k < length part.entry.now
+                → Runs loads.entry.now (slice_index_or part.entry.now k d) (slice_index_or part.exit.now k d) }
         {
             take_turns(
                 alloc, net, groups, graph, powers, setting, loads, gate, part,
@@ -147,12 +154,14 @@ pub(crate) fn run_all<G: Gate, R: Threads + Sync>(
 pub(crate) fn gather(loads: &Loads, hands: &mut [Hand]) -> (Pass, bool)
     requires some_hand { 0 < length hands.old }
     requires workers { loads.now.terms.workers ≡ length hands.old }
-    requires done { (k : ℕ) (d : _) → k < length hands.old → ((slice_index_or hands.old k d).worker ≡ k) × IsDone loads.now (slice_index_or hands.old k d) }
+    requires done { (k : ℕ) (d : _) → k < length hands.old
+        → ((slice_index_or hands.old k d).worker ≡ k) × IsDone loads.now (slice_index_or hands.old k d) }
     ensures pass { IsPassOf loads.now result.0 × MayClose loads.now.terms result.0.view }
     ensures works { EachWork loads.now.terms hands.new result.0.view.hands }
     ensures stopped { IsTrue result.1 → SomeStopped result.0.view.hands }
     ensures none { IsFalse result.1 → NoneStopped result.0.view.hands }
-    ensures back { (k : ℕ) (d : _) → k < length hands.old → IsBack (slice_index_or hands.old k d) (slice_index_or hands.new k d) }
+    ensures back { (k : ℕ) (d : _) → k < length hands.old
+        → IsBack (slice_index_or hands.old k d) (slice_index_or hands.new k d) }
 {
     let Worked { pass, memory } = take(&mut hands[0]);
     let mut all = pass;

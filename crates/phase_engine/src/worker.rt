@@ -75,9 +75,13 @@ fn route_ticket(
     requires paths { length (members_of net.now g) ≤ buffer.old.paths }
     requires cells { length (members_of net.now g) * net.now.nodes ≤ buffer.old.cells }
     ensures of { IsPassOf loads.now pass.new }
-    ensures view { HasFinished reads.new.items (adds_of (group_routes net.now scratch.new g)) pass.old.view pass.new.view }
-    ensures complete { let routes = routes_to net.now scratch.new (members_of net.now g) in IsComplete loads.now.terms (entry g reads.new.items (adds_of routes)) }
-    ensures routes { let routes = routes_to net.now scratch.new (members_of net.now g) in (buffer.new.routes ≡ buffer.old.routes ++ routes) × (routes ≡ routes_in net.now (entry g reads.new.items (adds_of routes))) }
+    ensures view { HasFinished reads.new.items (adds_of (group_routes net.now scratch.new g))
+        pass.old.view pass.new.view }
+    ensures complete { let routes = routes_to net.now scratch.new (members_of net.now g) in
+        IsComplete loads.now.terms (entry g reads.new.items (adds_of routes)) }
+    ensures routes { let routes = routes_to net.now scratch.new (members_of net.now g) in
+        (buffer.new.routes ≡ buffer.old.routes ++ routes)
+        × (routes ≡ routes_in net.now (entry g reads.new.items (adds_of routes))) }
     ensures table { (table.new.net ≡ table.old.net) × (table.new.setting ≡ table.old.setting) }
     ensures scratch { (scratch.new.nodes ≡ scratch.old.nodes) × (scratch.new.cells ≡ scratch.old.cells) }
     ensures reads { vec_capacity reads.new ≡ vec_capacity reads.old }

@@ -9,10 +9,14 @@ ghost use Rattle.script.specs.Commands.{AreCommands};
 
 /// Tokens that are commands are read as the steps that they do.
 pub fn commands_are_read()
-    ensures { (terms : Terms) (end : ℕ) (caps : List ℕ) (tokens : List Lexeme) (steps : List Step) → AreCommands terms caps tokens steps → scan terms end (record { expected = Command; caps = caps; steps = [] }) tokens ≡ Ok steps }
+    ensures { (terms : Terms) (end : ℕ) (caps : List ℕ) (tokens : List Lexeme) (steps : List Step)
+        → AreCommands terms caps tokens steps → scan terms end
+        (record { expected = Command; caps = caps; steps = [] }) tokens ≡ Ok steps }
 {}
 
 /// And nothing else is: what is read as steps is commands that do these steps.
 pub fn read_are_commands()
-    ensures { (terms : Terms) (end : ℕ) (caps : List ℕ) (tokens : List Lexeme) (steps : List Step) → scan terms end (record { expected = Command; caps = caps; steps = [] }) tokens ≡ Ok steps → AreCommands terms caps tokens steps }
+    ensures { (terms : Terms) (end : ℕ) (caps : List ℕ) (tokens : List Lexeme) (steps : List Step)
+        → scan terms end (record { expected = Command; caps = caps; steps = [] }) tokens ≡ Ok steps
+        → AreCommands terms caps tokens steps }
 {}

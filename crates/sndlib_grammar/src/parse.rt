@@ -31,7 +31,8 @@ fn digit_count(word: &[u8]) -> usize
 
 // One digit or two.
 fn exponent_of(word: &[u8]) -> Option<u8>
-    ensures value { option_map (λ n. n) result ≡ (if is_exponent_lem word.now then Some (digits_value 10 word.now) else None) }
+    ensures value { option_map (λ n. n) result
+        ≡ (if is_exponent_lem word.now then Some (digits_value 10 word.now) else None) }
     ensures small { IfSome result (λ n. n < 100) }
 {
     match word {
@@ -46,7 +47,8 @@ fn exponent_of(word: &[u8]) -> Option<u8>
 // The exponent of the digits, which is not negative.
 fn raised_by<'a>(number: NumberParts<'a>, digits: &[u8]) -> Option<NumberParts<'a>>
     ensures value { option_map number_view result ≡ raised_lem (number_view number.entry) digits.now }
-    ensures parts { IfSome result (λ p. (p.whole.now ≡ number.entry.whole.now) × (p.fraction.now ≡ number.entry.fraction.now)) }
+    ensures parts { IfSome result (λ p. (p.whole.now ≡ number.entry.whole.now)
+        × (p.fraction.now ≡ number.entry.fraction.now)) }
 {
     let up = match exponent_of(digits) {
         Some(up) => up,
@@ -58,7 +60,8 @@ fn raised_by<'a>(number: NumberParts<'a>, digits: &[u8]) -> Option<NumberParts<'
 // The same of a negative one.
 fn lowered_by<'a>(number: NumberParts<'a>, digits: &[u8]) -> Option<NumberParts<'a>>
     ensures value { option_map number_view result ≡ lowered_lem (number_view number.entry) digits.now }
-    ensures parts { IfSome result (λ p. (p.whole.now ≡ number.entry.whole.now) × (p.fraction.now ≡ number.entry.fraction.now)) }
+    ensures parts { IfSome result (λ p. (p.whole.now ≡ number.entry.whole.now)
+        × (p.fraction.now ≡ number.entry.fraction.now)) }
 {
     let down = match exponent_of(digits) {
         Some(down) => down,
@@ -70,7 +73,8 @@ fn lowered_by<'a>(number: NumberParts<'a>, digits: &[u8]) -> Option<NumberParts<
 // Behind the `E` or `e`.
 fn with_exponent<'a>(number: NumberParts<'a>, rest: &[u8]) -> Option<NumberParts<'a>>
     ensures value { option_map number_view result ≡ with_exponent_lem (number_view number.entry) rest.now }
-    ensures parts { IfSome result (λ p. (p.whole.now ≡ number.entry.whole.now) × (p.fraction.now ≡ number.entry.fraction.now)) }
+    ensures parts { IfSome result (λ p. (p.whole.now ≡ number.entry.whole.now)
+        × (p.fraction.now ≡ number.entry.fraction.now)) }
 {
     match rest {
         [] => None,
@@ -89,7 +93,8 @@ fn with_exponent<'a>(number: NumberParts<'a>, rest: &[u8]) -> Option<NumberParts
 // Behind the digits.
 fn with_ending<'a>(number: NumberParts<'a>, rest: &[u8]) -> Option<NumberParts<'a>>
     ensures value { option_map number_view result ≡ ending_lem (number_view number.entry) rest.now }
-    ensures parts { IfSome result (λ p. (p.whole.now ≡ number.entry.whole.now) × (p.fraction.now ≡ number.entry.fraction.now)) }
+    ensures parts { IfSome result (λ p. (p.whole.now ≡ number.entry.whole.now)
+        × (p.fraction.now ≡ number.entry.fraction.now)) }
 {
     match rest {
         [] => Some(number),
@@ -123,9 +128,11 @@ fn with_digits<'a>(whole: &'a [u8], fraction: &'a [u8], rest: &[u8]) -> Option<N
 // Behind the point.
 fn behind_point<'a>(whole: &'a [u8], rest: &'a [u8]) -> Option<NumberParts<'a>>
     requires { AllDigits 10 whole.now }
-    ensures value { option_map number_view result ≡ with_digits_lem (plain whole.now (front_digits rest.now)) (behind_digits rest.now) }
+    ensures value { option_map number_view result
+        ≡ with_digits_lem (plain whole.now (front_digits rest.now)) (behind_digits rest.now) }
     ensures digits { IfSome result (λ p. AreDigits (number_view p)) }
-    ensures small { IfSome result (λ p. length p.whole.now + length p.fraction.now ≤ length whole.now + length rest.now) }
+    ensures small { IfSome result (λ p. length p.whole.now + length p.fraction.now
+        ≤ length whole.now + length rest.now) }
 {
     let count = digit_count(rest);
     with_digits(whole, &rest[..count], &rest[count..])
@@ -136,7 +143,8 @@ fn behind_whole<'a>(whole: &'a [u8], rest: &'a [u8]) -> Option<NumberParts<'a>>
     requires { AllDigits 10 whole.now }
     ensures value { option_map number_view result ≡ behind_whole_lem whole.now rest.now }
     ensures digits { IfSome result (λ p. AreDigits (number_view p)) }
-    ensures small { IfSome result (λ p. length p.whole.now + length p.fraction.now ≤ length whole.now + length rest.now) }
+    ensures small { IfSome result (λ p. length p.whole.now + length p.fraction.now
+        ≤ length whole.now + length rest.now) }
 {
     match rest {
         [] => with_digits(whole, rest, rest),

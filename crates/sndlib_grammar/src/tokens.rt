@@ -78,7 +78,8 @@ impl<'a> Tokens<'a> {
     /// The next token, or `None` at the end. `LongWord` stands for a word of more than `MAX_WORD_BYTES` bytes, and comes again at each later call.
     pub fn next(&mut self) -> Result<Option<Token<'a>>, LongWord>
         ensures next { TakesNext result self.old self.new }
-        ensures place { IfOk result (λ o. IfSome o (λ t. slice_range self.old.text t.at (t.at + length t.text.now) ≡ t.text.now)) }
+        ensures place { IfOk result (λ o. IfSome o
+            (λ t. slice_range self.old.text t.at (t.at + length t.text.now) ≡ t.text.now)) }
     {
         let (at, line) = next_start(self.text, self.at, self.line);
         self.at = at;

@@ -17,7 +17,8 @@ fn put_last_words<K: Sink>(
     out: &mut K,
     words: &[&[u8]],
 ) -> Result<(), WriteFault>
-    ensures { Puts (K.seen out.old) (K.seen out.new) buffer.old buffer.new result (behind (map (λ w. w.now) words.now) ++ 10 ∷ []) }
+    ensures { Puts (K.seen out.old) (K.seen out.new) buffer.old buffer.new result
+        (behind (map (λ w. w.now) words.now) ++ 10 ∷ []) }
 {
     match buffer.put_words(out, words) {
         Ok(()) => {}
@@ -34,7 +35,8 @@ fn put_entry<K: Sink>(
     middle: &[&[u8]],
     back: &[&[u8]],
 ) -> Result<(), WriteFault>
-    ensures { Puts (K.seen out.old) (K.seen out.new) buffer.old buffer.new result (spelled ([] ∷ map (λ w. w.now) front.now ++ (map (λ w. w.now) middle.now ++ map (λ w. w.now) back.now))) }
+    ensures { Puts (K.seen out.old) (K.seen out.new) buffer.old buffer.new result
+        (spelled ([] ∷ map (λ w. w.now) front.now ++ (map (λ w. w.now) middle.now ++ map (λ w. w.now) back.now))) }
 {
     match buffer.put_words(out, front) {
         Ok(()) => {}
@@ -55,7 +57,8 @@ pub fn put_node<K: Sink>(
     out: &mut K,
 ) -> Result<(), WriteFault>
     requires { i < length raw.now.nodes }
-    ensures { Puts (K.seen out.old) (K.seen out.new) buffer.old buffer.new result (spelled (node_line (node_at raw.now i))) }
+    ensures { Puts (K.seen out.old) (K.seen out.new) buffer.old buffer.new result
+        (spelled (node_line (node_at raw.now i))) }
 {
     match raw.node_place(i) {
         None => put_entry(buffer, out, &[b"", raw.node_id(i)], &[], &[]),
@@ -72,7 +75,8 @@ pub fn put_link<K: Sink>(
 ) -> Result<(), WriteFault>
     requires link { i < length raw.now.links }
     requires rows { AreNetRows raw.now }
-    ensures { Puts (K.seen out.old) (K.seen out.new) buffer.old buffer.new result (spelled (link_line (names_of_nodes raw.now) (link_at raw.now i))) }
+    ensures { Puts (K.seen out.old) (K.seen out.new) buffer.old buffer.new result
+        (spelled (link_line (names_of_nodes raw.now) (link_at raw.now i))) }
 {
     let row = raw.link(i);
     let source = raw.node_id(row.source);
@@ -103,7 +107,8 @@ pub fn put_demand<K: Sink>(
 ) -> Result<(), WriteFault>
     requires demand { i < length raw.now.demands }
     requires rows { AreNetRows raw.now }
-    ensures { Puts (K.seen out.old) (K.seen out.new) buffer.old buffer.new result (spelled (demand_line (names_of_nodes raw.now) (demand_at raw.now i))) }
+    ensures { Puts (K.seen out.old) (K.seen out.new) buffer.old buffer.new result
+        (spelled (demand_line (names_of_nodes raw.now) (demand_at raw.now i))) }
 {
     let row = raw.demand(i);
     let source = raw.node_id(row.source);

@@ -23,7 +23,8 @@ const DEMANDS: &[u8] = b")\nDEMANDS (\n";
 const END: &[u8] = b")\n";
 
 fn put_nodes<K: Sink>(raw: &RawNet<'_>, buffer: &mut Buffer, out: &mut K) -> Result<(), WriteFault>
-    ensures { Puts (K.seen out.old) (K.seen out.new) buffer.old buffer.new result (text_of (map node_line raw.now.nodes)) }
+    ensures { Puts (K.seen out.old) (K.seen out.new) buffer.old buffer.new result
+        (text_of (map node_line raw.now.nodes)) }
 {
     for i in 0..raw.nodes() {
         match put_node(raw, i, buffer, out) {
@@ -35,7 +36,8 @@ fn put_nodes<K: Sink>(raw: &RawNet<'_>, buffer: &mut Buffer, out: &mut K) -> Res
 }
 
 fn put_links<K: Sink>(raw: &RawNet<'_>, buffer: &mut Buffer, out: &mut K) -> Result<(), WriteFault>
-    ensures { Puts (K.seen out.old) (K.seen out.new) buffer.old buffer.new result (text_of (map (link_line (names_of_nodes raw.now)) raw.now.links)) }
+    ensures { Puts (K.seen out.old) (K.seen out.new) buffer.old buffer.new result
+        (text_of (map (link_line (names_of_nodes raw.now)) raw.now.links)) }
 {
     for i in 0..raw.links() {
         match put_link(raw, i, buffer, out) {
@@ -51,7 +53,8 @@ fn put_demands<K: Sink>(
     buffer: &mut Buffer,
     out: &mut K,
 ) -> Result<(), WriteFault>
-    ensures { Puts (K.seen out.old) (K.seen out.new) buffer.old buffer.new result (text_of (map (demand_line (names_of_nodes raw.now)) raw.now.demands)) }
+    ensures { Puts (K.seen out.old) (K.seen out.new) buffer.old buffer.new result
+        (text_of (map (demand_line (names_of_nodes raw.now)) raw.now.demands)) }
 {
     for i in 0..raw.demands() {
         match put_demand(raw, i, buffer, out) {
@@ -68,7 +71,8 @@ fn put_from_demands<K: Sink>(
     buffer: &mut Buffer,
     out: &mut K,
 ) -> Result<(), WriteFault>
-    ensures { Puts (K.seen out.old) (K.seen out.new) buffer.old buffer.new result (DEMANDS.now ++ (text_of (map (demand_line (names_of_nodes raw.now)) raw.now.demands) ++ END.now)) }
+    ensures { Puts (K.seen out.old) (K.seen out.new) buffer.old buffer.new result
+        (DEMANDS.now ++ (text_of (map (demand_line (names_of_nodes raw.now)) raw.now.demands) ++ END.now)) }
 {
     match buffer.put(out, DEMANDS) {
         Ok(()) => {}
@@ -87,7 +91,9 @@ fn put_from_links<K: Sink>(
     buffer: &mut Buffer,
     out: &mut K,
 ) -> Result<(), WriteFault>
-    ensures { Puts (K.seen out.old) (K.seen out.new) buffer.old buffer.new result (LINKS.now ++ (text_of (map (link_line (names_of_nodes raw.now)) raw.now.links) ++ (DEMANDS.now ++ (text_of (map (demand_line (names_of_nodes raw.now)) raw.now.demands) ++ END.now)))) }
+    ensures { Puts (K.seen out.old) (K.seen out.new) buffer.old buffer.new result
+        (LINKS.now ++ (text_of (map (link_line (names_of_nodes raw.now)) raw.now.links) ++
+        (DEMANDS.now ++ (text_of (map (demand_line (names_of_nodes raw.now)) raw.now.demands) ++ END.now)))) }
 {
     match buffer.put(out, LINKS) {
         Ok(()) => {}

@@ -34,7 +34,13 @@ fn unknown(line: u32) -> ReadNetEnd
 // The two numbers, or the line of the first end that is no node.
 fn ends_of(names: &IndexSet<&[u8]>, source: &Word<'_>, target: &Word<'_>) -> Result<Ends, u32>
     requires { length (names_of names.now) ≤ MAX_NODES }
-    ensures { IsEnds (first_unknown (names_of names.now) (word_view source.now ∷ word_view target.now ∷ [])) (record { source = node_number (names_of names.now) (word_view source.now); target = node_number (names_of names.now) (word_view target.now) }) result }
+    ensures { IsEnds (first_unknown (names_of names.now)
+        (word_view source.now ∷ word_view target.now ∷ []))
+        (record {
+          source = node_number (names_of names.now) (word_view source.now);
+          target =
+              node_number (names_of names.now) (word_view target.now);
+        }) result }
 {
     let from = match number_of(names, source.text) {
         Some(number) => number,
@@ -56,7 +62,8 @@ pub fn link_ends(
     links: &[LinkWords<'_>],
 ) -> Result<Vec<Ends>, ReadNetEnd>
     requires { length (names_of names.now) ≤ MAX_NODES }
-    ensures { AreEnds (unknown_of_stored (names_of names.now)) (link_ends_of (names_of names.now)) (map link_view links.now) result }
+    ensures { AreEnds (unknown_of_stored (names_of names.now)) (link_ends_of (names_of names.now))
+        (map link_view links.now) result }
 {
     let mut ends = Vec::new(alloc);
     for link in links {
@@ -79,7 +86,8 @@ pub fn demand_ends(
     demands: &[DemandWords<'_>],
 ) -> Result<Vec<Ends>, ReadNetEnd>
     requires { length (names_of names.now) ≤ MAX_NODES }
-    ensures { AreEnds (unknown_of_demand (names_of names.now)) (demand_ends_of (names_of names.now)) (map demand_view demands.now) result }
+    ensures { AreEnds (unknown_of_demand (names_of names.now)) (demand_ends_of (names_of names.now))
+        (map demand_view demands.now) result }
 {
     let mut ends = Vec::new(alloc);
     for demand in demands {

@@ -31,7 +31,8 @@ fn refusal(kind: NetKind, line: u32) -> ReadNetEnd
 // The network of the rows, or what is wrong with them.
 fn judge<'a>(alloc: Global, rows: Kept<'a>, end: u32) -> Result<RawNet<'a>, ReadNetEnd>
     requires { IsOfText (kept_view rows) }
-    ensures { Gives (λ n. n) result (stored_judged end (kept_view rows.entry) (stored_fault (kept_view rows.entry))) }
+    ensures { Gives (λ n. n) result (stored_judged end (kept_view rows.entry)
+        (stored_fault (kept_view rows.entry))) }
 {
     if let Some(line) = too_many(&rows) {
         return Err(refusal(NetKind::TooMany, line));

@@ -42,7 +42,9 @@ fn push_node<'a>(
     id: Word<'a>,
     place: Option<Vec<&'a [u8]>>,
 ) -> Result<(), AllocError>
-    ensures added { OnOk result (kept_view rows.new ≡ add_node (kept_view rows.old) (record { id = word_view id.entry; place = option_map slices_view place.entry })) }
+    ensures added { OnOk result (kept_view rows.new
+        ≡ add_node (kept_view rows.old) (record
+        { id = word_view id.entry; place = option_map slices_view place.entry })) }
     ensures skipped { rows.new.skipped ≡ rows.old.skipped }
 {
     if rows.nodes.len() < MAX_NODES as usize + 1 {
@@ -123,7 +125,8 @@ impl<'a> Sofar<'a> {
 
     // The link whose words were read.
     fn take_link(&mut self, alloc: Global) -> LinkWords<'a>
-        ensures link { link_view result ≡ link_from (draft_view self.old.draft) (slices_view self.old.modules) self.old.bad }
+        ensures link { link_view result ≡ link_from (draft_view self.old.draft)
+            (slices_view self.old.modules) self.old.bad }
         ensures left { sofar_view self.new ≡ record (sofar_view self.old) { modules = []; bad = None } }
     {
         let draft = self.draft;
@@ -141,7 +144,8 @@ impl<'a> Sofar<'a> {
     }
 
     fn push_module(&mut self, cost: Word<'a>) -> Result<(), AllocError>
-        ensures added { OnOk result (sofar_view self.new ≡ add_module (sofar_view self.old) (word_view cost.entry)) }
+        ensures added { OnOk result (sofar_view self.new
+            ≡ add_module (sofar_view self.old) (word_view cost.entry)) }
         ensures skipped { self.new.rows.skipped ≡ self.old.rows.skipped }
     {
         let capacity = self.draft.capacity;
@@ -152,7 +156,9 @@ impl<'a> Sofar<'a> {
     }
 
     fn push_word(&mut self, word: Word<'a>) -> Result<(), AllocError>
-        ensures added { OnOk result (sofar_view self.new ≡ record (sofar_view self.old) { words = (sofar_view self.old).words ++ (word_view word.entry).text ∷ [] }) }
+        ensures added { OnOk result (sofar_view self.new
+            ≡ record (sofar_view self.old)
+            { words = (sofar_view self.old).words ++ (word_view word.entry).text ∷ [] }) }
         ensures skipped { self.new.rows.skipped ≡ self.old.rows.skipped }
     {
         self.words.push(word.text)?;
@@ -214,7 +220,8 @@ impl<'a> Sofar<'a> {
 
     /// At a word.
     pub fn at_word(&mut self, mode: Mode, word: Word<'a>) -> Result<(), AllocError>
-        ensures put { OnOk result (sofar_view self.new ≡ put_word mode (word_view word.entry) (sofar_view self.old)) }
+        ensures put { OnOk result (sofar_view self.new
+            ≡ put_word mode (word_view word.entry) (sofar_view self.old)) }
         ensures skipped { self.new.rows.skipped ≡ self.old.rows.skipped }
     {
         match mode {

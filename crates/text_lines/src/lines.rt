@@ -23,7 +23,8 @@ impl Buffer {
 
     /// Puts the words, a space before each of them.
     pub fn put_words<K: Sink>(&mut self, out: &mut K, words: &[&[u8]]) -> Result<(), WriteFault>
-        ensures { Puts (K.seen out.old) (K.seen out.new) self.old self.new result (behind (map (λ w. w.now) words.now)) }
+        ensures { Puts (K.seen out.old) (K.seen out.new) self.old self.new result
+            (behind (map (λ w. w.now) words.now)) }
     {
         for word in words {
             match self.put_word(out, *word) {
@@ -41,7 +42,8 @@ impl Buffer {
         first: &[u8],
         words: &[&[u8]],
     ) -> Result<(), WriteFault>
-        ensures { Puts (K.seen out.old) (K.seen out.new) self.old self.new result (spelled (first.now ∷ map (λ w. w.now) words.now)) }
+        ensures { Puts (K.seen out.old) (K.seen out.new) self.old self.new result
+            (spelled (first.now ∷ map (λ w. w.now) words.now)) }
     {
         match self.put(out, first) {
             Ok(()) => {}

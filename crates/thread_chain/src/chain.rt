@@ -73,7 +73,8 @@ fn first_and_rest<R: Threads + Sync, T: Send, F: Fn(usize, &mut [T]) + Sync>(
         ensures { ChangesAt F.Fn work.entry.now base first.entry.now first.exit.now }
     { call(work, base, first) };
     let mut in_this_one = ||
-        requires { IsSync R.row × IsSync F.row × IsSend T.row × AreAccepted (AcceptsAt F.Fn work.now) next size rest.now }
+        requires { IsSync R.row × IsSync F.row × IsSend T.row
+            × AreAccepted (AcceptsAt F.Fn work.now) next size rest.now }
         ensures { ChangesByChunks (ChangesAt F.Fn work.entry.now) next size rest.entry.now rest.exit.now }
     { chain(rt, work, next, size, rest) };
     thread::join_mut(rt, &mut in_new_thread, &mut in_this_one);

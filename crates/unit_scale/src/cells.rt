@@ -49,7 +49,8 @@ fn push_cell(
     cap: u64,
     sign: Sign,
 ) -> Result<(), AllocError>
-    ensures { OnOk result (cells.new.items ≡ cells.old.items ++ cell_going row.now.source row.now.target cap sign ∷ []) }
+    ensures { OnOk result (cells.new.items ≡ cells.old.items ++ cell_going row.now.source
+        row.now.target cap sign ∷ []) }
 {
     cells.push(cell_going(row, cap, sign))?;
     Ok(())
@@ -57,7 +58,8 @@ fn push_cell(
 
 // Puts a cell for each way behind the others.
 fn push_both_ways(cells: &mut Vec<Cell>, row: &LinkRow<'_>, cap: u64) -> Result<(), AllocError>
-    ensures { OnOk result (cells.new.items ≡ cells.old.items ++ link_cells BidirectedIs row.now.source row.now.target cap) }
+    ensures { OnOk result (cells.new.items ≡ cells.old.items ++ link_cells BidirectedIs
+        row.now.source row.now.target cap) }
 {
     cells.push(cell_going(row, cap, Sign::Along))?;
     cells.push(cell_going(row, cap, Sign::Against))?;

@@ -27,7 +27,9 @@ pub struct Kept {
 fn counted_units(size: &DemandSize, unit: u128, total: u64) -> Option<u64>
     requires unit { 1 ≤ unit }
     requires total { total ≤ MAX_TOTAL }
-    ensures { MatchOption result (size_is_large size.now unit total ≡ true) (λ n. (size_is_large size.now unit total ≡ false) × (n ≡ size_units size.now unit) × (total + n ≤ MAX_TOTAL)) }
+    ensures { MatchOption result (size_is_large size.now unit total ≡ true)
+        (λ n. (size_is_large size.now unit total ≡ false) × (n ≡ size_units size.now unit)
+        × (total + n ≤ MAX_TOTAL)) }
 {
     if size.over {
         return None;
@@ -52,7 +54,8 @@ fn add_demand(
     amount: u64,
 ) -> Result<(), AllocError>
     requires { kept.old.left + 1 < 2 ^ 32 }
-    ensures { OnOk result (kept_view kept.new ≡ with_demand left (record { from = row.now.source; to = row.now.target; amount = amount }) i (kept_view kept.old)) }
+    ensures { OnOk result (kept_view kept.new ≡ with_demand left
+        (record { from = row.now.source; to = row.now.target; amount = amount }) i (kept_view kept.old)) }
 {
     if left {
         kept.left += 1;

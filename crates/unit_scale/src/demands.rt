@@ -25,7 +25,9 @@ pub struct DemandSize {
 
 /// The amount of a demand, if it and its numbers are whole numbers of millionths.
 pub fn demand_size(row: &DemandRow<'_>) -> Option<DemandSize>
-    ensures { MatchOption result (is_fine_demand (demand_row_view row.now) ≡ true) (λ z. (is_fine_demand (demand_row_view row.now) ≡ false) × (seen_amount z ≡ seen_demand (demand_row_view row.now))) }
+    ensures { MatchOption result (is_fine_demand (demand_row_view row.now) ≡ true)
+        (λ z. (is_fine_demand (demand_row_view row.now) ≡ false)
+        × (seen_amount z ≡ seen_demand (demand_row_view row.now))) }
 {
     let unit = match word_size(row.unit) {
         Some(unit) => unit,
@@ -49,7 +51,8 @@ pub fn demand_size(row: &DemandRow<'_>) -> Option<DemandSize>
 
 /// The amounts of the demands, if none is too fine.
 pub fn demand_sizes(alloc: Global, raw: &RawNet<'_>) -> Result<Vec<DemandSize>, ScaleEnd>
-    ensures { Stage TooFineIs (first_line is_fine_demand (λ d. d.line) raw.now.demands) (λ v. AreDemandSizes raw.now.demands v.items) result }
+    ensures { Stage TooFineIs (first_line is_fine_demand (λ d. d.line) raw.now.demands)
+        (λ v. AreDemandSizes raw.now.demands v.items) result }
 {
     let mut sizes = Vec::new(alloc);
     for i in 0..raw.demands() {

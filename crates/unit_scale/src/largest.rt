@@ -45,7 +45,10 @@ fn exceeds(number: &NumberParts<'_>, size: u64, best: &Greatest<'_>) -> bool
 // The greatest with one capacity more, if that is a whole number of millionths.
 fn with_capacity<'a>(best: Greatest<'a>, word: &'a [u8]) -> Option<Greatest<'a>>
     requires { IsBest best.number best.size }
-    ensures { MatchOption result (is_fine word.now ≡ true) (λ z. (is_fine word.now ≡ false) × (best_amount z.number ≡ max (best_amount best.entry.number) (value word.now)) × (z.over ≡ (best.entry.over || is_over word.now)) × IsBest z.number z.size) }
+    ensures { MatchOption result (is_fine word.now ≡ true)
+        (λ z. (is_fine word.now ≡ false) ×
+        (best_amount z.number ≡ max (best_amount best.entry.number) (value word.now))
+        × (z.over ≡ (best.entry.over || is_over word.now)) × IsBest z.number z.size) }
 {
     let number = match number_parts(word) {
         Some(number) => number,

@@ -27,7 +27,9 @@ pub struct LinkSize {
 /// What is added to a size by a word, if that is a whole number of millionths.
 fn with_word(size: LinkSize, word: &[u8]) -> Option<LinkSize>
     requires { size.millionths + 2 ^ 64 < 2 ^ 128 }
-    ensures value { MatchOption result (is_fine word.now ≡ true) (λ z. (is_fine word.now ≡ false) × (seen_size z ≡ seen (size.over || is_over word.now) (size.millionths + value word.now))) }
+    ensures value { MatchOption result (is_fine word.now ≡ true)
+        (λ z. (is_fine word.now ≡ false) ×
+        (seen_size z ≡ seen (size.over || is_over word.now) (size.millionths + value word.now))) }
     ensures bound { MatchOption result (⊤) (λ z. z.millionths < size.millionths + 2 ^ 64) }
 {
     let more = match word_size(word) {
@@ -105,7 +107,8 @@ pub fn link_sizes(
     raw: &RawNet<'_>,
     mode: ModuleMode,
 ) -> Result<Vec<LinkSize>, ScaleEnd>
-    ensures { Stage TooFineIs (first_line (is_fine_link mode) (λ l. l.line) raw.now.links) (λ v. AreLinkSizes mode raw.now.links v.items) result }
+    ensures { Stage TooFineIs (first_line (is_fine_link mode) (λ l. l.line) raw.now.links)
+        (λ v. AreLinkSizes mode raw.now.links v.items) result }
 {
     let mut sizes = Vec::new(alloc);
     for i in 0..raw.links() {

@@ -51,7 +51,8 @@ pub fn unit_of(decimals: u8) -> u128
 
 /// The least number of decimals that serves for all.
 pub fn least_decimals(links: &[LinkSize], demands: &[DemandSize]) -> u8
-    ensures { AreDecimals (map (λ z. z.millionths) links.now ++ map (λ z. if z.left then 0 else z.millionths) demands.now) result }
+    ensures { AreDecimals (map (λ z. z.millionths) links.now ++ map
+        (λ z. if z.left then 0 else z.millionths) demands.now) result }
 {
     for decimals in 0..MAX_DECIMALS {
         let unit = unit_of(decimals);
@@ -72,7 +73,8 @@ pub fn either(one: bool, other: bool) -> bool
 /// The units of a size, if neither its numbers nor they are over the limit.
 pub fn units_of_size(over: bool, millionths: u128, unit: u128) -> Option<u64>
     requires { 1 ≤ unit }
-    ensures { MatchOption result ((over || nat_lt MAX_UNITS (millionths / unit)) ≡ true) (λ n. ((over || nat_lt MAX_UNITS (millionths / unit)) ≡ false) × (n ≡ millionths / unit)) }
+    ensures { MatchOption result ((over || nat_lt MAX_UNITS (millionths / unit)) ≡ true)
+        (λ n. ((over || nat_lt MAX_UNITS (millionths / unit)) ≡ false) × (n ≡ millionths / unit)) }
 {
     if over {
         return None;

@@ -85,7 +85,8 @@ pub fn network(
     cells: &[Cell],
     commodities: &[Commodity],
 ) -> Result<Option<Net>, AllocError>
-    ensures { IfOk result (λ net. IfSome net (λ net. net ≡ record { nodes = nodes; cells = cells.now; commodities = commodities.now })) }
+    ensures { IfOk result (λ net. IfSome net
+        (λ net. net ≡ record { nodes = nodes; cells = cells.now; commodities = commodities.now })) }
 {
     let is_network = nodes <= MAX_NODES
         && cells.len() <= MAX_CELLS as usize

@@ -108,7 +108,8 @@ impl Plan {
     pub fn new(alloc: Global, net: &Net, proof: &Proof) -> Result<Plan, AllocError>
         requires proof { IsProofOf net.now proof.now }
         requires valid { IsValid net.now proof.now }
-        ensures { IfOk result (λ p. p ≡ record { net = net.now; proof = proof.now; caps = map (λ c. c.cap) net.now.cells }) }
+        ensures { IfOk result (λ p. p ≡ record
+            { net = net.now; proof = proof.now; caps = map (λ c. c.cap) net.now.cells }) }
     {
         see_potentials(&proof.dual);
         let cells = net.cells();
