@@ -1,0 +1,2 @@
+pub mod TokenKinds
+pub mod Tokens

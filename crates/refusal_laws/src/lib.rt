@@ -1,0 +1,7 @@
+//! What it means that a certificate, a routing or a script is refused at a line, said without the readers: laws over
+//! their texts.
+#![tactic(auto)]
+
+mod scripts;
+
+pub use scripts::{script_kinds_say_why, scripts_stop_there};
