@@ -4,4 +4,4 @@
 
 mod scripts;
 
-pub use scripts::{script_kinds_say_why, scripts_stop_there};
+pub use scripts::{script_kinds_say_why, script_texts_stop_there, scripts_stop_there};
