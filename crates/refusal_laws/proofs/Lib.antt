@@ -1,3 +1,11 @@
+pub mod Heads
+pub mod Near
+pub mod NearPapers
 pub mod Networks
+pub mod Short
+pub mod ShortPapers
+pub mod Steps
+pub mod Stops
+pub mod Stuck
 pub mod TokenKinds
 pub mod Tokens

@@ -1,3 +1,5 @@
+pub mod Heads
 pub mod Lines
+pub mod Papers
 pub mod ScriptKinds
 pub mod Scripts

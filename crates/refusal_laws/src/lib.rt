@@ -2,6 +2,8 @@
 //! their texts.
 #![tactic(auto)]
 
+mod papers;
 mod scripts;
 
+pub use papers::{heads_stop_there, papers_stop_there};
 pub use scripts::{script_kinds_say_why, script_texts_stop_there, scripts_stop_there};
