@@ -1,4 +1,5 @@
 pub mod Heads
+pub mod LineKinds
 pub mod Near
 pub mod NearPapers
 pub mod Networks

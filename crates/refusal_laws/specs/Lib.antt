@@ -1,3 +1,4 @@
+pub mod CertKinds
 pub mod Heads
 pub mod Lines
 pub mod Papers

@@ -1,14 +1,18 @@
 //! Refusals of certificates and routings.
 
-ghost use Rattle.std.specs.Prelude.{◌≡◌, ℕ, List};
-ghost use Rattle.text_lines.specs.Lines.{lines_of};
-ghost use Rattle.cert_lines.specs.Sheet.{Sheets};
+ghost use Rattle.std.specs.Prelude.{◌≡◌, ℕ, List, Err};
+ghost use Rattle.text_lines.specs.Lines.{Line, lines_of};
+ghost use Rattle.cert_lines.specs.Sheet.{Sheet, Sheets};
+ghost use Rattle.cert_lines.specs.declared.refusal.CertKind.{CertKind};
 ghost use Rattle.cert_lines.specs.declared.refusal.CertRefusal.{CertRefusal};
+ghost use Rattle.cert_lines.specs.HeadLines.{gap_line, phases_line, scale_line, value_line};
+ghost use Rattle.cert_lines.specs.Rows.{path_row, length_row, potential_row};
 ghost use Rattle.cert_text.specs.Whole.{head_in, paper_in};
 ghost use Rattle.cert_inverse.specs.Inverse.{AreCitable};
 ghost use Rattle.refusal_laws.specs.Lines.{StopsAt};
 ghost use Rattle.refusal_laws.specs.Papers.{IsPaper, IsWorded, refused};
 ghost use Rattle.refusal_laws.specs.Heads.{IsHeaded, refused_head};
+ghost use Rattle.refusal_laws.specs.CertKinds.{IsLineFault, gap_form, phases_form, scale_form, value_form, path_form, length_form, potential_form};
 
 /// Where a text is refused, the lines before begin the text of some certificate or routing of these names, in one of
 /// the forms, and with the line that is refused they begin none; or the text ends in that line, and is none. Behind the
@@ -23,4 +27,23 @@ pub fn papers_stop_there()
 pub fn heads_stop_there()
     ensures { (text : List ℕ) (r : CertRefusal) → head_in (lines_of text) ≡ refused_head r
         → StopsAt IsHeaded text r.line }
+{}
+
+/// What the kind says of a line that is refused: it has not its form, or it has it, and the kind is that of the first
+/// of its words that is wrong.
+pub fn line_kinds_say_why()
+    ensures gap { (line : Line) (kind : CertKind) → gap_line line ≡ Err kind
+        → IsLineFault (gap_form line) kind }
+    ensures phases { (line : Line) (kind : CertKind) → phases_line line ≡ Err kind
+        → IsLineFault (phases_form line) kind }
+    ensures scale { (line : Line) (kind : CertKind) → scale_line line ≡ Err kind
+        → IsLineFault (scale_form line) kind }
+    ensures values { (key : List ℕ) (most : ℕ) (line : Line) (kind : CertKind)
+        → value_line key most line ≡ Err kind → IsLineFault (value_form key most line) kind }
+    ensures paths { (sheet : Sheet) (line : Line) (kind : CertKind) → path_row sheet line ≡ Err kind
+        → IsLineFault (path_form sheet line) kind }
+    ensures lengths { (sheet : Sheet) (line : Line) (kind : CertKind) → length_row sheet line ≡ Err kind
+        → IsLineFault (length_form sheet line) kind }
+    ensures potentials { (sheet : Sheet) (line : Line) (kind : CertKind)
+        → potential_row sheet line ≡ Err kind → IsLineFault (potential_form sheet line) kind }
 {}
