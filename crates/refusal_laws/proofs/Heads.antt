@@ -1,12 +1,12 @@
 -- Where the first lines of a text are refused, it stops to begin as a certificate or a routing does.
-use Rattle.std.proofs.Common.{◌≡◌, ◌⊎◌, ℕ, ◌+◌, ◌<◌, ◌≤◌, Bool, true, false, cond, eqb, List, [], ◌∷◌, ◌++◌, length, Option, Some, None, Result, Ok, Err, refl, sym, ap, subst, ◌∙◌, append_assoc, append-nil, inl, inr, arith}
+use Rattle.std.proofs.Common.{◌≡◌, ℕ, ◌+◌, ◌<◌, ◌≤◌, Bool, true, false, cond, List, [], ◌∷◌, ◌++◌, length, Some, None, Result, Ok, Err, refl, sym, ap, subst, ◌∙◌, append_assoc, append-nil, inl, inr, arith}
 use Rattle.std.specs.Prelude.{codes, map}
 use Rattle.std.specs.List.{AllByRecursion}
 use Rattle.std.specs.Str.{bytes_eq}
 use Rattle.std.proofs.lemmas.List.Concat.{flat_map-cons}
 use Rattle.text_lines.specs.Lines.{Line, spelled, text_of, words_of, lines_of, IsLine}
 use Rattle.text_lines.proofs.Laws.{words_of-joined}
-use Rattle.unit_scale.specs.Modes.{module_word, link_mode_of, old_link_mode_of, module_mode_of}
+use Rattle.unit_scale.specs.Modes.{module_word, module_mode_of}
 use Rattle.unit_scale.specs.declared.modes.LinkMode.{LinkMode}
 use Rattle.unit_scale.specs.declared.modes.LinkMode.TheVariants.{Directed, Undirected, Bidirected}
 use Rattle.unit_scale.specs.declared.modes.ModuleMode.{ModuleMode}
@@ -14,7 +14,6 @@ use Rattle.unit_scale.specs.declared.modes.ModuleMode.TheVariants.{Ignore, Large
 use Rattle.unit_scale.specs.declared.options.NetOptions.{NetOptions}
 use Rattle.cert_lines.specs.declared.form.Form.{Form}
 use Rattle.cert_lines.specs.declared.form.Form.TheVariants.{First, Second}
-use Rattle.cert_lines.specs.declared.refusal.CertKind.{CertKind}
 use Rattle.cert_lines.specs.declared.refusal.CertKind.TheVariants.{Syntax}
 use Rattle.cert_lines.specs.declared.refusal.CertRefusal.{CertRefusal}
 use Rattle.cert_lines.specs.Forms.{◌>>=◌, or_fault, one_behind}
@@ -35,14 +34,14 @@ use Rattle.cert_inverse.proofs.Clean.{clean}
 use Rattle.cert_inverse.proofs.HeadTakes.{joined, verdict_takes}
 use Rattle.cert_inverse.proofs.HeadAgain.{verdict_again}
 use Rattle.cert_inverse.proofs.Headers.{header_words, header_again, header_take}
-use Rattle.cert_inverse.proofs.PlacesAgain.{place, next_again}
+use Rattle.cert_inverse.proofs.PlacesAgain.{next_again}
 use Rattle.cert_inverse.proofs.Between.{text_of-both}
-use Rattle.refusal_laws.specs.Lines.{whole_lines, IsOneLine, Begins, IsLineOf, IsBadLine, IsCutLine, StopsAt}
+use Rattle.refusal_laws.specs.Lines.{whole_lines, IsLineOf, StopsAt}
 use Rattle.refusal_laws.specs.Heads.{verdict_lines, links_line, modules_line, head_lines, IsHeaded, refused_head}
 use Rattle.refusal_laws.proofs.Steps.{done, failed, Is, then_is}
 use Rattle.refusal_laws.proofs.Near.{Two, Near, Goes, Both, Past, Steps, IsFar, Any, AnyTwo, goes_then, next_steps, steps_then, steps_go, steps_stay}
 use Rattle.refusal_laws.proofs.NearPapers.{header_goes}
-use Rattle.refusal_laws.proofs.Short.{Stand, Short, PartOf, Fits, FaultAt, stand_none, within, line_parses, go_on, stand_then, short_after}
+use Rattle.refusal_laws.proofs.Short.{Stand, Short, Fits, FaultAt, stand_none, within, line_parses, go_on}
 use Rattle.refusal_laws.proofs.Stuck.{HeaderStands, header_at}
 use Rattle.refusal_laws.proofs.Stops.{stops_by, one_line, one_lines, clean_front, joined_lines, count_joined, count_words, split_lines}
 

@@ -1,7 +1,6 @@
 -- Lines of certificates: the first word that is wrong.
-use Rattle.std.proofs.Common.{◌≡◌, ◌≢◌, ◌⊎◌, ℕ, zero, suc, ◌+◌, ◌-◌, ◌*◌, ◌/◌, ◌<◌, ◌≤◌, Bool, true, false, cond, List, [], ◌∷◌, ◌++◌, length, take, drop, Option, Some, None, Result, Ok, Err, refl, sym, ap, subst, ◌∙◌, inl, inr, arith}
+use Rattle.std.proofs.Common.{◌≡◌, ℕ, zero, suc, ◌+◌, ◌-◌, ◌*◌, ◌/◌, ◌<◌, ◌≤◌, Bool, true, false, cond, List, [], ◌∷◌, ◌++◌, length, take, drop, Option, Some, None, Result, Ok, Err, refl, sym, ap, subst, arith}
 use Rattle.std.specs.Prelude.{codes, map, nat_le, nat_lt, ◌&&◌, option_and_then}
-use Rattle.std.specs.List.{AllByRecursion}
 use Rattle.std.specs.Option.{option_map}
 use Rattle.std.specs.Str.Parse.{digits_value}
 use Rattle.std.proofs.lemmas.Bool.Decides.{nat_tests}
@@ -19,7 +18,7 @@ use Rattle.cert_lines.specs.Numbers.{is_number, number_within, is_micro, micro_v
 use Rattle.cert_lines.specs.HeadLines.{gap_line, phases_line, scale_line, fraction_parts, value_line}
 use Rattle.cert_lines.specs.Rows.{length_row, cells_from, path_row, potentials_from, of_that_many, potential_row}
 use Rattle.cert_lines.proofs.NumberSteps.{micro_small}
-use Rattle.refusal_laws.specs.CertKinds.{Sort, name, number, decimal, nothing, Sorted, is_decimal, millionths, IsRight, IsWrong, IsFirstWrong, IsLineFault, gap_form, phases_form, scale_form, value_words, value_form, cell_words, path_form, length_form, potential_form}
+use Rattle.refusal_laws.specs.CertKinds.{name, number, decimal, nothing, Sorted, is_decimal, millionths, IsRight, IsWrong, IsFirstWrong, IsLineFault, gap_form, phases_form, scale_form, value_words, value_form, cell_words, path_form, length_form, potential_form}
 
 abbrev fine : {A : Type 0} → A → Result A CertKind
 fine x = Ok x

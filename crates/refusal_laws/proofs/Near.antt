@@ -1,13 +1,10 @@
 -- Texts that are the same up to a line: what is refused at that line or before is refused in both.
-use Rattle.std.proofs.Common.{◌≡◌, ◌⊎◌, ℕ, ◌+◌, ◌<◌, ◌≤◌, Bool, true, false, cond, List, [], ◌∷◌, ◌++◌, length, Option, Some, None, Result, Ok, Err, refl, sym, ap, subst, inl, inr, arith}
-use Rattle.std.specs.Prelude.{◌&&◌, codes}
+use Rattle.std.proofs.Common.{◌≡◌, ◌⊎◌, ℕ, ◌+◌, ◌<◌, Bool, true, false, cond, List, [], ◌∷◌, ◌++◌, length, Result, Ok, Err, refl, sym, ap, subst, inl, inr, arith}
 use Rattle.text_lines.specs.Lines.{Line}
 use Rattle.cert_lines.specs.declared.refusal.CertKind.{CertKind}
-use Rattle.cert_lines.specs.declared.refusal.CertKind.TheVariants.{Syntax, NoHeader}
 use Rattle.cert_lines.specs.declared.refusal.CertRefusal.{CertRefusal}
-use Rattle.cert_lines.specs.Forms.{◌>>=◌, begins, is_full}
-use Rattle.cert_text.specs.declared.opening.Opening.{Opening}
-use Rattle.cert_text.specs.Reading.{Place, at_line, has_more, line_from, next_line, rows_from, bytes_of}
+use Rattle.cert_lines.specs.Forms.{◌>>=◌, begins}
+use Rattle.cert_text.specs.Reading.{Place, at_line, has_more, line_from, next_line, rows_from}
 use Rattle.refusal_laws.proofs.Steps.{done, Is, then_is, is_more, IsBehind, FaultFrom, next_behind, rows_behind}
 
 -- two texts that are the same up to a line: its number, the line, and what stands behind it in each

@@ -1,5 +1,5 @@
 -- Certificates and routings that are the same up to a line.
-use Rattle.std.proofs.Common.{◌≡◌, ◌⊎◌, ℕ, ◌+◌, ◌<◌, ◌≤◌, Bool, true, false, cond, List, [], ◌∷◌, ◌++◌, length, Option, Some, None, Result, Ok, Err, refl, sym, ap, subst, ◌∙◌, inl, inr, arith}
+use Rattle.std.proofs.Common.{◌≡◌, ℕ, ◌+◌, ◌<◌, ◌≤◌, Bool, true, false, cond, List, [], ◌∷◌, ◌++◌, length, Option, Some, None, Result, Ok, Err, refl, sym, ap, subst, ◌∙◌, inl, inr, arith}
 use Rattle.std.specs.Prelude.{codes}
 use Rattle.std.specs.List.{join_with_byte}
 use Rattle.std.proofs.lemmas.Bool.Decides.{nat_tests}
@@ -12,7 +12,7 @@ use Rattle.flow_paths.specs.declared.certificate.Proof.{Proof}
 use Rattle.gap_fraction.specs.declared.fraction.TheConstants.{MAX_PART}
 use Rattle.mcf_limits.specs.declared.TheConstants.{MAX_LENGTH}
 use Rattle.cert_lines.specs.Sheet.{Sheet, Sheets, sheet_for}
-use Rattle.cert_lines.specs.declared.refusal.CertKind.TheVariants.{Syntax, NoHeader}
+use Rattle.cert_lines.specs.declared.refusal.CertKind.TheVariants.{Syntax}
 use Rattle.cert_lines.specs.declared.refusal.CertRefusal.{CertRefusal}
 use Rattle.cert_lines.specs.Forms.{◌>>=◌, is_full}
 use Rattle.cert_lines.specs.HeadLines.{verdict_line, counts_line, gap_line, phases_line, scale_line, value_line}

@@ -1,8 +1,7 @@
 -- A network with a link: a command of a script can go on.
-use Rattle.std.proofs.Common.{◌≡◌, ℕ, ◌<◌, ◌≤◌, List, [], ◌∷◌, length, get_or, Bool, cond, Option, Some, None, refl, sym, ap, subst, ◌∙◌, arith, inl, inr, All}
+use Rattle.std.proofs.Common.{◌≡◌, ℕ, ◌<◌, ◌≤◌, List, [], ◌∷◌, length, get_or, Bool, cond, Option, Some, None, refl, ap, arith, inl, inr, All}
 use Rattle.std.specs.Prelude.{map}
 use Rattle.std.specs.List.{AllByRecursion, range_with_len}
-use Rattle.std.specs.Str.{bytes_eq}
 use Rattle.std.proofs.lemmas.Bool.{cases_lt, lt-ltb}
 use Rattle.std.proofs.lemmas.List.{get_or_past}
 use Rattle.std.proofs.lemmas.List.Elements.{All-from_recursion, All-map}
@@ -14,7 +13,7 @@ use Rattle.sndlib_grammar.specs.Rows.{NetRows, NetLink, AreNetRows, IsNetLink}
 use Rattle.unit_scale.specs.Names.{cells_of}
 use Rattle.unit_scale.specs.Closed.{caps_of}
 use Rattle.unit_scale.specs.Scaling.{ScaledNet}
-use Rattle.script.specs.Reading.{Terms, link_of, terms_of, link_caps, at_start}
+use Rattle.script.specs.Reading.{link_of, terms_of, at_start}
 use Rattle.refusal_laws.specs.Scripts.{CanGoOn}
 
 cap_small : (net : Network) (i : ℕ) → IsNetwork net → get_or (caps_of net) i 0 ≤ MAX_UNITS

@@ -1,9 +1,8 @@
 -- Certificates and routings: what was read before a refusal is the front of one.
-use Rattle.std.proofs.Common.{◌≡◌, ◌⊎◌, ℕ, ◌+◌, ◌≤◌, ◌<◌, Bool, true, false, cond, List, [], ◌∷◌, ◌++◌, length, Option, Some, None, Result, Ok, Err, refl, sym, ap, subst, ◌∙◌, append_assoc, append-nil, inl, inr, arith}
+use Rattle.std.proofs.Common.{◌≡◌, ℕ, ◌≤◌, Bool, true, List, [], ◌∷◌, ◌++◌, refl, sym, ap, subst, append_assoc, append-nil, arith}
 use Rattle.std.specs.Prelude.{codes, map}
 use Rattle.std.specs.List.{AllByRecursion}
-use Rattle.std.proofs.lemmas.List.Concat.{flat_map-cons}
-use Rattle.text_lines.specs.Lines.{Line, spelled, text_of}
+use Rattle.text_lines.specs.Lines.{Line}
 use Rattle.flow_model.specs.Routing.{Row}
 use Rattle.flow_paths.specs.DualRows.{DualRows, Length, Potential}
 use Rattle.flow_paths.specs.declared.certificate.Routing.{Routing}
@@ -11,34 +10,21 @@ use Rattle.flow_paths.specs.declared.certificate.Printed.{Printed}
 use Rattle.flow_paths.specs.declared.certificate.Proof.{Proof}
 use Rattle.gap_fraction.specs.declared.fraction.TheConstants.{MAX_PART}
 use Rattle.mcf_limits.specs.declared.TheConstants.{MAX_GAP, MAX_LENGTH, MAX_PHASES, MAX_UNITS}
-use Rattle.cert_lines.specs.Sheet.{Sheet, Sheets, sheet_for}
-use Rattle.cert_lines.specs.declared.form.Form.{Form}
-use Rattle.cert_lines.specs.declared.form.Form.TheVariants.{First, Second}
-use Rattle.cert_lines.specs.declared.refusal.CertKind.TheVariants.{Syntax, NoHeader}
-use Rattle.cert_lines.specs.declared.refusal.CertRefusal.{CertRefusal}
+use Rattle.cert_lines.specs.Sheet.{Sheet}
 use Rattle.cert_lines.specs.Forms.{◌>>=◌}
 use Rattle.cert_lines.specs.HeadLines.{verdict_line, counts_line, gap_line, phases_line, scale_line, value_line}
 use Rattle.cert_lines.specs.Rows.{path_row, length_row, potential_row}
 use Rattle.cert_lines.specs.Spelling.{verdict_words, links_words, modules_words, counts_words, gap_words, phases_words, scale_words, value_words, length_words, potential_words, path_words, FitsValue, FitsLength, FitsPotential, FitsPath}
-use Rattle.cert_text.specs.declared.papers.Paper.{Paper}
-use Rattle.cert_text.specs.declared.papers.Paper.TheVariants as papers
-use Rattle.cert_text.specs.declared.opening.Kind.{Kind}
-use Rattle.cert_text.specs.declared.opening.Kind.TheVariants as kinds
-use Rattle.cert_text.specs.declared.opening.Opening.{Opening}
-use Rattle.cert_text.specs.Reading.{Place, next_line, mode_line, rows_from, bytes_of, closing, has_more}
-use Rattle.cert_text.specs.Papers.{modes_at, scale_at, opening_at, values_at, dual_at, routing_at, proof_at, form_of, header_of, header}
-use Rattle.cert_text.specs.Whole.{paper_at, paper_in}
+use Rattle.cert_text.specs.Reading.{Place, next_line, mode_line, rows_from, closing}
+use Rattle.cert_text.specs.Papers.{modes_at, scale_at, opening_at, values_at, dual_at, routing_at, proof_at}
 use Rattle.cert_writer.specs.Text.{end_line, FitsRouting, FitsProof}
-use Rattle.cert_judge.specs.Fits.{FitsPaper}
 use Rattle.cert_judge.proofs.LineFits.{gap_fits, phases_fit, scale_fits, value_fits, length_fits, path_fits, potential_fits}
-use Rattle.cert_inverse.specs.Inverse.{AreInForms, form_said, form_word, paper_lines}
-use Rattle.cert_inverse.proofs.Headers.{header_words, said_words, forms_are, header_take, header_said}
 use Rattle.cert_inverse.proofs.HeadTakes.{joined, verdict_takes, mode_takes, gap_takes, phases_takes, scale_takes, value_takes}
 use Rattle.cert_inverse.proofs.CountTakes.{counts_take}
 use Rattle.cert_inverse.proofs.RowTakes.{path_takes, length_takes, potential_takes}
 use Rattle.cert_inverse.proofs.TextTakes.{scale_lines, value_lines, opened_lines, dual_lines}
-use Rattle.refusal_laws.proofs.Steps.{done, Is, then_is, is_more}
-use Rattle.refusal_laws.proofs.Short.{Stand, Short, PartOf, FrontOf, Read, Parses, Fits, FaultAt, stand_then, stand_none, short_after, short_here, within, line_part, line_parses, rows_part, go_on, go_place, go_last, from_cases}
+use Rattle.refusal_laws.proofs.Steps.{done, Is}
+use Rattle.refusal_laws.proofs.Short.{Stand, Short, PartOf, FrontOf, Read, Parses, Fits, stand_none, within, line_parses, rows_part, go_on, go_place, go_last}
 
 -- ---- parts
 

@@ -1,5 +1,5 @@
 -- Steps, whether they failed or not.
-use Rattle.std.proofs.Common.{◌≡◌, ◌⊎◌, ℕ, ◌+◌, ◌<◌, ◌≤◌, Bool, true, false, cond, List, [], ◌∷◌, Result, Ok, Err, refl, sym, ap, subst, inl, inr, arith}
+use Rattle.std.proofs.Common.{ℕ, ◌+◌, ◌≤◌, Bool, true, false, cond, List, [], ◌∷◌, Result, Ok, Err, arith}
 use Rattle.std.specs.Prelude.{◌&&◌}
 use Rattle.text_lines.specs.Lines.{Line}
 use Rattle.cert_lines.specs.declared.refusal.CertKind.{CertKind}

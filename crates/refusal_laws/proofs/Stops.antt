@@ -1,29 +1,28 @@
 -- Where the text of a certificate or routing is refused, it stops to begin one.
-use Rattle.std.proofs.Common.{◌≡◌, ◌⊎◌, ℕ, ◌+◌, ◌<◌, ◌≤◌, Bool, true, false, cond, eqb, List, [], ◌∷◌, ◌++◌, length, Some, Result, Ok, Err, refl, sym, ap, subst, ◌∙◌, append_assoc, inl, inr, arith}
-use Rattle.std.specs.Prelude.{codes, map}
-use Rattle.std.specs.List.{AllByRecursion, join_with_byte, slice_split}
+use Rattle.std.proofs.Common.{◌≡◌, ◌⊎◌, ℕ, ◌+◌, Bool, true, false, eqb, List, [], ◌∷◌, ◌++◌, length, refl, sym, ap, subst, ◌∙◌, append_assoc, inl, inr, arith}
+use Rattle.std.specs.Prelude.{map}
+use Rattle.std.specs.List.{AllByRecursion}
 use Rattle.std.proofs.lemmas.Bool.Decides.{nat_tests}
 use Rattle.std.proofs.lemmas.List.{append-nil}
 use Rattle.std.proofs.lemmas.List.Concat.{flat_map-cons}
 use Rattle.std.proofs.lemmas.List.Elements.{All-from_recursion}
 use Rattle.std.proofs.lemmas.List.Splits.{slice_split_at}
 use Rattle.text_lines.specs.Lines.{Line, spelled, text_of, words_of, lines_of, IsInside, IsLine}
-use Rattle.cert_lines.specs.Sheet.{Sheet, Sheets, sheet_for}
+use Rattle.cert_lines.specs.Sheet.{Sheets, sheet_for}
 use Rattle.cert_lines.specs.declared.form.Form.{Form}
 use Rattle.cert_lines.specs.declared.form.Form.TheVariants.{First, Second}
 use Rattle.cert_lines.specs.declared.refusal.CertRefusal.{CertRefusal}
-use Rattle.cert_text.specs.declared.papers.Paper.{Paper}
 use Rattle.cert_text.specs.Reading.{bytes_of}
 use Rattle.cert_text.specs.Whole.{paper_in}
 use Rattle.cert_text.proofs.LineSteps.{text_bytes, has_line}
-use Rattle.cert_judge.specs.Fits.{FitsPaper, HasLinkWord, read}
-use Rattle.cert_inverse.specs.Inverse.{AreCitable, IsCitable, IsTextOf, paper_lines, paper_text}
+use Rattle.cert_judge.specs.Fits.{HasLinkWord, read}
+use Rattle.cert_inverse.specs.Inverse.{AreCitable, IsCitable, paper_text}
 use Rattle.cert_inverse.proofs.HeadTakes.{joined}
 use Rattle.cert_inverse.proofs.Headers.{forms_are}
 use Rattle.cert_inverse.proofs.Between.{text_of-both}
 use Rattle.cert_inverse.proofs.TextAgain.{paper_clean, text_is_of_lines}
 use Rattle.cert_inverse.proofs.Exactly.{exactly}
-use Rattle.refusal_laws.specs.Lines.{whole_lines, IsOneLine, Begins, IsLineOf, IsBadLine, IsCutLine, StopsAt}
+use Rattle.refusal_laws.specs.Lines.{whole_lines, IsOneLine, Begins, IsLineOf, StopsAt}
 use Rattle.refusal_laws.specs.Papers.{IsPaper, IsWorded, refused}
 use Rattle.refusal_laws.proofs.Near.{Two}
 use Rattle.refusal_laws.proofs.NearPapers.{same_refusal}

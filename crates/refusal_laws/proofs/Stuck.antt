@@ -1,14 +1,14 @@
 -- A certificate or routing that is refused: the lines before are the front of one.
-use Rattle.std.proofs.Common.{◌≡◌, ◌⊎◌, ℕ, ◌+◌, ◌<◌, ◌≤◌, Bool, true, false, cond, List, [], ◌∷◌, ◌++◌, length, Option, Some, None, Result, Ok, Err, refl, sym, ap, subst, ◌∙◌, append_assoc, inl, inr, arith}
-use Rattle.std.specs.Prelude.{codes, map}
+use Rattle.std.proofs.Common.{◌≡◌, ◌⊎◌, ℕ, ◌+◌, ◌<◌, Bool, true, false, cond, List, [], ◌∷◌, ◌++◌, length, Option, Some, None, Result, Ok, Err, refl, sym, ap, subst, ◌∙◌, append_assoc, inl, inr, arith}
+use Rattle.std.specs.Prelude.{map}
 use Rattle.std.proofs.lemmas.List.Concat.{flat_map-cons}
 use Rattle.text_lines.specs.Lines.{Line, spelled, text_of}
 use Rattle.flow_paths.specs.declared.certificate.Routing.{Routing}
 use Rattle.flow_paths.specs.declared.certificate.Proof.{Proof}
 use Rattle.cert_lines.specs.Sheet.{Sheet, Sheets, sheet_for}
 use Rattle.cert_lines.specs.declared.form.Form.{Form}
-use Rattle.cert_lines.specs.declared.form.Form.TheVariants.{First, Second}
-use Rattle.cert_lines.specs.declared.refusal.CertKind.TheVariants.{Syntax, NoHeader}
+use Rattle.cert_lines.specs.declared.form.Form.TheVariants.{Second}
+use Rattle.cert_lines.specs.declared.refusal.CertKind.TheVariants.{Syntax}
 use Rattle.cert_lines.specs.declared.refusal.CertRefusal.{CertRefusal}
 use Rattle.cert_lines.specs.Forms.{◌>>=◌}
 use Rattle.cert_lines.specs.Spelling.{length_words, potential_words, path_words}
@@ -22,7 +22,7 @@ use Rattle.cert_text.specs.Papers.{routing_at, proof_at, form_of, header_of, hea
 use Rattle.cert_text.specs.Whole.{paper_at, paper_in}
 use Rattle.cert_writer.specs.Text.{end_line, FitsRouting, FitsProof}
 use Rattle.cert_judge.specs.Fits.{FitsPaper}
-use Rattle.cert_inverse.specs.Inverse.{AreInForms, form_said, form_word, paper_lines}
+use Rattle.cert_inverse.specs.Inverse.{AreInForms, form_said, paper_lines}
 use Rattle.cert_inverse.proofs.Headers.{header_words, said_words, forms_are, header_take, header_said}
 use Rattle.cert_inverse.proofs.TextTakes.{scale_lines, value_lines, opened_lines}
 use Rattle.refusal_laws.proofs.Steps.{done, failed, Is, then_is}

@@ -1,6 +1,6 @@
 -- Tokens one after the other: what is wrong with the one that is refused.
 use Rattle.std.proofs.Common.{◌≡◌, ◌≢◌, ◌⊎◌, ℕ, ◌+◌, ◌-◌, ◌<◌, ◌≤◌, List, [], ◌∷◌, ◌++◌, length, refl, sym, ap, subst, ◌∙◌, arith, Ok, Err, Result, Some, None, Option, Bool, true, false, cond, inl, inr, append_assoc, append-nil, get_or, set}
-use Rattle.std.specs.Prelude.{codes, nat_lt, nat_le, if◌then◌else◌}
+use Rattle.std.specs.Prelude.{codes, nat_lt, nat_le}
 use Rattle.std.specs.Str.{bytes_eq}
 use Rattle.std.proofs.lemmas.Bool.Decides.{nat_tests}
 use Rattle.std.proofs.lemmas.Slice.Eq.{bytes_eq-Decides}
@@ -9,11 +9,10 @@ use Rattle.sndlib_grammar.specs.Tokens.{Lexeme}
 use Rattle.sndlib_grammar.specs.declared.token.TokenKind.{TokenKind}
 use Rattle.sndlib_grammar.specs.declared.token.TokenKind.TheVariants.{LeftParen, RightParen, Word}
 use Rattle.sndlib_grammar.specs.Number.{Number as Numeral, number_of}
-use Rattle.unit_scale.specs.declared.decimal.UnitFault.{UnitFault}
 use Rattle.unit_scale.specs.declared.decimal.UnitFault.TheVariants as faults
 use Rattle.unit_scale.specs.Units.{units_read, units_from, units_of}
 use Rattle.script.specs.declared.refusal.ScriptKind.{ScriptKind}
-use Rattle.script.specs.declared.refusal.ScriptKind.TheVariants.{Syntax, UnknownLink, BadNumber, TooFine, TooLarge, BelowZero}
+use Rattle.script.specs.declared.refusal.ScriptKind.TheVariants.{Syntax, TooLarge, BelowZero}
 use Rattle.script.specs.declared.refusal.ScriptRefusal.{ScriptRefusal}
 use Rattle.script.specs.declared.step.Step.{Step}
 use Rattle.script.specs.declared.step.Step.TheVariants.{Edit, Show}
@@ -24,9 +23,9 @@ use Rattle.script.specs.declared.word.Expected.TheVariants.{Command, Link, Closi
 use Rattle.script.specs.declared.word.Meaning.{Meaning}
 use Rattle.script.specs.declared.word.Meaning.TheVariants.{Expects, Edits, Shows}
 use Rattle.script.specs.Reading.{Terms, Sofar, scan, after, by_kind, command, meaning, token_meaning, linked, link_of, number, edits, changed, go_on, refused, finished}
-use Rattle.script.specs.Commands.{IsWord, IsShow, IsClose, IsChange, AreCommands, change_word}
+use Rattle.script.specs.Commands.{IsWord, AreCommands, change_word}
 use Rattle.script.proofs.Spelled.{state}
-use Rattle.refusal_laws.specs.ScriptKinds.{caps_after, IsVerb, IsId, IsOpened, IsWithin, IsNoCommand, IsUnits, IsFine, IsFault, IsOfToken, IsOfEnd}
+use Rattle.refusal_laws.specs.ScriptKinds.{caps_after, IsVerb, IsId, IsOpened, IsWithin, IsUnits, IsFault, IsOfToken, IsOfEnd}
 
 same_word : (w v : List ℕ) → bytes_eq w v ≡ true → w ≡ v
 same_word w v e = (bytes_eq-Decides w v).0 e

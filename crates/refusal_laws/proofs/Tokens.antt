@@ -1,5 +1,5 @@
 -- Tokens one after the other: where they are refused, a script began before, and none goes on so.
-use Rattle.std.proofs.Common.{◌≡◌, ◌⊎◌, ℕ, ◌+◌, ◌-◌, ◌^◌, ◌<◌, ◌≤◌, List, [], ◌∷◌, ◌++◌, length, refl, sym, ap, subst, ◌∙◌, arith, Ok, Err, Result, Some, None, Option, Bool, true, false, cond, inl, inr, append_assoc, get_or, set, All, zero-mul}
+use Rattle.std.proofs.Common.{◌≡◌, ◌⊎◌, ℕ, ◌+◌, ◌-◌, ◌^◌, ◌≤◌, List, [], ◌∷◌, ◌++◌, length, refl, sym, ap, subst, ◌∙◌, arith, Ok, Err, Result, Some, None, Option, Bool, true, false, cond, inl, inr, append_assoc, get_or, set, All, zero-mul}
 use Rattle.std.specs.Prelude.{codes, nat_lt, nat_le, if◌then◌else◌}
 use Rattle.std.specs.Str.{bytes_eq}
 use Rattle.std.proofs.lemmas.Bool.{cases_lt}
@@ -28,7 +28,7 @@ use Rattle.script.specs.declared.word.Meaning.TheVariants.{Expects, Edits, Shows
 use Rattle.script.specs.Reading.{Terms, Sofar, scan, after, by_kind, command, meaning, token_meaning, linked, link_of, number, edits, changed, go_on, refused, finished}
 use Rattle.script.proofs.Spelled.{state, commands_read}
 use Rattle.script.proofs.Found.{read_commands}
-use Rattle.refusal_laws.specs.Scripts.{IsScript, IsBegun, IsBadToken, IsCutOff, CanGoOn, IsStoppedAt}
+use Rattle.refusal_laws.specs.Scripts.{IsScript, CanGoOn, IsStoppedAt}
 
 not_long : (a b : ℕ) → b ≤ a → nat_lt a b ≡ false
 not_long a b h = grind (arith, nat_tests)

@@ -9,7 +9,6 @@ use Rattle.script.specs.declared.refusal.ScriptKind.TheVariants.{Syntax, Unknown
 use Rattle.script.specs.declared.refusal.ScriptRefusal.{ScriptRefusal}
 use Rattle.script.specs.declared.step.Step.{Step}
 use Rattle.script.specs.declared.step.Step.TheVariants.{Edit, Show}
-use Rattle.script.specs.declared.word.Change.{Change}
 use Rattle.script.specs.declared.word.Change.TheVariants.{Add, Sub}
 use Rattle.script.specs.declared.word.Expected.{Expected}
 use Rattle.script.specs.declared.word.Expected.TheVariants.{Command, Link, Closing, Number}
