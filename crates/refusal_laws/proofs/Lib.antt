@@ -1,8 +1,10 @@
 pub mod Heads
 pub mod LineKinds
+pub mod LineReasons
 pub mod Near
 pub mod NearPapers
 pub mod Networks
+pub mod Reasons
 pub mod Short
 pub mod ShortPapers
 pub mod Steps

@@ -1,6 +1,7 @@
 pub mod CertKinds
 pub mod Heads
 pub mod Lines
+pub mod PaperKinds
 pub mod Papers
 pub mod ScriptKinds
 pub mod Scripts

@@ -12,6 +12,7 @@ ghost use Rattle.cert_inverse.specs.Inverse.{AreCitable};
 ghost use Rattle.refusal_laws.specs.Lines.{StopsAt};
 ghost use Rattle.refusal_laws.specs.Papers.{IsPaper, IsWorded, refused};
 ghost use Rattle.refusal_laws.specs.Heads.{IsHeaded, refused_head};
+ghost use Rattle.refusal_laws.specs.PaperKinds.{IsRefusedFor};
 ghost use Rattle.refusal_laws.specs.CertKinds.{IsLineFault, gap_form, phases_form, scale_form, value_form, path_form, length_form, potential_form};
 
 /// Where a text is refused, the lines before begin the text of some certificate or routing of these names, in one of
@@ -46,4 +47,11 @@ pub fn line_kinds_say_why()
         → IsLineFault (length_form sheet line) kind }
     ensures potentials { (sheet : Sheet) (line : Line) (kind : CertKind)
         → potential_row sheet line ≡ Err kind → IsLineFault (potential_form sheet line) kind }
+{}
+
+/// What the kind says of the line at which a text is refused: the first line is no header; or the text ends in it,
+/// before its line feed; or it is not what a line of that number has to be.
+pub fn paper_kinds_say_why()
+    ensures { (sheets : Sheets) (text : List ℕ) (r : CertRefusal)
+        → paper_in sheets (lines_of text) ≡ refused r → IsRefusedFor sheets (lines_of text) r }
 {}
