@@ -8,9 +8,10 @@ mod papers;
 mod place;
 mod rows;
 
-pub use cert_lines::{CertEnd, CertKind, CertRefusal};
-pub use cert_names::Form;
-pub use head::{next_counted, next_figures, next_modes, next_opening, next_value, next_values};
+pub use cert_lines::{CertEnd, CertKind, CertRefusal, Form};
+pub use head::{
+    next_counted, next_figures, next_modes, next_opening, next_value, next_values,
+};
 pub use laws::old_form_has_no_bidirected_links;
 pub use opening::{CertHead, Kind, Known, Opened, Opening, open};
 pub use papers::{Paper, read_rest};

@@ -5,7 +5,7 @@ ghost use Rattle.text_lines.specs.Lines.{Line};
 ghost use Rattle.cert_text.specs.Views.{opened_view, place_view, HasRoom};
 ghost use Rattle.cert_text.specs.Reading.{Gives};
 ghost use Rattle.cert_text.specs.Papers.{dual_at, routing_from, proof_from};
-ghost use Rattle.cert_names.specs.Sheet.{IsOf, sheets_of};
+ghost use Rattle.cert_lines.specs.Sheet.{IsOf, sheets_of};
 ghost use Rattle.cert_text.specs.declared.opening.Known.{Known};
 ghost use Rattle.cert_text.specs.Whole.{opened_by, paper_in, rest_at, SaysModes};
 
@@ -13,8 +13,7 @@ use crate::head::{next_counted, next_figures, next_values};
 use crate::opening::Opened;
 use crate::place::{Place, closing};
 use crate::rows::{next_lengths, next_paths, next_potentials};
-use cert_lines::CertEnd;
-use cert_names::Names;
+use cert_lines::{CertEnd, Names};
 use flow_paths::{Dual, PathStore, Proof, Routing};
 use mcf_limits::MAX_PATH_CELLS;
 use sndlib_read::RawNet;
