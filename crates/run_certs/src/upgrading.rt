@@ -11,7 +11,6 @@ use cert_writer::write_cert;
 use flow_paths::Proof;
 use mcf_base::{Shelf, Sink};
 use mcf_limits::{MAX_CERT_BYTES, MAX_NET_BYTES};
-use net_whatif::{Certified, read_certificate};
 use run_base::{Ended, Outcome, Paper, file_text, net_rows, tell};
 use sndlib_read::RawNet;
 use std::alloc::Global;

@@ -27,11 +27,11 @@ use Rattle.net_solve.specs.Solving.{IsSolving}
 use Rattle.net_solve.specs.Asked.{IsTooMuch}
 use Rattle.script.specs.Reading.{script_of}
 use Rattle.script.specs.declared.step.Step.{Step}
-use Rattle.net_whatif.specs.declared.certifying.Certified.{Certified}
-use Rattle.net_whatif.specs.declared.certifying.Certified.TheVariants as certs
+use Rattle.cert_judge.specs.declared.certifying.Certified.{Certified}
+use Rattle.cert_judge.specs.declared.certifying.Certified.TheVariants as certs
 use Rattle.net_whatif.specs.declared.scripting.Scripted.{Scripted}
 use Rattle.net_whatif.specs.declared.scripting.Scripted.TheVariants as scripts
-use Rattle.net_whatif.specs.Certified.{OnCertificate as CertOnCertificate, OnPaper, OnNet, OnHead, OnHeader, IsCertifiedText}
+use Rattle.cert_judge.specs.Certified.{OnCertificate as CertOnCertificate, OnPaper, OnNet, OnHead, OnHeader, IsCertifiedText}
 use Rattle.net_whatif.specs.Scripted.{IsScriptedText}
 use Rattle.mcf_words.specs.declared.request.Request.{Request}
 use Rattle.mcf_words.specs.declared.request.Command.{Command}

@@ -26,13 +26,13 @@ use Rattle.cert_judge.specs.Judgement.{options_of, OnPaper as SaidOnPaper, OnNet
 use Rattle.net_solve.specs.declared.solving.Solving.{Solving}
 use Rattle.net_solve.specs.declared.solving.Solving.TheVariants as solvings
 use Rattle.net_solve.specs.Solving.{IsSolving}
-use Rattle.net_whatif.specs.declared.certifying.Certified.{Certified}
-use Rattle.net_whatif.specs.declared.certifying.Certified.TheVariants as certs
+use Rattle.cert_judge.specs.declared.certifying.Certified.{Certified}
+use Rattle.cert_judge.specs.declared.certifying.Certified.TheVariants as certs
 use Rattle.net_whatif.specs.declared.scripting.Scripted.{Scripted}
 use Rattle.net_whatif.specs.declared.scripting.Scripted.TheVariants as scripts
 use Rattle.script.specs.declared.step.Step.{Step}
 use Rattle.script.specs.Reading.{script_of}
-use Rattle.net_whatif.specs.Certified.{no_header, is_routing, OnCertificate as CertOnCertificate, OnPaper, OnNet, OnHead, OnHeader}
+use Rattle.cert_judge.specs.Certified.{no_header, is_routing, OnCertificate as CertOnCertificate, OnPaper, OnNet, OnHead, OnHeader}
 use Rattle.net_whatif.specs.Scripted.{IsScriptedText}
 use Rattle.mcf_words.specs.declared.request.Request.{Request}
 use Rattle.mcf_words.specs.Request.{request_of}

@@ -32,9 +32,9 @@ use Rattle.net_solve.specs.declared.asked.Asked.{Asked}
 use Rattle.net_solve.specs.declared.solving.Solving.{Solving}
 use Rattle.net_solve.specs.declared.solving.Solving.TheVariants as solvings
 use Rattle.net_solve.specs.Solving.{IsDone, IsSolving}
-use Rattle.net_whatif.specs.declared.certifying.Certified.{Certified}
-use Rattle.net_whatif.specs.declared.certifying.Certified.TheVariants as certs
-use Rattle.net_whatif.specs.Certified.{IsCertificate, OnCertificate as CertOnCertificate, is_routing}
+use Rattle.cert_judge.specs.declared.certifying.Certified.{Certified}
+use Rattle.cert_judge.specs.declared.certifying.Certified.TheVariants as certs
+use Rattle.cert_judge.specs.Certified.{IsCertificate, OnCertificate as CertOnCertificate, is_routing}
 use Rattle.mcf_words.specs.declared.request.Command.{Command}
 use Rattle.mcf_words.specs.declared.request.Command.TheVariants as commands
 use Rattle.mcf_words.specs.declared.request.Request.{Request}

@@ -23,7 +23,7 @@ use Rattle.cert_text.specs.Papers.{form_of, header, header_of, routing_at}
 use Rattle.cert_text.specs.Whole.{paper_at, paper_in}
 use Rattle.cert_judge.proofs.Steps.{bind_ok, done, ok_is, passed}
 use Rattle.cert_inverse.proofs.Words.{same_bytes}
-use Rattle.net_whatif.specs.Certified.{is_routing, is_routing_line}
+use Rattle.cert_judge.specs.Certified.{is_routing, is_routing_line}
 
 -- a line that is this text is not that one
 other_line : (line : Line) (one other : List ℕ) → bytes_eq one other ≡ false → is_fixed one line ≡ true → is_fixed other line ≡ false
