@@ -15,7 +15,7 @@ use Rattle.cert_text.specs.declared.papers.Paper.{Paper}
 use Rattle.cert_text.specs.declared.papers.Paper.TheVariants.{Routing, Full}
 use Rattle.cert_text.specs.Whole.{head_by, paper_in}
 use Rattle.cert_judge.specs.declared.refusal.Refusal.{Refusal}
-use Rattle.cert_judge.specs.Chain.{read_on}
+use Rattle.cert_judge.specs.Chain.{read_on, AreStages}
 use Rattle.cert_judge.specs.Fits.{FitsPaper}
 
 -- the options that the first lines of the text say
@@ -30,6 +30,11 @@ nothing_more net = None
 abbrev pub paper_on : Known → NetRows → List ℕ → Result (ScaledNet × Paper) Refusal
 paper_on known rows text =
     read_on rows options_of nothing_more (λ net. paper_in (sheets_of rows net) (lines_of text)) (head_by known (lines_of text))
+
+-- each stage of this accepts: the head, the network under its options, the rest of the text
+abbrev pub IsReadOf : Known → NetRows → List ℕ → ScaledNet → Paper → Type 0
+IsReadOf known rows text net paper =
+    AreStages rows options_of nothing_more (λ n. paper_in (sheets_of rows n) (lines_of text)) (head_by known (lines_of text)) net paper
 
 -- its rows name what the network has
 abbrev pub IsOfNet : Network → Paper → Type 0

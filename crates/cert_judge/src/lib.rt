@@ -14,6 +14,6 @@ pub use cert_text::{CertKind, CertRefusal};
 pub use certifying::{Certified, read_certificate};
 pub use judged::Judged;
 pub use judging::{judge, judge_paper, refused};
-pub use laws::papers_fit;
+pub use laws::{papers_fit, read_by_stages};
 pub use reading::read_paper;
 pub use refusal::{ReadEnd, Refusal};

@@ -25,9 +25,11 @@ use Rattle.cert_text.specs.declared.opening.Kind.TheVariants.{Certificate, Routi
 use Rattle.cert_text.specs.declared.opening.Known.{Known}
 use Rattle.cert_text.specs.declared.opening.Known.TheVariants.{Both, Certificates}
 use Rattle.cert_text.specs.declared.opening.Opening.{Opening}
-use Rattle.cert_text.specs.Reading.{Place, at_line, has_more, line_from, next_line, mode_line}
+use Rattle.cert_text.specs.Reading.{Gives, Place, at_line, has_more, line_from, next_line, mode_line}
 use Rattle.cert_text.specs.Papers.{form_of, header_of, of_certificate, is_certificate, header, header_by, modes_at, opening_at, counted_at, proof_at, proof_from, routing_at, routing_from}
-use Rattle.cert_text.specs.Whole.{SaysModes, link_mode_line, module_mode_line, verdict_at, modes_behind, said_head, opened_by, paper_at, paper_in, rest_at}
+use Rattle.cert_text.specs.declared.papers.Paper.{Paper}
+use Rattle.cert_lines.specs.declared.refusal.CertEnd.{CertEnd}
+use Rattle.cert_text.specs.Whole.{SaysModes, head_by, link_mode_line, module_mode_line, verdict_at, modes_behind, said_head, opened_by, paper_at, paper_in, rest_at}
 use Rattle.cert_text.proofs.OldForm.{never_bidirected}
 
 -- the value of a step that did not fail
@@ -223,3 +225,45 @@ opened_rest rows net known lines o e says =
     let behind = behind_also sheet a.0.0.kind a.0.1 b.0 c.0.1 b.1 modes in
     let whole : paper_in (sheets_of rows net) lines ≡ rest_at (sheet_for (sheets_of rows net) a.0.0.form) b.0.0 c.0.1 = rw (known_header known lines a.0 a.1) behind in
     subst (λ (q : (CertHead × Option Bool) × Place). paper_in (sheets_of rows net) lines ≡ rest_at (sheet_for (sheets_of rows net) q.0.0.form) q.0.1 q.1) is whole
+
+-- what was read behind the modes is what the whole text is read as
+pub gives_rest : (rows : NetRows) (net : ScaledNet) (known : Known) (lines : List Line) (o : (CertHead × Option Bool) × Place) (sheet : Sheet) (result : Result Paper CertEnd) → sheet ≡ sheet_for (sheets_of rows net) o.0.0.form
+    → Gives (λ x. x) result (rest_at sheet o.0.1 o.1) → opened_by known lines ≡ Ok o → SaysModes net.options o.0.0 → Gives (λ x. x) result (paper_in (sheets_of rows net) lines)
+gives_rest rows net known lines o sheet result is given e says =
+    subst (λ (r : Result Paper CertRefusal). Gives (λ x. x) result r) (sym (opened_rest rows net known lines o e says))
+    (subst (λ (s : Sheet). Gives (λ x. x) result (rest_at s o.0.1 o.1)) is given)
+
+-- ---- which headers are known
+
+-- the first line of a head that was read
+pub head_header : (known : Known) (lines : List Line) (head : CertHead) → head_by known lines ≡ Ok head → (first : Opening × Place) × (header_by known lines ≡ Ok first)
+unfolding head_by opened_by
+head_header known lines head e =
+    let a = bind_ok (opened_by known lines) (λ opened. done {A = CertHead} {E = CertRefusal} opened.0.0) head e in
+    let b = bind_ok (header_by known lines) (λ first. verdict_at first.0.kind first.1 >>= λ verdict. modes_behind first.0.form verdict.1 >>= λ modes. done {A = (CertHead × Option Bool) × Place} {E = CertRefusal} ((said_head first.0 modes.0, verdict.0), modes.1)) a.0 a.1 in
+    (b.0, b.1)
+
+-- one first line, one head
+pub same_head : (lines : List Line) (first : Opening × Place) → header_by Certificates lines ≡ Ok first → header lines ≡ Ok first → head_by Certificates lines ≡ head_by Both lines
+unfolding head_by opened_by
+same_head lines first a b = rw (a, b) refl
+
+known_again : (form : Option Opening) (lines : List Line) (first : Opening × Place) → header_of form lines ≡ Ok first → first.0.kind ≡ Certificate → header_of (of_certificate form) lines ≡ Ok first
+known_again None lines first e kind = absurd cc
+known_again (Some opening) lines first e kind = by (has_more lines) e
+  where
+    place : Opening × Place
+    place = (opening, record { at = 2; rest = lines })
+
+    by : (b : Bool) → (if b then done place else Err (record { line = 1; kind = Syntax })) ≡ Ok first → header_of (of_certificate (Some opening)) lines ≡ Ok first
+    by true h =
+        let is = ok_is {E = CertRefusal} place first h in
+        let own : opening.kind ≡ Certificate = ap (λ (q : Opening × Place). q.0.kind) is ∙ kind in
+        rw own e
+    by false h = absurd cc
+
+-- the header of a certificate is known in either case
+pub certificate_known : (lines : List Line) (first : Opening × Place) → header lines ≡ Ok first → first.0.kind ≡ Certificate → header_by Certificates lines ≡ Ok first
+unfolding header_by
+certificate_known [] first e kind = absurd cc
+certificate_known (line ∷ lines) first e kind = known_again (form_of line) lines first e kind

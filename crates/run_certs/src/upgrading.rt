@@ -6,6 +6,7 @@ ghost use Rattle.cert_writer.specs.Text.{FitsProof};
 ghost use Rattle.run_base.specs.Answer.{IsTold, Writes};
 ghost use Rattle.run_certs.specs.Upgrade.{OfUpgrade, OfUpgraded, upgraded};
 
+use cert_judge::{Certified, read_certificate};
 use cert_lines::{Form, Names};
 use cert_writer::write_cert;
 use flow_paths::Proof;
