@@ -28,6 +28,7 @@ use Rattle.cert_text.specs.declared.opening.Opening.{Opening}
 use Rattle.cert_text.specs.Reading.{Gives, Place, at_line, has_more, line_from, next_line, mode_line}
 use Rattle.cert_text.specs.Papers.{form_of, header_of, of_certificate, is_certificate, header, header_by, modes_at, opening_at, counted_at, proof_at, proof_from, routing_at, routing_from}
 use Rattle.cert_text.specs.declared.papers.Paper.{Paper}
+use Rattle.cert_text.specs.declared.papers.Paper.TheVariants as papers
 use Rattle.cert_lines.specs.declared.refusal.CertEnd.{CertEnd}
 use Rattle.cert_text.specs.Whole.{SaysModes, head_by, link_mode_line, module_mode_line, verdict_at, modes_behind, said_head, opened_by, paper_at, paper_in, rest_at}
 use Rattle.cert_text.proofs.OldForm.{never_bidirected}
@@ -51,8 +52,8 @@ module _ {X Y : Type 0} (read : Line → Result X CertKind) (other : Line → Re
   line_also at (line ∷ lines) after e = by (has_more lines) (read line) (other line) (also line) e
     where
       by : (b : Bool) (r : Result X CertKind) (s : Result Y CertKind) → (r ≡ Ok x → s ≡ Ok y)
-          → (if b then (at_line at r >>= λ z. done (z, record { at = at + 1; rest = lines })) else Err (record { line = at; kind = Syntax })) ≡ Ok (x, after)
-          → (if b then (at_line at s >>= λ z. done (z, record { at = at + 1; rest = lines })) else Err (record { line = at; kind = Syntax })) ≡ Ok (y, after)
+          → (if b then (at_line at r >>= λ z. done {A = X × Place} {E = CertRefusal} (z, record { at = at + 1; rest = lines })) else Err (record { line = at; kind = Syntax })) ≡ Ok (x, after)
+          → (if b then (at_line at s >>= λ z. done {A = Y × Place} {E = CertRefusal} (z, record { at = at + 1; rest = lines })) else Err (record { line = at; kind = Syntax })) ≡ Ok (y, after)
       by true (Ok z) s to h =
           let p = ok_is {E = CertRefusal} (z, record { at = at + 1; rest = lines }) (x, after) h in
           let is : z ≡ x = ap (λ (q : X × Place). q.0) p in
@@ -67,7 +68,7 @@ module _ {X Y : Type 0} (read : Line → Result X CertKind) (other : Line → Re
 
 -- ---- the lines of the modes
 
-taken : (b : Bool) → b ≡ true → (if b then done {E = CertKind} tt else Err Syntax) ≡ Ok tt
+taken : (b : Bool) → b ≡ true → (if b then done {A = Unit {0}} {E = CertKind} tt else Err Syntax) ≡ Ok tt
 taken true e = refl
 taken false e = absurd cc
 
@@ -155,12 +156,22 @@ modes_also sheet form place x words e =
     let l : a.0.0 ≡ x.0.links = ap (λ (q : NetOptions × Place). q.0.links) is in
     let m : b.0.0 ≡ x.0.modules = ap (λ (q : NetOptions × Place). q.0.modules) is in
     let first : next_line (mode_line (codes "links") sheet.link_mode) place ≡ Ok (tt, a.0.1) =
-        rw (words.links, sym l) (next_also (link_mode_line form) (mode_line (codes "links") (link_mode_word form a.0.0)) a.0.0 tt (λ line h. links_also form a.0.0 line h) place a.0.1 a.1) in
+    subst (λ (w : List ℕ). next_line (mode_line (codes "links") w) place ≡ Ok (tt, a.0.1)) (ap (link_mode_word form) l ∙ sym words.links)
+    (next_also (link_mode_line form) (mode_line (codes "links") (link_mode_word form a.0.0)) a.0.0 tt (λ line h. links_also form a.0.0 line h) place a.0.1 a.1) in
     let second : next_line (mode_line (codes "modules") sheet.module_mode) a.0.1 ≡ Ok (tt, b.0.1) =
-        rw (words.modules, sym m) (next_also module_mode_line (mode_line (codes "modules") (module_word b.0.0)) b.0.0 tt (λ line h. modules_also b.0.0 line h) a.0.1 b.0.1 b.1) in
+    subst (λ (w : List ℕ). next_line (mode_line (codes "modules") w) a.0.1 ≡ Ok (tt, b.0.1)) (ap module_word m ∙ sym words.modules)
+    (next_also module_mode_line (mode_line (codes "modules") (module_word b.0.0)) b.0.0 tt (λ line h. modules_also b.0.0 line h) a.0.1 b.0.1 b.1) in
     rw (first, second) (ap (λ (q : NetOptions × Place). done {E = CertRefusal} q.1) is)
 
 -- ---- what follows the header
+
+behind_verdict : (sheet : Sheet) (start place after : Place) (closed : Bool) → next_line verdict_line start ≡ Ok (closed, place) → modes_at sheet place ≡ Ok after → paper_at sheet Certificate start ≡ rest_at sheet (Some closed) after
+unfolding paper_at proof_at opening_at rest_at
+behind_verdict sheet start place after closed v m = rw (v, m) (bound (counted_at sheet closed after))
+  where
+    bound : (r : Result ((Bool × ℕ) × Place) CertRefusal) → ((r >>= λ opening. proof_from sheet opening) >>= λ p. done {A = Paper} {E = CertRefusal} (papers.Full p)) ≡ (r >>= λ counted. proof_from sheet counted >>= λ p. done {A = Paper} {E = CertRefusal} (papers.Full p))
+    bound (Ok x) = refl
+    bound (Err d) = refl
 
 behind_also : (sheet : Sheet) (kind : Kind) (start : Place) (verdict : Option Bool × Place) (after : Place) → verdict_at kind start ≡ Ok verdict → modes_at sheet verdict.1 ≡ Ok after → paper_at sheet kind start ≡ rest_at sheet verdict.0 after
 unfolding verdict_at paper_at proof_at opening_at routing_at rest_at
@@ -170,11 +181,7 @@ behind_also sheet Routing start verdict after v m =
 behind_also sheet Certificate start verdict after v m =
     let a = bind_ok (next_line verdict_line start) (λ x. done {A = Option Bool × Place} {E = CertRefusal} (Some x.0, x.1)) verdict v in
     let is = ok_is {E = CertRefusal} (Some a.0.0, a.0.1) verdict a.2 in
-    subst (λ (q : Option Bool × Place). modes_at sheet q.1 ≡ Ok after → paper_at sheet Certificate start ≡ rest_at sheet q.0 after) is (λ h. rw (a.1, h) (bound (counted_at sheet a.0.0 after))) m
-  where
-    bound : (r : Result ((Bool × ℕ) × Place) CertRefusal) → ((r >>= λ opening. proof_from sheet opening) >>= λ p. done {E = CertRefusal} p) ≡ (r >>= λ counted. proof_from sheet counted >>= λ p. done {E = CertRefusal} p)
-    bound (Ok x) = refl
-    bound (Err d) = refl
+    subst (λ (q : Option Bool × Place). modes_at sheet q.1 ≡ Ok after → paper_at sheet Certificate start ≡ rest_at sheet q.0 after) is (behind_verdict sheet start a.0.1 after a.0.0 a.1) m
 
 -- ---- the first line
 
@@ -185,7 +192,7 @@ of_known (Some opening) lines first e = by opening.kind refl e
     by : (kind : Kind) → opening.kind ≡ kind → header_of (if is_certificate kind then Some opening else None) lines ≡ Ok first → header_of (Some opening) lines ≡ Ok first × (first.0.kind ≡ Certificate)
     by Certificate is h = (h, from (has_more lines) h)
       where
-        from : (b : Bool) → (if b then done (opening, record { at = 2; rest = lines }) else Err (record { line = 1; kind = Syntax })) ≡ Ok first → first.0.kind ≡ Certificate
+        from : (b : Bool) → (if b then done {A = Opening × Place} {E = CertRefusal} (opening, record { at = 2; rest = lines }) else Err (record { line = 1; kind = Syntax })) ≡ Ok first → first.0.kind ≡ Certificate
         from true g = subst (λ (q : Opening × Place). q.0.kind ≡ Certificate) (ok_is {E = CertRefusal} (opening, record { at = 2; rest = lines }) first g) is
         from false g = absurd cc
     by Routing is h = absurd cc
@@ -255,11 +262,15 @@ known_again (Some opening) lines first e kind = by (has_more lines) e
     place : Opening × Place
     place = (opening, record { at = 2; rest = lines })
 
-    by : (b : Bool) → (if b then done place else Err (record { line = 1; kind = Syntax })) ≡ Ok first → header_of (of_certificate (Some opening)) lines ≡ Ok first
+    with_kind : (kind : Kind) → kind ≡ Certificate → header_of (if is_certificate kind then Some opening else None) lines ≡ Ok first
+    with_kind Certificate own = e
+    with_kind Routing own = absurd cc
+
+    by : (b : Bool) → (if b then done {A = Opening × Place} {E = CertRefusal} place else Err (record { line = 1; kind = Syntax })) ≡ Ok first → header_of (of_certificate (Some opening)) lines ≡ Ok first
     by true h =
         let is = ok_is {E = CertRefusal} place first h in
         let own : opening.kind ≡ Certificate = ap (λ (q : Opening × Place). q.0.kind) is ∙ kind in
-        rw own e
+        with_kind opening.kind own
     by false h = absurd cc
 
 -- the header of a certificate is known in either case

@@ -111,10 +111,12 @@ fn known_form(known: Known, line: &[u8]) -> Option<Opening>
     match (known, form) {
         (
             Known::Certificates,
-            Some(Opening {
-                kind: Kind::Routing,
-                ..
-            }),
+            Some(
+                Opening {
+                    kind: Kind::Routing,
+                    ..
+                },
+            ),
         ) => None,
         _ => form,
     }

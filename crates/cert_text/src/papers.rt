@@ -199,8 +199,8 @@ pub fn read_rest<'a>(
 ) -> Result<Paper, CertEnd>
     requires net { IsOf rows.now net.now }
     requires room { HasRoom opened.rest }
-    ensures { (known : Known) (lines : List Line) → opened_by known lines ≡ Ok (opened_view opened)
-        → SaysModes net.now.options opened.head
+    ensures { (known : Known) (lines : List Line) → opened_by known lines ≡ Ok (opened_view opened.entry)
+        → SaysModes net.now.options opened.entry.head
         → Gives (λ x. x) result (paper_in (sheets_of rows.now net.now) lines) }
 {
     let names = Names::new(rows, net, opened.head.form);
