@@ -25,7 +25,7 @@ use Rattle.cert_text.specs.declared.opening.Opening.{Opening}
 use Rattle.cert_text.specs.declared.opening.CertHead.{CertHead}
 use Rattle.cert_text.specs.Reading.{Place, next_line, bytes_of, has_more}
 use Rattle.cert_text.specs.Papers.{header}
-use Rattle.cert_text.specs.Whole.{mode_in, link_mode_line, module_mode_line, behind_verdict, modes_head, head_in}
+use Rattle.cert_text.specs.Whole.{mode_in, link_mode_line, module_mode_line, verdict_at, modes_behind, said_head, opened_by, head_by, head_in}
 use Rattle.cert_text.proofs.LineSteps.{text_bytes, has_line}
 use Rattle.cert_judge.proofs.Steps.{bind_ok, some_is}
 use Rattle.cert_inverse.specs.Inverse.{form_word, link_word_in, read_head}
@@ -39,7 +39,7 @@ use Rattle.cert_inverse.proofs.Between.{text_of-both}
 use Rattle.refusal_laws.specs.Lines.{whole_lines, IsLineOf, StopsAt}
 use Rattle.refusal_laws.specs.Heads.{verdict_lines, links_line, modules_line, head_lines, IsHeaded, refused_head}
 use Rattle.refusal_laws.proofs.Steps.{done, failed, Is, then_is}
-use Rattle.refusal_laws.proofs.Near.{Two, Near, Goes, Both, Past, Steps, IsFar, Any, AnyTwo, goes_then, next_steps, steps_then, steps_go, steps_stay}
+use Rattle.refusal_laws.proofs.Near.{Two, Near, Goes, Both, Past, Steps, IsFar, Any, AnyTwo, goes_then, next_steps, steps_then, steps_go, steps_stay, steps_give}
 use Rattle.refusal_laws.proofs.NearPapers.{header_goes}
 use Rattle.refusal_laws.proofs.Short.{Stand, Short, Fits, FaultAt, stand_none, within, line_parses, go_on}
 use Rattle.refusal_laws.proofs.Stuck.{HeaderStands, header_at}
@@ -47,38 +47,45 @@ use Rattle.refusal_laws.proofs.Stops.{stops_by, one_line, one_lines, clean_front
 
 -- ---- the same up to a line
 
-abbrev options : LinkMode → ModuleMode → NetOptions
+abbrev pub options : LinkMode → ModuleMode → NetOptions
 options links modules = record { links = links; modules = modules }
 
-abbrev said : Opening → NetOptions → CertHead
-said o m = record { kind = o.kind; form = o.form; links = m.links; modules = m.modules }
+-- what the first lines say: the head, and the verdict, where there is one
+abbrev pub Opened : Type 0
+Opened = CertHead × Option Bool
 
-verdict_steps : (t : Two) (kind : Kind) → Steps t (Near t) (IsFar t) (behind_verdict kind)
-unfolding behind_verdict
-verdict_steps t kinds.Certificate = steps_then t (Near t) (IsFar t) (next_line verdict_line) (λ v. done v.1) (next_steps t verdict_line) (λ v. steps_stay t)
-verdict_steps t kinds.Routing = steps_stay t
+-- the lines behind the header
+abbrev pub opened_from : Opening → Place → Result (Opened × Place) CertRefusal
+opened_from o p = verdict_at o.kind p >>= λ v. modes_behind o.form v.1 >>= λ modes. done ((said_head o modes.0, v.0), modes.1)
 
-anything : {B : Type 0} (t : Two) (x : B) → Steps t (AnyTwo {A = B}) (Any {A = B}) (λ p. done x)
-anything t x = record { near = λ p q n. inr tt; past = λ p h. tt }
+verdict_steps : (t : Two) (kind : Kind) → Steps t (Both {X = Option Bool} t) (Past {X = Option Bool} t) (verdict_at kind)
+unfolding verdict_at
+verdict_steps t kinds.Certificate = steps_then t (Both {X = Option Bool} t) (Past {X = Option Bool} t) (next_line verdict_line) (λ v. done (Some v.0, v.1)) (next_steps t verdict_line) (λ v. steps_give t (Some v))
+verdict_steps t kinds.Routing = steps_give t None
 
-modes_steps : (t : Two) (o : Opening) → Steps t (AnyTwo {A = NetOptions}) (Any {A = NetOptions}) (modes_head o)
-unfolding modes_head
-modes_steps t o =
-    let ok = AnyTwo {A = NetOptions} in
-    let far = Any {A = NetOptions} in
-    steps_go t ok far (behind_verdict o.kind) (λ p. next_line (link_mode_line o.form) p >>= λ links. next_line module_mode_line links.1 >>= λ modules. done (options links.0 modules.0)) (verdict_steps t o.kind)
-    (steps_then t ok far (next_line (link_mode_line o.form)) (λ links. next_line module_mode_line links.1 >>= λ modules. done (options links.0 modules.0)) (next_steps t (link_mode_line o.form))
-    (λ l. steps_then t ok far (next_line module_mode_line) (λ modules. done (options l modules.0)) (next_steps t module_mode_line) (λ m. anything t (options l m))))
+modes_steps : (t : Two) (form : Form) → Steps t (Both {X = NetOptions} t) (Past {X = NetOptions} t) (modes_behind form)
+unfolding modes_behind
+modes_steps t form =
+    steps_then t (Both {X = NetOptions} t) (Past {X = NetOptions} t) (next_line (link_mode_line form)) (λ links. next_line module_mode_line links.1 >>= λ modules. done (options links.0 modules.0, modules.1)) (next_steps t (link_mode_line form))
+    (λ l. steps_then t (Both {X = NetOptions} t) (Past {X = NetOptions} t) (next_line module_mode_line) (λ modules. done (options l modules.0, modules.1)) (next_steps t module_mode_line) (λ m. steps_give t (options l m)))
+
+opened_steps : (t : Two) (o : Opening) → Steps t (Both {X = Opened} t) (Past {X = Opened} t) (opened_from o)
+opened_steps t o =
+    steps_then t (Both {X = Opened} t) (Past {X = Opened} t) (verdict_at o.kind) (λ v. modes_behind o.form v.1 >>= λ modes. done ((said_head o modes.0, v.0), modes.1)) (verdict_steps t o.kind)
+    (λ v. steps_then t (Both {X = Opened} t) (Past {X = Opened} t) (modes_behind o.form) (λ modes. done ((said_head o modes.0, v), modes.1)) (modes_steps t o.form) (λ m. steps_give t (said_head o m, v)))
 
 same_refusal : (t : Two) (before : List Line) (r : CertRefusal) → length before + 1 ≡ t.number → r.line ≤ t.number → head_in (before ++ t.line ∷ t.one) ≡ Err r → head_in (before ++ t.line ∷ t.other) ≡ Err r
-unfolding head_in
+unfolding head_by opened_by
 same_refusal t before r count le e =
-    let next = λ (first : Opening × Place). modes_head first.0 first.1 >>= λ modes. done {A = CertHead} (said first.0 modes) in
-    by (header (before ++ t.line ∷ t.one) >>= next) (header (before ++ t.line ∷ t.other) >>= next) e
-    (goes_then t (Both {X = Opening} t) (Past {X = Opening} t) (AnyTwo {A = CertHead}) (Any {A = CertHead}) (header (before ++ t.line ∷ t.one)) (header (before ++ t.line ∷ t.other)) next (header_goes t before count)
-    (λ x y k. subst (λ (z : Opening × Place). Goes t (AnyTwo {A = CertHead}) (Any {A = CertHead}) (next x) (next z)) (sym k.1)
-    (goes_then t (AnyTwo {A = NetOptions}) (Any {A = NetOptions}) (AnyTwo {A = CertHead}) (Any {A = CertHead}) (modes_head x.0 x.1) (modes_head x.0 k.0) (λ modes. done (said x.0 modes)) ((modes_steps t x.0).near x.1 k.0 k.2) (λ a b h. inr tt) (λ a h. tt)))
-    (λ x h. then_is (Any {A = NetOptions}) (λ d. t.number < d.line) (Any {A = CertHead}) (λ d. t.number < d.line) (modes_head x.0 x.1) (λ modes. done (said x.0 modes)) ((modes_steps t x.0).past x.1 h) (λ d k. k) (λ a k. tt)))
+    let next = λ (first : Opening × Place). opened_from first.0 first.1 in
+    let last = λ (x : Opened × Place). done {A = CertHead} {E = CertRefusal} x.0.0 in
+    let one = header (before ++ t.line ∷ t.one) in
+    let other = header (before ++ t.line ∷ t.other) in
+    by ((one >>= next) >>= last) ((other >>= next) >>= last) e
+    (goes_then t (Both {X = Opened} t) (Past {X = Opened} t) (AnyTwo {A = CertHead}) (Any {A = CertHead}) (one >>= next) (other >>= next) last
+    (goes_then t (Both {X = Opening} t) (Past {X = Opening} t) (Both {X = Opened} t) (Past {X = Opened} t) one other next (header_goes t before count)
+    (λ x y k. subst (λ (z : Opening × Place). Goes t (Both {X = Opened} t) (Past {X = Opened} t) (next x) (next z)) (sym k.1) ((opened_steps t x.0).near x.1 k.0 k.2)) (λ x h. (opened_steps t x.0).past x.1 h))
+    (λ x y k. inr tt) (λ x h. tt))
   where
     by : (one other : Result CertHead CertRefusal) → one ≡ Err r → Goes t (AnyTwo {A = CertHead}) (Any {A = CertHead}) one other → other ≡ Err r
     by (Ok x) other h g = absurd cc
@@ -87,7 +94,7 @@ same_refusal t before r count le e =
 
 -- ---- lines that were read
 
-abbrev HasWord : Form → LinkMode → Type 0
+abbrev pub HasWord : Form → LinkMode → Type 0
 HasWord form links = 0 < length (link_word_in form links)
 
 abbrev Worded : Form → List ℕ → LinkMode → Type 0
@@ -125,7 +132,7 @@ module_word_is word mode e = by (bytes_eq word (codes "none")) (bytes_eq word (c
     by false false true h k l s = is (codes "sum") Sum l refl s
     by false false false h k l s = absurd cc
 
-links_take : (form : Form) (line : Line) (mode : LinkMode) → link_mode_line form line ≡ Ok mode → (line ≡ links_line form mode) × HasWord form mode
+pub links_take : (form : Form) (line : Line) (mode : LinkMode) → link_mode_line form line ≡ Ok mode → (line ≡ links_line form mode) × HasWord form mode
 unfolding link_mode_line
 links_take form line mode e =
     let a = bind_ok (or_fault Syntax (one_behind (codes "links") line)) (λ word. or_fault Syntax (mode_in form word)) mode e in
@@ -151,37 +158,43 @@ mode_lines form links modules = links_line form links ∷ modules_line modules �
 abbrev BehindHead : Kind → Form → List Line → Type 0
 BehindHead kind form front = (links : LinkMode) × (modules : ModuleMode) × (closed : Bool) × HasWord form links × (back : List Line) × (verdict_lines kind closed ++ mode_lines form links modules ≡ front ++ back)
 
-abbrev modes_from : Form → Place → Result NetOptions CertRefusal
-modes_from form p = next_line (link_mode_line form) p >>= λ links. next_line module_mode_line links.1 >>= λ modules. done (options links.0 modules.0)
-
-modes_on : (kind : Kind) (form : Form) (closed : Bool) (start p : Place) → Stand (verdict_lines kind closed) start p → Is (Fits {X = NetOptions}) (Short (BehindHead kind form) start) (modes_from form p)
+modes_on : (kind : Kind) (form : Form) (closed : Bool) (start p : Place) → Stand (verdict_lines kind closed) start p → Is (Fits {X = NetOptions × Place}) (Short (BehindHead kind form) start) (modes_behind form p)
+unfolding modes_behind
 modes_on kind form closed start p stand =
     let lead = verdict_lines kind closed in
     let link = λ (m : LinkMode). links_line form m ∷ [] in
     let module_of = λ (m : ModuleMode). modules_line m ∷ [] in
-    let ok = Fits {X = NetOptions} in
-    go_on link (HasWord form) ok (BehindHead kind form) start p lead (next_line (link_mode_line form) p) (λ links. next_line module_mode_line links.1 >>= λ modules. done (options links.0 modules.0)) stand
+    let ok = Fits {X = NetOptions × Place} in
+    go_on link (HasWord form) ok (BehindHead kind form) start p lead (next_line (link_mode_line form) p) (λ links. next_line module_mode_line links.1 >>= λ modules. done (options links.0 modules.0, modules.1)) stand
     (line_parses (link_mode_line form) (links_line form) (HasWord form) Directed (first_word form) (λ line m h. ap joined (links_take form line m h).0) (λ line m h. (links_take form line m h).1) p)
     (λ f is. (is.0, Ignore, closed, is.1, is.2 ++ module_of Ignore, within lead (link is.0) (module_of Ignore) f is.2 (lead ++ mode_lines form is.0 Ignore) refl is.3))
-    (λ l q some st. go_on module_of (Fits {X = ModuleMode}) ok (BehindHead kind form) start q (lead ++ link l) (next_line module_mode_line q) (λ modules. done (options l modules.0)) st
+    (λ l q some st. go_on module_of (Fits {X = ModuleMode}) ok (BehindHead kind form) start q (lead ++ link l) (next_line module_mode_line q) (λ modules. done (options l modules.0, modules.1)) st
     (line_parses module_mode_line modules_line (Fits {X = ModuleMode}) Ignore tt (λ line m h. ap joined (modules_take line m h)) (λ line m h. tt) q)
     (λ f is. (l, is.0, closed, some, is.2 ++ [], within (lead ++ link l) (module_of is.0) [] f is.2 (lead ++ mode_lines form l is.0) (sym (append_assoc lead (link l) (module_of is.0 ++ []))) is.3))
     (λ m r fine st'. tt))
 
-joined_steps : {A : Type 0} (r : Result (A × Place) CertRefusal) (f : Place → Result NetOptions CertRefusal) → (r >>= λ v. f v.1) ≡ ((r >>= λ v. done v.1) >>= f)
+opened_on : (kind : Kind) (form : Form) (closed : Bool) (said : Option Bool) (start p : Place) → Stand (verdict_lines kind closed) start p
+    → Is (Fits {X = Opened × Place}) (Short (BehindHead kind form) start) (modes_behind form p >>= λ modes. done ((said_head (record { kind = kind; form = form }) modes.0, said), modes.1))
+opened_on kind form closed said start p stand =
+    then_is (Fits {X = NetOptions × Place}) (Short (BehindHead kind form) start) (Fits {X = Opened × Place}) (Short (BehindHead kind form) start) (modes_behind form p) (λ modes. done ((said_head (record { kind = kind; form = form }) modes.0, said), modes.1))
+    (modes_on kind form closed start p stand) (λ e s. s) (λ x h. tt)
+
+joined_steps : (r : Result (Bool × Place) CertRefusal) (f : Option Bool × Place → Result (Opened × Place) CertRefusal) → (r >>= λ v. f (Some v.0, v.1)) ≡ ((r >>= λ v. done (Some v.0, v.1)) >>= f)
 joined_steps (Ok x) f = refl
 joined_steps (Err e) f = refl
 
-modes_part : (kind : Kind) (form : Form) (p : Place) → Is (Fits {X = NetOptions}) (Short (BehindHead kind form) p) (modes_head (record { kind = kind; form = form }) p)
-unfolding modes_head behind_verdict
-modes_part kinds.Certificate form p =
+opened_part : (kind : Kind) (form : Form) (p : Place) → Is (Fits {X = Opened × Place}) (Short (BehindHead kind form) p) (opened_from (record { kind = kind; form = form }) p)
+unfolding verdict_at
+opened_part kinds.Certificate form p =
     let verdict = λ (v : Bool). verdict_words v ∷ [] in
-    subst (Is (Fits {X = NetOptions}) (Short (BehindHead kinds.Certificate form) p)) (joined_steps (next_line verdict_line p) (modes_from form))
-    (go_on verdict (Fits {X = Bool}) (Fits {X = NetOptions}) (BehindHead kinds.Certificate form) p p [] (next_line verdict_line p) (λ v. modes_from form v.1) (stand_none p)
+    let o : Opening = record { kind = kinds.Certificate; form = form } in
+    let f = λ (v : Option Bool × Place). modes_behind form v.1 >>= λ modes. done {A = Opened × Place} {E = CertRefusal} ((said_head o modes.0, v.0), modes.1) in
+    subst (Is (Fits {X = Opened × Place}) (Short (BehindHead kinds.Certificate form) p)) (joined_steps (next_line verdict_line p) f)
+    (go_on verdict (Fits {X = Bool}) (Fits {X = Opened × Place}) (BehindHead kinds.Certificate form) p p [] (next_line verdict_line p) (λ v. f (Some v.0, v.1)) (stand_none p)
     (line_parses verdict_line verdict_words (Fits {X = Bool}) true tt verdict_takes (λ line v h. tt) p)
-    (λ f is. (Directed, Ignore, is.0, first_word form, is.2 ++ mode_lines form Directed Ignore, within [] (verdict is.0) (mode_lines form Directed Ignore) f is.2 (verdict is.0 ++ mode_lines form Directed Ignore) refl is.3))
-    (λ v q fine st. modes_on kinds.Certificate form v p q st))
-modes_part kinds.Routing form p = modes_on kinds.Routing form true p p (stand_none p)
+    (λ g is. (Directed, Ignore, is.0, first_word form, is.2 ++ mode_lines form Directed Ignore, within [] (verdict is.0) (mode_lines form Directed Ignore) g is.2 (verdict is.0 ++ mode_lines form Directed Ignore) refl is.3))
+    (λ v q fine st. opened_on kinds.Certificate form v (Some v) p q st))
+opened_part kinds.Routing form p = opened_on kinds.Routing form true None p p (stand_none p)
 
 -- the lines before the refusal begin those of a head
 record IsStuck (lines : List Line) (e : CertRefusal) : Type 0 where
@@ -196,7 +209,7 @@ record IsStuck (lines : List Line) (e : CertRefusal) : Type 0 where
   line : e.line ≡ 1 + length front
 
 stuck : (lines : List Line) (e : CertRefusal) → head_in lines ≡ Err e → IsStuck lines e
-unfolding head_in
+unfolding head_by opened_by
 stuck lines e is = by (header lines) refl (header_at lines) is
   where
     some : CertHead
@@ -240,10 +253,10 @@ stuck lines e is = by (header lines) refl (header_at lines) is
         whole_is kinds.Certificate form links modules closed ls k = ap (λ (l : List Line). header_words kinds.Certificate (form_word form) ∷ l) k
         whole_is kinds.Routing form links modules closed ls k = ap (λ (l : List Line). header_words kinds.Routing (form_word form) ∷ l) k
 
-    by : (r : Result (Opening × Place) CertRefusal) → header lines ≡ r → Is HeaderStands (FaultAt 1) r → (r >>= λ first. modes_head first.0 first.1 >>= λ modes. done (said first.0 modes)) ≡ Err e → IsStuck lines e
+    by : (r : Result (Opening × Place) CertRefusal) → header lines ≡ r → Is HeaderStands (FaultAt 1) r → ((r >>= λ first. opened_from first.0 first.1) >>= λ x. done {A = CertHead} {E = CertRefusal} x.0.0) ≡ Err e → IsStuck lines e
     by (Err d) h at k = at_first d at k
     by (Ok x) h at k = behind x h at (subst (Is (Fits {X = CertHead}) (Short (BehindHead x.0.kind x.0.form) x.1)) k
-        (then_is (Fits {X = NetOptions}) (Short (BehindHead x.0.kind x.0.form) x.1) (Fits {X = CertHead}) (Short (BehindHead x.0.kind x.0.form) x.1) (modes_head x.0 x.1) (λ modes. done (said x.0 modes)) (modes_part x.0.kind x.0.form x.1) (λ d s. s) (λ m s. tt)))
+        (then_is (Fits {X = Opened × Place}) (Short (BehindHead x.0.kind x.0.form) x.1) (Fits {X = CertHead}) (Short (BehindHead x.0.kind x.0.form) x.1) (opened_from x.0 x.1) (λ y. done y.0.0) (opened_part x.0.kind x.0.form x.1) (λ d s. s) (λ m s. tt)))
 
 -- ---- what is spelled so is read
 
@@ -264,7 +277,7 @@ module_again Sum = refl
 
 head_read : (kind : Kind) (form : Form) (links : LinkMode) (modules : ModuleMode) (closed : Bool) (line : Line) (rest : List Line) → HasWord form links
     → head_in (head_lines (record { kind = kind; form = form; links = links; modules = modules }) closed ++ line ∷ rest) ≡ read_head (record { kind = kind; form = form; links = links; modules = modules })
-unfolding head_in modes_head behind_verdict
+unfolding head_by opened_by verdict_at modes_behind
 head_read kinds.Certificate form links modules closed line rest some =
     let behind = mode_lines form links modules ++ line ∷ rest in
     let verdict = next_again verdict_line 2 (verdict_words closed) behind closed refl (verdict_again closed) in

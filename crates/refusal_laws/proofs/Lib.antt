@@ -1,4 +1,5 @@
 pub mod Heads
+pub mod Judged
 pub mod LineKinds
 pub mod LineReasons
 pub mod Near

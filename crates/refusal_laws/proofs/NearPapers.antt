@@ -23,7 +23,7 @@ use Rattle.cert_text.specs.declared.opening.Kind.{Kind}
 use Rattle.cert_text.specs.declared.opening.Kind.TheVariants as kinds
 use Rattle.cert_text.specs.declared.opening.Opening.{Opening}
 use Rattle.cert_text.specs.Reading.{Place, has_more, next_line, mode_line, rows_from, fixed_line, bytes_of, closing}
-use Rattle.cert_text.specs.Papers.{modes_at, scale_at, opening_at, values_at, dual_at, routing_at, proof_at, form_of, header_of, header}
+use Rattle.cert_text.specs.Papers.{modes_at, scale_at, opening_at, values_at, dual_at, routing_at, proof_at, form_of, header_of, header, routing_from, proof_from, counted_at, header_by}
 use Rattle.cert_text.specs.Whole.{paper_at, paper_in}
 use Rattle.cert_inverse.proofs.Between.{first_line}
 use Rattle.refusal_laws.proofs.Steps.{done, Is}
@@ -61,7 +61,7 @@ abbrev Opened : Type 0
 Opened = Bool × ℕ
 
 opening_steps : (t : Two) (sheet : Sheet) → Steps t (Both {X = Opened} t) (Past {X = Opened} t) (opening_at sheet)
-unfolding opening_at
+unfolding opening_at counted_at
 opening_steps t sheet =
     let counts = counts_line sheet in
     steps_then t (Both {X = Opened} t) (Past {X = Opened} t) (next_line verdict_line) (λ v. modes_at sheet v.1 >>= λ m. next_line counts m >>= λ c. next_line gap_line c.1 >>= λ g. done ((v.0, g.0), g.1)) (next_steps t verdict_line)
@@ -125,7 +125,7 @@ abbrev paths_of : Sheet → Place → Result (List Row × Place) CertRefusal
 paths_of sheet p = rows_from (codes "path") (path_row sheet) p.at p.rest
 
 routing_steps : (t : Two) (sheet : Sheet) → Steps t (AnyTwo {A = Routing}) (Any {A = Routing}) (routing_at sheet)
-unfolding routing_at
+unfolding routing_at routing_from
 routing_steps t sheet =
     let ok = AnyTwo {A = Routing} in
     let far = Any {A = Routing} in
@@ -145,7 +145,7 @@ proof_made opening scale values paths dual = record {
 }
 
 proof_steps : (t : Two) (sheet : Sheet) → Steps t (AnyTwo {A = Proof}) (Any {A = Proof}) (proof_at sheet)
-unfolding proof_at
+unfolding proof_at proof_from
 proof_steps t sheet =
     let ok = AnyTwo {A = Proof} in
     let far = Any {A = Proof} in
@@ -162,7 +162,7 @@ paper_steps t sheet kinds.Certificate = steps_last t (proof_at sheet) (λ p. pap
 paper_steps t sheet kinds.Routing = steps_last t (routing_at sheet) (λ r. papers.Routing r) (routing_steps t sheet)
 
 pub header_goes : (t : Two) (before : List Line) → length before + 1 ≡ t.number → Goes t (Both {X = Opening} t) (Past {X = Opening} t) (header (before ++ t.line ∷ t.one)) (header (before ++ t.line ∷ t.other))
-unfolding header
+unfolding header_by
 header_goes t [] count = by (form_of t.line)
   where
     by : (o : Option Opening) → Goes t (Both {X = Opening} t) (Past {X = Opening} t) (header_of o t.one) (header_of o t.other)

@@ -24,7 +24,7 @@ use Rattle.cert_text.specs.declared.opening.Kind.{Kind}
 use Rattle.cert_text.specs.declared.opening.Kind.TheVariants as kinds
 use Rattle.cert_text.specs.declared.opening.Opening.{Opening}
 use Rattle.cert_text.specs.Reading.{Place, at_line, has_more, line_from, next_line, mode_line, rows_from, fixed_line, bytes_of, closing}
-use Rattle.cert_text.specs.Papers.{modes_at, scale_at, opening_at, values_at, dual_at, routing_at, proof_at, form_of, header_of, header}
+use Rattle.cert_text.specs.Papers.{modes_at, scale_at, opening_at, values_at, dual_at, routing_at, proof_at, form_of, header_of, header, routing_from, proof_from, counted_at, header_by}
 use Rattle.cert_text.specs.Whole.{paper_at, paper_in}
 use Rattle.refusal_laws.specs.PaperKinds.{Role, verdict, links, modules, counts, gap, phases, scale, lower, upper, path, cell, node, last, nothing, StandsAt, IsRoleFault, Says, IsReason, IsRefusedFor}
 use Rattle.refusal_laws.proofs.Steps.{done, Is, then_is, is_more}
@@ -174,7 +174,7 @@ abbrev routing_made : ℕ × (ℕ × ℕ) → List Row → Routing
 routing_made s ps = record { phases = s.0; scale_cap = s.1.0; scale_load = s.1.1; paths = ps }
 
 routing_why : (lines : List Line) (sheet : Sheet) (p : Place) → At lines p → p.at ≡ 2 → Is (λ (r : Routing). Unit {0}) (Why lines sheet kinds.Routing) (routing_at sheet p)
-unfolding routing_at
+unfolding routing_at routing_from
 routing_why lines sheet p h is =
     let kind = kinds.Routing in
     let ok = λ (r : Routing). Unit {0} in
@@ -194,7 +194,7 @@ proof_made o s v ps d = record {
 }
 
 opening_why : (lines : List Line) (sheet : Sheet) (p : Place) → At lines p → p.at ≡ 2 → Is (Reached {X = Bool × ℕ} lines 7) (Why lines sheet kinds.Certificate) (opening_at sheet p)
-unfolding opening_at
+unfolding opening_at counted_at
 opening_why lines sheet p h is =
     let kind = kinds.Certificate in
     let ok = Reached {X = Bool × ℕ} lines 7 in
@@ -205,7 +205,7 @@ opening_why lines sheet p h is =
     (λ c hc. go lines sheet kind (Reached {X = ℕ} lines 7) ok (next_line gap_line c.1) (λ g. done ((v.0, g.0), g.1)) (next_why lines sheet kind gap_line gap (gap_fault sheet) 6 c.1 hc.0 hc.1 refl) (λ g hg. hg))))
 
 proof_why : (lines : List Line) (sheet : Sheet) (p : Place) → At lines p → p.at ≡ 2 → Is (λ (r : Proof). Unit {0}) (Why lines sheet kinds.Certificate) (proof_at sheet p)
-unfolding proof_at
+unfolding proof_at proof_from
 proof_why lines sheet p h is =
     let kind = kinds.Certificate in
     let ok = λ (r : Proof). Unit {0} in
@@ -228,7 +228,7 @@ abbrev Started : List Line → Opening × Place → Type 0
 Started lines x = At lines x.1 × (x.1.at ≡ 2) × Says lines x.0
 
 header_why : (sheets : Sheets) (line : Line) (rest : List Line) → Is (Started (line ∷ rest)) (IsRefusedFor sheets (line ∷ rest)) (header (line ∷ rest))
-unfolding header
+unfolding header_by
 header_why sheets line rest = by (form_of line) refl
   where
     known : (o : Opening) (b : Bool) → has_more rest ≡ b → form_of line ≡ Some o → Is (Started (line ∷ rest)) (IsRefusedFor sheets (line ∷ rest)) (cond b (done (o, record { at = 2; rest = rest })) (Err (record { line = 1; kind = Syntax })))

@@ -16,7 +16,7 @@ use Rattle.cert_lines.specs.HeadLines.{verdict_line, counts_line, gap_line, phas
 use Rattle.cert_lines.specs.Rows.{path_row, length_row, potential_row}
 use Rattle.cert_lines.specs.Spelling.{verdict_words, links_words, modules_words, counts_words, gap_words, phases_words, scale_words, value_words, length_words, potential_words, path_words, FitsValue, FitsLength, FitsPotential, FitsPath}
 use Rattle.cert_text.specs.Reading.{Place, next_line, mode_line, rows_from, closing}
-use Rattle.cert_text.specs.Papers.{modes_at, scale_at, opening_at, values_at, dual_at, routing_at, proof_at}
+use Rattle.cert_text.specs.Papers.{modes_at, scale_at, opening_at, values_at, dual_at, routing_at, proof_at, routing_from, proof_from, counted_at}
 use Rattle.cert_writer.specs.Text.{end_line, FitsRouting, FitsProof}
 use Rattle.cert_judge.proofs.LineFits.{gap_fits, phases_fit, scale_fits, value_fits, length_fits, path_fits, potential_fits}
 use Rattle.cert_inverse.proofs.HeadTakes.{joined, verdict_takes, mode_takes, gap_takes, phases_takes, scale_takes, value_takes}
@@ -109,7 +109,7 @@ abbrev OpenFits : Opened → Type 0
 OpenFits o = o.1 ≤ MAX_GAP
 
 opening_part : (sheet : Sheet) (p : Place) → Parses (opened_lines sheet) OpenFits p (opening_at sheet p)
-unfolding opening_at
+unfolding opening_at counted_at
 opening_part sheet p =
     let counts = counts_line sheet in
     let ok = Read (opened_lines sheet) OpenFits p in
@@ -173,7 +173,7 @@ abbrev pub behind_routing : Sheet → Routing → List Line
 behind_routing sheet r = links_words sheet ∷ modules_words sheet ∷ phases_words r.phases ∷ scale_words (r.scale_cap, r.scale_load) ∷ (map (path_words sheet) r.paths ++ end_line ∷ [])
 
 pub routing_part : (sheet : Sheet) (p : Place) → Is (Fits {X = Routing}) (Short (PartOf (behind_routing sheet) (FitsRouting sheet)) p) (routing_at sheet p)
-unfolding routing_at
+unfolding routing_at routing_from
 routing_part sheet p =
     let ok = Fits {X = Routing} in
     let front = PartOf (behind_routing sheet) (FitsRouting sheet) in
@@ -227,7 +227,7 @@ all_rows : (sheet : Sheet) (o : Opened) (s : Scale) (v : Values) (ps : List Row)
 all_rows sheet o s v ps d = ap (λ (l : List Line). opened_lines sheet o ++ (figures s v ++ l)) (sym (append_assoc (map (path_words sheet) ps) (dual_lines sheet d) (end_line ∷ [])))
 
 pub proof_part : (sheet : Sheet) (p : Place) → Is (Fits {X = Proof}) (Short (PartOf (behind_proof sheet) (FitsProof sheet)) p) (proof_at sheet p)
-unfolding proof_at
+unfolding proof_at proof_from
 proof_part sheet p =
     let ok = Fits {X = Proof} in
     let front = PartOf (behind_proof sheet) (FitsProof sheet) in

@@ -18,7 +18,7 @@ use Rattle.cert_text.specs.declared.opening.Kind.{Kind}
 use Rattle.cert_text.specs.declared.opening.Kind.TheVariants as kinds
 use Rattle.cert_text.specs.declared.opening.Opening.{Opening}
 use Rattle.cert_text.specs.Reading.{Place, bytes_of, has_more}
-use Rattle.cert_text.specs.Papers.{routing_at, proof_at, form_of, header_of, header}
+use Rattle.cert_text.specs.Papers.{routing_at, proof_at, form_of, header_of, header, header_by}
 use Rattle.cert_text.specs.Whole.{paper_at, paper_in}
 use Rattle.cert_writer.specs.Text.{end_line, FitsRouting, FitsProof}
 use Rattle.cert_judge.specs.Fits.{FitsPaper}
@@ -63,7 +63,7 @@ abbrev pub HeaderStands : Opening × Place → Type 0
 HeaderStands x = x.1.at ≡ 2
 
 pub header_at : (lines : List Line) → Is HeaderStands (FaultAt 1) (header lines)
-unfolding header
+unfolding header_by
 header_at [] = refl
 header_at (line ∷ lines) = by (form_of line)
   where

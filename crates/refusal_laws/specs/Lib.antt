@@ -1,5 +1,6 @@
 pub mod CertKinds
 pub mod Heads
+pub mod Judged
 pub mod Lines
 pub mod PaperKinds
 pub mod Papers

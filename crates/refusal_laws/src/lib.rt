@@ -5,5 +5,8 @@
 mod papers;
 mod scripts;
 
-pub use papers::{heads_stop_there, line_kinds_say_why, paper_kinds_say_why, papers_stop_there};
+pub use papers::{
+    heads_stop_there, judged_texts_stop_there, line_kinds_say_why, paper_kinds_say_why,
+    papers_stop_there,
+};
 pub use scripts::{script_kinds_say_why, script_texts_stop_there, scripts_stop_there};

@@ -1,17 +1,22 @@
 //! Refusals of certificates and routings.
 
-ghost use Rattle.std.specs.Prelude.{◌≡◌, ℕ, List, Err};
+ghost use Rattle.std.specs.Prelude.{◌≡◌, ◌≤◌, ℕ, List, Err};
 ghost use Rattle.text_lines.specs.Lines.{Line, lines_of};
+ghost use Rattle.sndlib_grammar.specs.Rows.{NetRows, AreNetRows};
 ghost use Rattle.cert_lines.specs.Sheet.{Sheet, Sheets};
+ghost use Rattle.cert_lines.specs.declared.net_line.TheConstants.{MAX_COUNT};
 ghost use Rattle.cert_lines.specs.declared.refusal.CertKind.{CertKind};
 ghost use Rattle.cert_lines.specs.declared.refusal.CertRefusal.{CertRefusal};
 ghost use Rattle.cert_lines.specs.HeadLines.{gap_line, phases_line, scale_line, value_line};
 ghost use Rattle.cert_lines.specs.Rows.{path_row, length_row, potential_row};
 ghost use Rattle.cert_text.specs.Whole.{head_in, paper_in};
+ghost use Rattle.cert_judge.specs.declared.judged.Judged.TheVariants.{CertRefused};
+ghost use Rattle.cert_judge.specs.Judgement.{IsJudgement};
 ghost use Rattle.cert_inverse.specs.Inverse.{AreCitable};
 ghost use Rattle.refusal_laws.specs.Lines.{StopsAt};
 ghost use Rattle.refusal_laws.specs.Papers.{IsPaper, IsWorded, refused};
 ghost use Rattle.refusal_laws.specs.Heads.{IsHeaded, refused_head};
+ghost use Rattle.refusal_laws.specs.Judged.{StopsFor};
 ghost use Rattle.refusal_laws.specs.PaperKinds.{IsRefusedFor};
 ghost use Rattle.refusal_laws.specs.CertKinds.{IsLineFault, gap_form, phases_form, scale_form, value_form, path_form, length_form, potential_form};
 
@@ -28,6 +33,14 @@ pub fn papers_stop_there()
 pub fn heads_stop_there()
     ensures { (text : List ℕ) (r : CertRefusal) → head_in (lines_of text) ≡ refused_head r
         → StopsAt IsHeaded text r.line }
+{}
+
+/// The same of a text that is judged on the rows of a network: its first lines stop to begin one of any network, or it
+/// stops to be one of this network, under the options that its first lines say.
+pub fn judged_texts_stop_there()
+    ensures { (rows : NetRows) (text : List ℕ) (r : CertRefusal) → AreNetRows rows
+        → rows.skipped ≤ MAX_COUNT → IsJudgement rows text (CertRefused r)
+        → StopsFor rows text r.line }
 {}
 
 /// What the kind says of a line that is refused: it has not its form, or it has it, and the kind is that of the first
