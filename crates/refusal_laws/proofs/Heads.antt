@@ -1,5 +1,5 @@
 -- Where the first lines of a text are refused, it stops to begin as a certificate or a routing does.
-use Rattle.std.proofs.Common.{◌≡◌, ℕ, ◌+◌, ◌<◌, ◌≤◌, Bool, true, false, cond, List, [], ◌∷◌, ◌++◌, length, Some, None, Result, Ok, Err, refl, sym, ap, subst, ◌∙◌, append_assoc, append-nil, inl, inr, arith}
+use Rattle.std.proofs.Common.{Option, ◌≡◌, ℕ, ◌+◌, ◌<◌, ◌≤◌, Bool, true, false, cond, List, [], ◌∷◌, ◌++◌, length, Some, None, Result, Ok, Err, refl, sym, ap, subst, ◌∙◌, append_assoc, append-nil, inl, inr, arith}
 use Rattle.std.specs.Prelude.{codes, map}
 use Rattle.std.specs.List.{AllByRecursion}
 use Rattle.std.specs.Str.{bytes_eq}
@@ -39,7 +39,7 @@ use Rattle.cert_inverse.proofs.Between.{text_of-both}
 use Rattle.refusal_laws.specs.Lines.{whole_lines, IsLineOf, StopsAt}
 use Rattle.refusal_laws.specs.Heads.{verdict_lines, links_line, modules_line, head_lines, IsHeaded, refused_head}
 use Rattle.refusal_laws.proofs.Steps.{done, failed, Is, then_is}
-use Rattle.refusal_laws.proofs.Near.{Two, Near, Goes, Both, Past, Steps, IsFar, Any, AnyTwo, goes_then, next_steps, steps_then, steps_go, steps_stay, steps_give}
+use Rattle.refusal_laws.proofs.Near.{Two, Goes, Both, Past, Steps, Any, AnyTwo, goes_then, next_steps, steps_then, steps_give}
 use Rattle.refusal_laws.proofs.NearPapers.{header_goes}
 use Rattle.refusal_laws.proofs.Short.{Stand, Short, Fits, FaultAt, stand_none, within, line_parses, go_on}
 use Rattle.refusal_laws.proofs.Stuck.{HeaderStands, header_at}

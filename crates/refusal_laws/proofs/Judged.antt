@@ -1,5 +1,5 @@
 -- Where a text is refused that is judged on the rows of a network.
-use Rattle.std.proofs.Common.{◌≡◌, ◌⊎◌, ℕ, ◌<◌, ◌≤◌, List, Bool, Option, Some, Result, Ok, Err, length, refl, sym, ap, subst, ◌∙◌, inl, inr}
+use Rattle.std.proofs.Common.{◌≡◌, ℕ, ◌≤◌, List, Bool, Option, Some, Result, Ok, Err, refl, sym, ap, subst, ◌∙◌, inl, inr}
 use Rattle.text_lines.specs.Lines.{Line, lines_of}
 use Rattle.unit_scale.specs.declared.options.NetOptions.{NetOptions}
 use Rattle.unit_scale.specs.declared.modes.LinkMode.{LinkMode}
@@ -13,7 +13,6 @@ use Rattle.cert_lines.specs.declared.form.Form.TheVariants.{First, Second}
 use Rattle.cert_lines.specs.declared.net_line.TheConstants.{MAX_COUNT}
 use Rattle.cert_lines.specs.declared.refusal.CertRefusal.{CertRefusal}
 use Rattle.cert_lines.specs.Forms.{◌>>=◌}
-use Rattle.cert_text.specs.declared.opening.Opening.{Opening}
 use Rattle.cert_text.specs.declared.opening.CertHead.{CertHead}
 use Rattle.cert_text.specs.declared.papers.Paper.{Paper}
 use Rattle.cert_text.specs.declared.papers.Paper.TheVariants as papers
@@ -21,20 +20,19 @@ use Rattle.cert_text.specs.Reading.{Place, next_line}
 use Rattle.cert_text.specs.Papers.{header}
 use Rattle.cert_text.specs.Whole.{link_mode_line, module_mode_line, verdict_at, modes_behind, said_head, opened_by, head_by, head_in, paper_in}
 use Rattle.cert_judge.specs.Fits.{HasLinkWord}
-use Rattle.cert_judge.specs.declared.judged.Judged.{Judged}
 use Rattle.cert_judge.specs.declared.judged.Judged.TheVariants.{CertRefused}
 use Rattle.cert_judge.specs.declared.refusal.Refusal.{Refusal}
 use Rattle.cert_judge.specs.Papers.{options_of, nothing_more, rest_on}
 use Rattle.cert_judge.specs.Chain.{of_net, of_text, unless, read_on, IsSaid}
 use Rattle.cert_judge.specs.Judgement.{IsSaidOf, OnPaper, IsJudgement, refused as said_refusal}
 use Rattle.cert_judge.proofs.Steps.{bind_ok, ok_is, next_fits}
-use Rattle.cert_inverse.specs.Inverse.{form_said, link_word_in, read_head}
+use Rattle.cert_inverse.specs.Inverse.{form_said}
 use Rattle.cert_inverse.proofs.Headers.{header_said}
 use Rattle.cert_inverse.proofs.NetworkWords.{citable_both, is_scaled}
 use Rattle.refusal_laws.specs.Lines.{StopsAt}
-use Rattle.refusal_laws.specs.Papers.{IsPaper, IsWorded, refused}
-use Rattle.refusal_laws.specs.Heads.{IsHeaded, refused_head}
-use Rattle.refusal_laws.specs.Judged.{IsPaperStop, StopsFor}
+use Rattle.refusal_laws.specs.Papers.{IsPaper, IsWorded}
+use Rattle.refusal_laws.specs.Heads.{IsHeaded}
+use Rattle.refusal_laws.specs.Judged.{StopsFor}
 use Rattle.refusal_laws.proofs.Steps.{done}
 use Rattle.refusal_laws.proofs.Stops.{stops}
 use Rattle.refusal_laws.proofs.Heads.{HasWord, options, Opened, opened_from, links_take, head_stops}

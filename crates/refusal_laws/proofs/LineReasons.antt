@@ -1,5 +1,5 @@
 -- What is wrong with a line that is refused, by what it has to be.
-use Rattle.std.proofs.Common.{◌≡◌, ◌≢◌, ◌⊎◌, ℕ, ◌<◌, ◌≤◌, Bool, true, false, cond, List, [], ◌∷◌, ◌++◌, length, take, drop, Option, Some, None, Result, Ok, Err, refl, sym, ap, subst, ◌∙◌, inl, inr, arith}
+use Rattle.std.proofs.Common.{◌≡◌, ◌≢◌, ◌⊎◌, ℕ, ◌<◌, ◌≤◌, Bool, true, false, cond, List, [], ◌∷◌, ◌++◌, length, Option, Some, None, Result, Ok, Err, refl, sym, ap, subst, ◌∙◌, inl, inr, arith}
 use Rattle.std.specs.Prelude.{codes, map, nat_le, ◌&&◌}
 use Rattle.std.specs.List.{AllByRecursion, join_with_byte}
 use Rattle.std.specs.Str.{bytes_eq}
@@ -12,15 +12,15 @@ use Rattle.cert_lines.specs.Sheet.{Sheet}
 use Rattle.cert_lines.specs.declared.net_line.TheConstants.{MAX_COUNT}
 use Rattle.cert_lines.specs.declared.refusal.CertKind.{CertKind}
 use Rattle.cert_lines.specs.declared.refusal.CertKind.TheVariants.{Syntax, BadNumber, TooLarge, OtherNet}
-use Rattle.cert_lines.specs.Forms.{◌>>=◌, or_fault, one_behind, is_fixed, begins, is_full}
+use Rattle.cert_lines.specs.Forms.{◌>>=◌, or_fault, one_behind, is_fixed, begins}
 use Rattle.cert_lines.specs.Numbers.{is_number, number_within}
 use Rattle.cert_lines.specs.HeadLines.{verdict_line, behind_net, first_counts, last_counts, is_none_left, count_words, four_counts, three_counts, are_counts, counts_line, gap_line, phases_line, scale_line, value_line}
 use Rattle.cert_lines.specs.Rows.{path_row, length_row, potential_row}
-use Rattle.cert_lines.specs.Spelling.{verdict_words, links_words, modules_words}
+use Rattle.cert_lines.specs.Spelling.{verdict_words}
 use Rattle.cert_text.specs.Reading.{mode_line, fixed_line}
 use Rattle.cert_inverse.proofs.Words.{equal_bytes, one_again, full_word}
 use Rattle.refusal_laws.specs.CertKinds.{Sorted, number, IsRight, IsWrong, IsFirstWrong, IsLineFault}
-use Rattle.refusal_laws.specs.PaperKinds.{Role, verdict, links, modules, counts, gap, phases, scale, lower, upper, path, cell, node, last, nothing, counts_in, as_counts, IsOtherNet, IsRoleFault}
+use Rattle.refusal_laws.specs.PaperKinds.{verdict, links, modules, counts, gap, phases, scale, lower, upper, path, cell, node, last, counts_in, as_counts, IsOtherNet, IsRoleFault}
 use Rattle.refusal_laws.proofs.LineKinds as faults
 
 abbrev fine : {A : Type 0} → A → Result A CertKind

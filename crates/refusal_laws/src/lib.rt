@@ -1,5 +1,5 @@
-//! What it means that a certificate, a routing or a script is refused at a line, said without the readers: laws over
-//! their texts.
+//! What it means that a certificate, a routing or a script is refused at a line, said without the
+//! readers: laws over their texts.
 #![tactic(auto)]
 
 mod papers;
