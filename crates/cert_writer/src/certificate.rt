@@ -8,7 +8,7 @@ ghost use Rattle.cert_lines.specs.Spelling.{count_at, counts_words};
 ghost use Rattle.cert_writer.specs.Text.{IsWritable, FitsProof, opening_lines, figure_lines, end_line, from_potentials, from_lengths, from_paths, from_figures, from_counts, certificate_lines, certificate_text};
 
 use crate::writing::{put_lengths, put_lines, put_paths, put_potentials};
-use cert_names::Names;
+use cert_lines::Names;
 use flow_paths::Proof;
 use mcf_base::{Sink, WriteFault};
 use text_lines::{Buffer, Word};
@@ -283,10 +283,11 @@ fn put_whole<K: Sink>(
     buffer.flush(out)
 }
 
-/// Appends the text of the certificate, in the form of the names. After a fault some front of it was
-/// appended. It takes no memory.
+/// Appends the text of the certificate, in form 2. The names are of that form: form 1 is read, and never written. After a fault
+/// some front of the text was appended. It takes no memory.
 pub fn write_cert<K: Sink>(names: &Names<'_>, proof: &Proof, out: &mut K) -> Result<(), WriteFault>
-    requires { FitsProof names.now proof.now }
+    requires form { names.now.form ≡ codes "2" }
+    requires fits { FitsProof names.now proof.now }
     ensures { Wrote (K.seen out.old) (K.seen out.new) result
         (certificate_text names.now proof.now) }
 {

@@ -101,9 +101,10 @@ impl Dual {
         (row.cell, row.value)
     }
 
-    /// The number of rows of potentials.
+    /// The number of rows of potentials, none of which has a number over the limit.
     pub fn rows(&self) -> usize
-        ensures { result ≡ length self.now.potentials }
+        ensures count { result ≡ length self.now.potentials }
+        ensures limits { All (λ r. All (λ p. p ≤ MAX_LENGTH) r.values) self.now.potentials }
     {
         self.potentials.len()
     }

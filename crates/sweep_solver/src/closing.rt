@@ -1,6 +1,6 @@
 //! A network with a link closed, and what is kept of its solve.
 
-ghost use Rattle.std.specs.Prelude.{◌≡◌, ◌≢◌, ◌≤◌, ◌==◌, if◌then◌else◌, All, IfOk, length, map};
+ghost use Rattle.std.specs.Prelude.{◌≡◌, ◌≢◌, ◌≤◌, ◌==◌, if◌then◌else◌, IfOk, length, map};
 ghost use Rattle.unit_scale.specs.Closed.{closed, with_link};
 ghost use Rattle.unit_scale.specs.Names.{name_of as name_of_lem};
 ghost use Rattle.flow_paths.specs.Certificate.{IsProofOf, IsValid, lower_of, upper_of};
@@ -13,7 +13,7 @@ use crate::asked::{SweepOptions, alone};
 use crate::swept::Swept;
 use cert_check::cell_lengths;
 use flow_model::{Cell, Net};
-use flow_paths::{Dual, Proof, Routing, volume};
+use flow_paths::{Proof, Routing, volume};
 use flow_solver::solve_in;
 use gap_fraction::Frac;
 use mcf_base::Gate;
@@ -87,22 +87,13 @@ fn lower(routing: &Routing) -> Frac
     )
 }
 
-// Looks at each row of potentials, which tells that none is over the limit.
-fn see_potentials(dual: &Dual)
-    ensures { All (λ r. All (λ p. p ≤ MAX_LENGTH) r.values) dual.now.potentials }
-{
-    for i in 0..dual.rows() {
-        let _row = dual.row(i);
-    }
-}
-
 // The bound of a valid certificate.
 fn upper(alloc: Global, net: &Net, proof: &Proof) -> Result<Frac, AllocError>
     requires named { IsProofOf net.now proof.now }
     requires valid { IsValid net.now proof.now }
     ensures { IfOk result (λ f. f ≡ upper_of net.now proof.now.dual) }
 {
-    see_potentials(&proof.dual);
+    let _rows = proof.dual.rows();
     let cells = net.cells();
     let lengths = cell_lengths(alloc, cells.len(), &proof.dual)?;
     Ok(Frac::new(volume(cells, &lengths), proof.upper.den))

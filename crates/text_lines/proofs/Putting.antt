@@ -1,13 +1,13 @@
 -- One text put behind another.
-use Rattle.std.proofs.Common.{◌≡◌, ℕ, ◌+◌, ◌<◌, arith, get_or, subst, List, [], ◌∷◌, ◌++◌, take, length, Option, Some, None, Result, Ok, Err, sym, ap, ◌∙◌, append_assoc}
-use Rattle.std.proofs.lemmas.List.{append-nil, length-append, take-append-drop, take_more}
+use Rattle.std.proofs.Common.{◌≡◌, ℕ, ◌+◌, ◌<◌, ◌≤◌, arith, get_or, subst, List, [], ◌∷◌, ◌++◌, take, length, Option, Some, None, Result, Ok, Err, sym, ap, ◌∙◌, append_assoc}
+use Rattle.std.proofs.lemmas.List.{append-nil, length-append, length-drop, take-append-drop, take_more}
 use Rattle.std.proofs.Math.Seq.{take-append_seam}
-use Rattle.std.specs.Prelude.{drop, OnOk, OnErr}
+use Rattle.std.specs.Prelude.{drop, OnOk}
 use Rattle.std.specs.Io.KnownBytes.{Appends}
 use Rattle.mcf_base.proofs.Known.{Appends-then, Appends-none}
 use Rattle.mcf_base.proofs.Counting.{causes_then, causes_stop, causes_none}
 use Rattle.mcf_base.specs.Sink.{AppendsFront, SinkView, Wrote}
-use Rattle.text_lines.specs.Writing.{given, Puts, ended, failed}
+use Rattle.text_lines.specs.Writing.{given, IsLost, Puts, ended, failed}
 
 -- the output got what waited
 pub flushed : (old new : Option (List ℕ)) (waiting : List ℕ) → Appends old new waiting → Appends (given old waiting) (given new []) []
@@ -16,10 +16,20 @@ flushed (Some xs) None waiting h = absurd h
 flushed (Some xs) (Some ys) waiting h = append-nil ys ∙ h ∙ sym (append-nil (xs ++ waiting))
 
 -- what waited is part in the output and part lost
-pub broken : (old new : Option (List ℕ)) (waiting : List ℕ) → AppendsFront old new waiting → (rest : List ℕ) × Appends (given old waiting) (given new rest) []
-broken None new waiting h = ([], tt)
-broken (Some xs) None waiting h = absurd h.2
-broken (Some xs) (Some ys) waiting h = (drop h.0 waiting, ap (λ (l : List ℕ). l ++ drop h.0 waiting) h.2 ∙ append_assoc xs (take h.0 waiting) (drop h.0 waiting) ∙ ap (λ (l : List ℕ). xs ++ l) (take-append-drop h.0 waiting) ∙ sym (append-nil (xs ++ waiting)))
+behind_front : (old new : Option (List ℕ)) (waiting : List ℕ) (n : ℕ) → Appends old new (take n waiting) → Appends (given old waiting) (given new (drop n waiting)) []
+behind_front None new waiting n h = tt
+behind_front (Some xs) None waiting n h = absurd h
+behind_front (Some xs) (Some ys) waiting n h = ap (λ (l : List ℕ). l ++ drop n waiting) h ∙ append_assoc xs (take n waiting) (drop n waiting) ∙ ap (λ (l : List ℕ). xs ++ l) (take-append-drop n waiting) ∙ sym (append-nil (xs ++ waiting))
+
+pub broken : (old new : Option (List ℕ)) (waiting : List ℕ) → AppendsFront old new waiting → (rest : List ℕ) × IsLost old new waiting [] rest
+broken old new waiting h = (
+  drop h.0 waiting,
+  record {
+    begun = omega (arith, h.1);
+    some = omega (arith, length-drop h.0 waiting, h.1);
+    all = behind_front old new waiting h.0 h.2;
+  },
+)
 
 -- more waits
 pub waits_more : (old : Option (List ℕ)) (waiting more : List ℕ) → Appends (given old waiting) (given old (waiting ++ more)) more
@@ -29,19 +39,31 @@ waits_more (Some xs) waiting more = sym (append_assoc xs waiting more)
 pub grows_then : (a b c : Option (List ℕ)) → (x : List ℕ) × Appends a b x → (y : List ℕ) × Appends b c y → (z : List ℕ) × Appends a c z
 grows_then a b c p q = (p.0 ++ q.0, Appends-then a b c p.0 q.0 p.1 q.1)
 
+lost_then : (a b c : Option (List ℕ)) (u v p q : List ℕ) → Appends (given a u) (given b v) p → length v ≤ length u + length p → (rest : List ℕ) × IsLost b c v q rest → (rest : List ℕ) × IsLost a c u (p ++ q) rest
+lost_then a b c u v p q h le k = (
+  k.0,
+  record {
+    begun = omega (arith, le, k.1.begun, length-append p q);
+    some = k.1.some;
+    all = Appends-then (given a u) (given b v) (given c k.0) p q h k.1.all;
+  },
+)
+
 -- one put after another
 pub puts_then : {A B E : Type 0} (a b c : SinkView) (u v w : List ℕ) (x : A) (r : Result B E) (p q : List ℕ)
     → Puts a b u v (ended A E x) p → Puts b c v w r q → Puts a c u w r (p ++ q)
 puts_then {A} {B} {E} a b c u v w x (Ok y) p q h k = record {
   grows = grows_then a.written b.written c.written h.grows k.grows;
   ok = Appends-then (given a.written u) (given b.written v) (given c.written w) p q h.ok k.ok;
+  within = omega (arith, h.within, k.within, length-append p q);
   err = tt;
   cause = causes_then {A = A} {B = B} {E = E} a.faults b.faults c.faults x (Ok y) h.cause k.cause;
 }
 puts_then {A} {B} {E} a b c u v w x (Err e) p q h k = record {
   grows = grows_then a.written b.written c.written h.grows k.grows;
   ok = tt;
-  err = (k.err.0, Appends-then (given a.written u) (given b.written v) (given c.written k.err.0) p q h.ok k.err.1);
+  within = tt;
+  err = lost_then a.written b.written c.written u v p q h.ok h.within k.err;
   cause = causes_then {A = A} {B = B} {E = E} a.faults b.faults c.faults x (Err e) h.cause k.cause;
 }
 
@@ -50,12 +72,23 @@ longer None b u rest p q h = tt
 longer (Some xs) None u rest p q h = absurd h
 longer (Some xs) (Some ys) u rest p q h = sym (append_assoc ys rest q) ∙ ap (λ (l : List ℕ). l ++ q) h ∙ append_assoc (xs ++ u) p q
 
+lost_more : (a b : Option (List ℕ)) (u p q : List ℕ) → (rest : List ℕ) × IsLost a b u p rest → (rest : List ℕ) × IsLost a b u (p ++ q) rest
+lost_more a b u p q h = (
+  h.0 ++ q,
+  record {
+    begun = omega (arith, h.1.begun, length-append p q);
+    some = omega (arith, h.1.some, length-append h.0 q);
+    all = longer a b u h.0 p q h.1.all;
+  },
+)
+
 -- a put that failed, and a text that was to follow
 pub puts_stop : {A B E : Type 0} (a b : SinkView) (u v w : List ℕ) (e : E) (p q : List ℕ) → Puts a b u v (failed A E e) p → Puts a b u w (failed B E e) (p ++ q)
 puts_stop {A} {B} {E} a b u v w e p q h = record {
   grows = h.grows;
   ok = tt;
-  err = (h.err.0 ++ q, longer a.written b.written u h.err.0 p q h.err.1);
+  within = tt;
+  err = lost_more a.written b.written u p q h.err;
   cause = causes_stop {A = A} {B = B} {E = E} a.faults b.faults e h.cause;
 }
 
@@ -64,6 +97,7 @@ pub puts_none : {E : Type 0} (a : SinkView) (u : List ℕ) → Puts a a u u (end
 puts_none {E} a u = record {
   grows = ([], Appends-none a.written);
   ok = Appends-none (given a.written u);
+  within = omega arith;
   err = tt;
   cause = causes_none {A = Unit {0}} {E = E} a.faults tt;
 }
@@ -74,6 +108,7 @@ pub puts_byte : {E : Type 0} (a b : SinkView) (u v : List ℕ) (byte : ℕ) (p :
 puts_byte a b u v byte p h = record {
   grows = h.grows;
   ok = Appends-then (given a.written u) (given b.written v) (given b.written (v ++ byte ∷ [])) p (byte ∷ []) h.ok (waits_more b.written v (byte ∷ []));
+  within = omega (arith, h.within, length-append v (byte ∷ []), length-append p (byte ∷ []));
   err = tt;
   cause = h.cause;
 }
@@ -85,7 +120,7 @@ puts_flushed a b c u v w p h k = rw append-nil at (puts_then a b c u v w tt (end
 pub broken_off : {E : Type 0} (a b : SinkView) (u piece : List ℕ) (e : E) → piece ≡ u → Wrote a b (failed (Unit {0}) E e) piece → Puts a b u u (failed (Unit {0}) E e) []
 broken_off a b u piece e same h =
     let front : AppendsFront a.written b.written u = subst (AppendsFront a.written b.written) same h.err in
-    record { grows = (take front.0 u, front.2); ok = tt; err = broken a.written b.written u front; cause = h.cause }
+    record { grows = (take front.0 u, front.2); ok = tt; within = tt; err = broken a.written b.written u front; cause = h.cause }
 
 -- a piece of which a byte could not be put
 pub stops_in_piece : {E : Type 0} (a b c : SinkView) (u v w : List ℕ) (e : E) (piece : List ℕ) (i byte : ℕ) → i < length piece → get_or piece i 0 ≡ byte
@@ -108,12 +143,19 @@ past None b piece h = tt
 past (Some xs) None piece h = absurd h
 past (Some xs) (Some ys) piece h = append-nil ys ∙ h ∙ ap (λ (l : List ℕ). l ++ piece) (sym (append-nil xs))
 
-broken_past : (a b : Option (List ℕ)) (piece : List ℕ) → AppendsFront a b piece → (rest : List ℕ) × Appends (given a []) (given b rest) piece
-broken_past None b piece h = ([], tt)
-broken_past (Some xs) None piece h = absurd h.2
-broken_past (Some xs) (Some ys) piece h = (
+front_past : (a b : Option (List ℕ)) (piece : List ℕ) (n : ℕ) → Appends a b (take n piece) → Appends (given a []) (given b (drop n piece)) piece
+front_past None b piece n h = tt
+front_past (Some xs) None piece n h = absurd h
+front_past (Some xs) (Some ys) piece n h = ap (λ (l : List ℕ). l ++ drop n piece) h ∙ append_assoc xs (take n piece) (drop n piece) ∙ ap (λ (l : List ℕ). xs ++ l) (take-append-drop n piece) ∙ ap (λ (l : List ℕ). l ++ piece) (sym (append-nil xs))
+
+broken_past : (a b : Option (List ℕ)) (piece : List ℕ) → AppendsFront a b piece → (rest : List ℕ) × IsLost a b [] piece rest
+broken_past a b piece h = (
   drop h.0 piece,
-  ap (λ (l : List ℕ). l ++ drop h.0 piece) h.2 ∙ append_assoc xs (take h.0 piece) (drop h.0 piece) ∙ ap (λ (l : List ℕ). xs ++ l) (take-append-drop h.0 piece) ∙ ap (λ (l : List ℕ). l ++ piece) (sym (append-nil xs)),
+  record {
+    begun = omega (arith, h.1);
+    some = omega (arith, length-drop h.0 piece, h.1);
+    all = front_past a b piece h.0 h.2;
+  },
 )
 
 -- nothing waits before or after, and the piece went to the output, or some front of it
@@ -121,12 +163,14 @@ pub puts_past : {E : Type 0} (a b : SinkView) (u piece : List ℕ) (r : Result (
 puts_past {E} a b u piece (Ok x) none h = record {
   grows = (piece, h.ok);
   ok = rw none (past a.written b.written piece h.ok);
+  within = omega arith;
   err = tt;
   cause = h.cause;
 }
 puts_past {E} a b u piece (Err e) none h = record {
   grows = (take h.err.0 piece, h.err.2);
   ok = tt;
+  within = tt;
   err = rw none (broken_past a.written b.written piece h.err);
   cause = h.cause;
 }
@@ -142,14 +186,14 @@ whole (Some xs) None text h = absurd h
 whole (Some xs) (Some ys) text h = sym (append-nil ys) ∙ h ∙ ap (λ (l : List ℕ). l ++ text) (append-nil xs)
 
 -- what could not be put was written in some front of it
-front : (a b : Option (List ℕ)) (more rest text : List ℕ) → Appends a b more → Appends (given a []) (given b rest) text → AppendsFront a b text
-front None b more rest text g h = (0, omega arith, tt)
+front : (a b : Option (List ℕ)) (more rest text : List ℕ) → Appends a b more → IsLost a b [] text rest → AppendsFront a b text
+front None b more rest text g h = (0, omega (arith, h.begun), tt)
 front (Some xs) None more rest text g h = absurd g
 front (Some xs) (Some ys) more rest text g h =
-    let all : xs ++ (more ++ rest) ≡ xs ++ text = sym (append_assoc xs more rest) ∙ ap (λ (l : List ℕ). l ++ rest) (sym g) ∙ h ∙ ap (λ (l : List ℕ). l ++ text) (append-nil xs) in
+    let all : xs ++ (more ++ rest) ≡ xs ++ text = sym (append_assoc xs more rest) ∙ ap (λ (l : List ℕ). l ++ rest) (sym g) ∙ h.all ∙ ap (λ (l : List ℕ). l ++ text) (append-nil xs) in
     let same : more ++ rest ≡ text = cancel_front xs (more ++ rest) text all in
     let first : take (length more) text ≡ more = ap (take (length more)) (sym same) ∙ take-append_seam more rest in
-    (length more, omega (arith, ap length same, length-append more rest), g ∙ ap (λ (l : List ℕ). xs ++ l) (sym first))
+    (length more, omega (arith, ap length same, length-append more rest, h.some), g ∙ ap (λ (l : List ℕ). xs ++ l) (sym first))
 
 -- a text that was put where nothing waits, and of which nothing waits, was written
 pub written_whole : {E : Type 0} (a b : SinkView) (text : List ℕ) → Puts a b [] [] (ended (Unit {0}) E tt) text → Wrote a b (ended (Unit {0}) E tt) text

@@ -12,9 +12,9 @@ use crate::ratio::{MAX_LOAD, Ratio, ratio_of};
 use crate::tree::Tree;
 use cert_check::{cell_lengths, path_loads};
 use flow_model::{Cell, Net};
-use flow_paths::{Dual, Proof};
+use flow_paths::Proof;
 use gap_fraction::Frac;
-use mcf_limits::{MAX_CELLS, MAX_LENGTH, MAX_LINKS, MAX_UNITS};
+use mcf_limits::{MAX_CELLS, MAX_LINKS, MAX_UNITS};
 use std::alloc::{AllocError, Global};
 use std::marker::Model;
 use std::snapshot::Snapshot;
@@ -90,15 +90,6 @@ fn ratios_of(alloc: Global, cells: &[Cell], loads: &[u128]) -> Result<Vec<Ratio>
     Ok(list)
 }
 
-// Looks at each row of potentials, which tells that none is over the limit.
-fn see_potentials(dual: &Dual)
-    ensures { All (λ r. All (λ p. p ≤ MAX_LENGTH) r.values) dual.now.potentials }
-{
-    for i in 0..dual.rows() {
-        let _row = dual.row(i);
-    }
-}
-
 impl Plan {
     ghost use Rattle.unit_scale.specs.Names.{cells_of};
     ghost use Rattle.unit_scale.specs.Closed.{with_link};
@@ -111,7 +102,7 @@ impl Plan {
         ensures { IfOk result (λ p. p ≡ record
             { net = net.now; proof = proof.now; caps = map (λ c. c.cap) net.now.cells }) }
     {
-        see_potentials(&proof.dual);
+        let _rows = proof.dual.rows();
         let cells = net.cells();
         let caps = capacities(alloc, cells)?;
         let loads = path_loads(alloc, cells.len(), &proof.routing.paths)?;
