@@ -9,8 +9,8 @@ use Rattle.flow_paths.specs.Evaluation.{Evaluation}
 use Rattle.sndlib_grammar.specs.Rows.{NetRows, names_of_links}
 use Rattle.sweep.specs.Lines.{sweep_text}
 use Rattle.unit_scale.specs.Scaling.{ScaledNet}
-use Rattle.net_whatif.specs.declared.certifying.Certified.TheVariants.{Valid}
-use Rattle.net_whatif.specs.Certified.{IsCertifiedText}
+use Rattle.cert_judge.specs.declared.certifying.Certified.TheVariants.{Valid}
+use Rattle.cert_judge.specs.Certified.{IsCertifiedText}
 use Rattle.run_base.specs.declared.outcome.Paper.TheVariants.{Certificate}
 use Rattle.run_base.specs.declared.ended.Ended.{Ended}
 use Rattle.run_base.specs.Answer.{IsTold, OrWant, Writes, text_answer}
