@@ -13,7 +13,7 @@ use Rattle.cert_names.specs.declared.form.Form.TheVariants.{First, Second}
 use Rattle.cert_names.specs.Sheet.{Sheet, IsOf, IsWithin, cell_word, cell_sign, cell_id, sign_size, sign_mark, counts_of, demand_word, place_of, sheet_of, old_sheet_of, sheets_of, sheet_for}
 use Rattle.cert_names.proofs.SignedWords.{words_counted, word_at}
 use Rattle.unit_scale.specs.Names.{cells_of, name_of}
-use Rattle.unit_scale.proofs.Cells.{link_below}
+use Rattle.unit_scale.proofs.CellNumbers.{link_below}
 use Rattle.unit_scale.proofs.Named.{cells_counted}
 use Rattle.mcf_limits.specs.declared.TheConstants.{MAX_CELLS, MAX_LINKS}
 use Rattle.unit_scale.specs.Modes.{module_word}

@@ -12,7 +12,7 @@ use Rattle.unit_scale.specs.declared.modes.LinkMode.TheVariants.{Directed, Undir
 use Rattle.unit_scale.specs.declared.modes.Sign.TheVariants.{Along}
 use Rattle.unit_scale.specs.Names.{per, cells_of, name_of}
 use Rattle.unit_scale.proofs.Parts.{parts_length, part_item}
-use Rattle.unit_scale.proofs.Cells.{number_from, place_below, link_below}
+use Rattle.unit_scale.proofs.CellNumbers.{number_from, place_below, link_below}
 use Rattle.cert_names.specs.Sheet.{sign_mark, signed_words, place_of}
 use Rattle.cert_names.specs.Signs.{marked_cell}
 

@@ -5,7 +5,7 @@ use Rattle.unit_scale.specs.declared.modes.LinkMode.{LinkMode}
 use Rattle.unit_scale.specs.declared.modes.LinkMode.TheVariants.{Directed, Undirected, Bidirected}
 use Rattle.unit_scale.specs.Names.{cells_of, name_of}
 use Rattle.unit_scale.specs.Closed.{with_link}
-use Rattle.unit_scale.proofs.Links.{set_of_other, with_link_length}
+use Rattle.unit_scale.proofs.LinkCaps.{set_of_other, with_link_length}
 use Rattle.whatif.specs.Planned.{Planned, with_cap}
 
 -- ---- the cells of a link

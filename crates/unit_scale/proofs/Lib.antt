@@ -16,7 +16,7 @@ pub mod Modules
 pub mod Keeping
 pub mod WholeScaling
 pub mod Parts
-pub mod Cells
-pub mod Links
+pub mod CellNumbers
+pub mod LinkCaps
 pub mod Named
 mod CellExamples

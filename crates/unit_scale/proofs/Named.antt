@@ -12,7 +12,7 @@ use Rattle.sndlib_grammar.specs.Rows.{NetLink, NetRows, link_at, no_link}
 use Rattle.unit_scale.specs.Scaling.{cell_going, capacity_in, cells_of_link, net_of}
 use Rattle.unit_scale.specs.Names.{per, cells_of, name_of}
 use Rattle.unit_scale.proofs.Parts.{parts_length, part_at}
-use Rattle.unit_scale.proofs.Cells.{number_from, place_below, link_below}
+use Rattle.unit_scale.proofs.CellNumbers.{number_from, place_below, link_below}
 
 -- a link has as many cells as there are ways to go over it
 pub link_count : (o : NetOptions) (s : ℕ) (l : NetLink) → length (cells_of_link o s l) ≡ per o.links

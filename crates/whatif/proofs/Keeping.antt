@@ -13,7 +13,7 @@ use Rattle.whatif.specs.Ratios.{ratio_of}
 use Rattle.unit_scale.specs.declared.modes.LinkMode.{LinkMode}
 use Rattle.script.specs.declared.step.Step.TheVariants.{Edit}
 use Rattle.whatif.specs.Planned.{Planned, IsPlanned, IsKept, after_step, with_cap}
-use Rattle.unit_scale.proofs.Links.{with_link_length}
+use Rattle.unit_scale.proofs.LinkCaps.{with_link_length}
 use Rattle.whatif.proofs.Links.{with_link-small}
 use Rattle.whatif.proofs.Sums.{with_caps-length, volume-set, volume-le, part-le, ratios-set}
 use Rattle.whatif.proofs.Filling.{ratios-length}

@@ -17,7 +17,7 @@ use Rattle.script.specs.declared.step.Step.TheVariants.{Edit, Show}
 use Rattle.script.specs.Steps.{AreStepsOfCells, IsStep}
 use Rattle.whatif.specs.Planned.{Planned, after_step, after_steps, shown_of}
 use Rattle.whatif.specs.Shown.{IsStopped, show_line, shown_lines, shown_text}
-use Rattle.unit_scale.proofs.Links.{with_link_length}
+use Rattle.unit_scale.proofs.LinkCaps.{with_link_length}
 
 pub decimal_is : (whole micro n : ℕ) → micro < 1000000 → whole * 1000000 + micro ≡ n → decimal_word whole micro ≡ millionths_word n
 decimal_is whole micro n six e =

@@ -7,7 +7,7 @@ use Rattle.unit_scale.specs.declared.modes.LinkMode.TheVariants.{Directed, Undir
 use Rattle.unit_scale.specs.Names.{cells_of, per}
 use Rattle.unit_scale.specs.Closed.{with_link}
 use Rattle.whatif.specs.Planned.{Planned}
-use Rattle.unit_scale.proofs.Links.{with_link_directed, with_link_undirected, with_link_bidirected}
+use Rattle.unit_scale.proofs.LinkCaps.{with_link_directed, with_link_undirected, with_link_bidirected}
 
 -- so many cells from the first on, set one after the other
 abbrev pub set_run : List ℕ → ℕ → ℕ → ℕ → List ℕ

@@ -1,6 +1,6 @@
 use Rattle.std.proofs.Common.{◌≡◌, ◌+◌, ◌-◌, ap, arith, length, ◌∙◌}
 use Rattle.unit_scale.specs.Names.{cells_of}
-use Rattle.unit_scale.proofs.Links.{with_link_length}
+use Rattle.unit_scale.proofs.LinkCaps.{with_link_length}
 use Rattle.std.proofs.lemmas.List.{length-set}
 use Rattle.sweep.proofs.Putting.{some_cells, plan_back}
 use Rattle.sweep.proofs.slots.shown_without.Goals as goal

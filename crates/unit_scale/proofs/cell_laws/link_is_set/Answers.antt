@@ -1,4 +1,4 @@
-use Rattle.unit_scale.proofs.Links.{set_of_link, set_of_other}
+use Rattle.unit_scale.proofs.LinkCaps.{set_of_link, set_of_other}
 use Rattle.unit_scale.proofs.cell_laws.link_is_set.Goals as goal
 
 pub returns : goal.returns
