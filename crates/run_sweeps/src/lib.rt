@@ -1,0 +1,6 @@
+//! The commands that close each single link: `sweep`, of a certificate.
+#![tactic(auto)]
+
+mod sweeping;
+
+pub use sweeping::sweep;
