@@ -10,6 +10,7 @@ use mcf_words::{Command, Request, WordsEnd, read_words};
 use run_base::{Ended, Outcome, tell};
 use run_certs::{check, upgrade, whatif_files};
 use run_solves::{gen_net, print, solve_file, trial};
+use run_sweeps::sweep;
 use std::alloc::Global;
 use std::thread::Threads;
 
@@ -38,6 +39,14 @@ fn run_command<F: Shelf, K: Sink, G: Gate, R: Threads + Sync>(
             request.names.name(1),
         ),
         Command::Upgrade => upgrade(
+            alloc,
+            shelf,
+            out,
+            request.names.name(0),
+            request.names.name(1),
+        ),
+        Command::Sweep => sweep(
+            rt,
             alloc,
             shelf,
             out,

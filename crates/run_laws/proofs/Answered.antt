@@ -44,6 +44,7 @@ use Rattle.run_solves.specs.Print.{OfPrint, printed}
 use Rattle.run_certs.specs.Check.{OnTexts, OfCheck}
 use Rattle.run_solves.specs.Solve.{asked_of, solving_answer, SolvesRows, OfSolve}
 use Rattle.run_certs.specs.Upgrade.{upgrade_answer, OnUpgrade, OfUpgraded, OfUpgrade}
+use Rattle.run_sweeps.specs.Sweep.{sweep_answer, OnSweep, OfSwept, OfSweep}
 use Rattle.run_certs.specs.WhatIf.{scripted_answer, OnScript, OnCertified, OnCertificate, OfWhatIf}
 use Rattle.run_solves.specs.Drawn.{links_drawn, net_drawn, gen_answer, trial_line, OfTrial}
 use Rattle.mcf_cli.specs.Run.{file_at, OfCommand}
@@ -213,6 +214,30 @@ upgrade_low files request old new answer tells calm (rows, given, net, proof, fi
     (λ on. then_low answer (of_text MAX_CERT_BYTES kinds.Certificate files cert file.text (λ text. Ends (OnUpgrade rows text)) (with_file old first) new answer tells calm file.given on)
     (λ last. ends_low (OnUpgrade rows file.text) (with_file (with_file old first) cert) new answer (λ e. upgrade_text_low files cert rows net proof answer file e) last))
 
+-- ---- sweep
+
+swept_low : (rows : NetRows) (net : ScaledNet) (proof : Proof) (certified : Certified) → CertOnCertificate rows net proof certified → (sweep_answer rows certified).status ≤ 1
+swept_low rows net proof (certs.Valid n p) is = omega arith
+swept_low rows net proof (certs.Said (judges.Invalid fault)) is = omega arith
+swept_low rows net proof (certs.Said (judges.NetRefused x)) is = absurd is
+swept_low rows net proof (certs.Said (judges.CertRefused x)) is = absurd is
+swept_low rows net proof (certs.Said (judges.Feasible o v)) is = absurd is
+swept_low rows net proof (certs.Said (judges.Valid o c l u)) is = absurd is
+
+sweep_text_low : (files : Holding) (name : List ℕ) (rows : NetRows) (net : ScaledNet) (proof : Proof) (answer : Answer) → (file : IsPaperFile files name rows net (papers.Full proof)) → OnSweep rows file.text answer → answer.status ≤ 1
+sweep_text_low files name rows net proof answer file (certified, is, e) =
+    status_is answer (sweep_answer rows certified) e
+    (swept_low rows net proof certified (certificate_of rows file.text file.head net proof certified file.head_read file.scaled file.rest_read is))
+
+sweep_low : (files : Holding) (request : Request) (old new : ShelfView) (answer : Answer) → old.holds ≡ Some files → ¬ (Rose old.faults.count new.faults.count)
+    → AcceptsUpgrade files request → OfSweep (file_at request 0) (file_at request 1) old new answer → Low answer
+sweep_low files request old new answer tells calm (rows, given, net, proof, file) of =
+    let first = file_at request 0 in
+    let cert = file_at request 1 in
+    then_low answer (of_rows files first rows (λ rows. OfSwept rows cert) old new answer tells calm given of)
+    (λ on. then_low answer (of_text MAX_CERT_BYTES kinds.Certificate files cert file.text (λ text. Ends (OnSweep rows text)) (with_file old first) new answer tells calm file.given on)
+    (λ last. ends_low (OnSweep rows file.text) (with_file (with_file old first) cert) new answer (λ e. sweep_text_low files cert rows net proof answer file e) last))
+
 -- ---- all commands
 
 pub command_low : (command : Command) (files : Holding) (request : Request) (old new : ShelfView) (answer : Answer) → old.holds ≡ Some files → ¬ (Rose old.faults.count new.faults.count)
@@ -221,6 +246,7 @@ command_low commands.Solve files request old new answer tells calm accepts of = 
 command_low commands.Check files request old new answer tells calm accepts of = check_low files request old new answer tells calm accepts of
 command_low commands.WhatIf files request old new answer tells calm accepts of = whatif_low files request old new answer tells calm accepts of
 command_low commands.Upgrade files request old new answer tells calm accepts of = upgrade_low files request old new answer tells calm accepts of
+command_low commands.Sweep files request old new answer tells calm accepts of = sweep_low files request old new answer tells calm accepts of
 command_low commands.Print files request old new answer tells calm accepts of = print_low files request old new answer tells calm accepts of
 command_low commands.Gen files request old new answer tells calm accepts of = ends_low (λ given. given ≡ gen_answer request.numbers) old new answer (λ e. status_is answer (gen_answer request.numbers) e (omega arith)) of
 command_low commands.Trial files request old new answer tells calm accepts of = ends_low (OfTrial request) old new answer (λ e. trial_low request answer accepts e) of

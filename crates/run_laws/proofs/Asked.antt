@@ -47,6 +47,7 @@ use Rattle.run_solves.specs.Print.{OfPrint, printed}
 use Rattle.run_certs.specs.Check.{OnTexts, OfCheck}
 use Rattle.run_solves.specs.Solve.{asked_of, solving_answer, SolvesRows, OfSolve}
 use Rattle.run_certs.specs.Upgrade.{upgrade_answer, OnUpgrade, OfUpgraded, OfUpgrade}
+use Rattle.run_sweeps.specs.Sweep.{sweep_answer, OnSweep, OfSwept, OfSweep}
 use Rattle.run_certs.specs.WhatIf.{scripted_answer, OnScript, OnCertified, OnCertificate, OfWhatIf}
 use Rattle.run_solves.specs.Drawn.{OfTrial}
 use Rattle.mcf_cli.specs.Run.{file_at, OfCommand, OfRequest, IsAnswer, RunEnds}
@@ -203,6 +204,9 @@ said_full old new rows script certified answer on full judged e above =
 pub upgrade_full : (rows : NetRows) (certified : Certified) (answer : Answer) → answer ≡ upgrade_answer rows certified → answer.status ≤ 1 → IsNotRefused certified
 upgrade_full rows certified answer same full judged e above = not_full answer (outcomes.Judged judged) (same ∙ ap (upgrade_answer rows) e) full above
 
+pub sweep_full : (rows : NetRows) (certified : Certified) (answer : Answer) → answer ≡ sweep_answer rows certified → answer.status ≤ 1 → IsNotRefused certified
+sweep_full rows certified answer same full judged e above = not_full answer (outcomes.Judged judged) (same ∙ ap (sweep_answer rows) e) full above
+
 cert_paper : (rows : NetRows) (lines : List Line) (head : CertHead) (net : ScaledNet) (certified : Certified) → head_in lines ≡ Ok head → scaled_of rows (options_of head) ≡ Ok net
     → (r : Result Paper CertRefusal) → paper_in (sheets_of rows net) lines ≡ r → OnPaper rows net r certified → IsNotRefused certified → IsCertRead rows lines certified
 cert_paper rows lines head net certified h s (Ok (papers.Full proof)) e is only = record { net = net; proof = proof; head = head; head_read = h; scaled = s; rest_read = e; on = is }
@@ -259,6 +263,18 @@ upgrade_accepts files request old new answer tells full of =
     let p = cert_header r.0 (lines_of t.0) on.0 (is_routing (lines_of t.0)) on.1 (upgrade_full r.0 on.0 answer on.2 full) in
     (r.0, r.1, p.net, p.proof, record { text = t.0; given = t.1; head = p.head; head_read = p.head_read; scaled = p.scaled; rest_read = p.rest_read })
 
+-- ---- sweep
+
+sweep_accepts : (files : Holding) (request : Request) (old new : ShelfView) (answer : Answer) → old.holds ≡ Some files → answer.status ≤ 1 → OfSweep (file_at request 0) (file_at request 1) old new answer → AcceptsUpgrade files request
+sweep_accepts files request old new answer tells full of =
+    let first = file_at request 0 in
+    let cert = file_at request 1 in
+    let r = rows_of_file files first (λ rows. OfSwept rows cert) old new answer tells full of in
+    let t = text_of_file MAX_CERT_BYTES kinds.Certificate files cert (λ text. Ends (OnSweep r.0 text)) (with_file old first) new answer tells full r.2 in
+    let on : OnSweep r.0 t.0 answer = ends_full (OnSweep r.0 t.0) (with_file (with_file old first) cert) new answer full t.2 in
+    let p = cert_header r.0 (lines_of t.0) on.0 (is_routing (lines_of t.0)) on.1 (sweep_full r.0 on.0 answer on.2 full) in
+    (r.0, r.1, p.net, p.proof, record { text = t.0; given = t.1; head = p.head; head_read = p.head_read; scaled = p.scaled; rest_read = p.rest_read })
+
 -- ---- all commands
 
 command_accepts : (command : Command) (files : Holding) (request : Request) (old new : ShelfView) (answer : Answer) → old.holds ≡ Some files → answer.status ≤ 1 → OfCommand command request old new answer → Accepts command files request
@@ -266,6 +282,7 @@ command_accepts commands.Solve files request old new answer tells full of = solv
 command_accepts commands.Check files request old new answer tells full of = check_accepts files request old new answer tells full of
 command_accepts commands.WhatIf files request old new answer tells full of = whatif_accepts files request old new answer tells full of
 command_accepts commands.Upgrade files request old new answer tells full of = upgrade_accepts files request old new answer tells full of
+command_accepts commands.Sweep files request old new answer tells full of = sweep_accepts files request old new answer tells full of
 command_accepts commands.Print files request old new answer tells full of = print_accepts files request old new answer tells full of
 command_accepts commands.Gen files request old new answer tells full of = tt
 command_accepts commands.Trial files request old new answer tells full of = trial_accepts request answer full (ends_full (OfTrial request) old new answer full of)

@@ -34,6 +34,7 @@ use Rattle.run_solves.specs.Solve.{SolvesRows, solving_answer}
 use Rattle.run_solves.specs.Drawn.{gen_answer, links_drawn, net_drawn, trial_line, OfTrial}
 use Rattle.run_certs.specs.Check.{OnTexts, judged_answer}
 use Rattle.run_certs.specs.Upgrade.{upgrade_answer, OnUpgrade, OfUpgraded}
+use Rattle.run_sweeps.specs.Sweep.{sweep_answer, OnSweep, OfSwept}
 use Rattle.run_certs.specs.WhatIf.{scripted_answer, OnScript, OnCertified, OnCertificate}
 use Rattle.mcf_cli.specs.Run.{file_at, OfCommand, OfRequest, IsAnswer, RunEnds}
 use Rattle.run_laws.specs.Started.{FailsAtOne, Starts, StartsItsFiles, files_in}
@@ -159,6 +160,10 @@ upgrade_low : (rows : NetRows) (certified : Certified) → (upgrade_answer rows 
 upgrade_low rows (certs.Said judged) = judged_low judged
 upgrade_low rows (certs.Valid net proof) = omega arith
 
+sweep_low : (rows : NetRows) (certified : Certified) → (sweep_answer rows certified).status ≤ 3
+sweep_low rows (certs.Said judged) = judged_low judged
+sweep_low rows (certs.Valid net proof) = omega arith
+
 scripted_low : (scripted : Scripted) → (scripted_answer scripted).status ≤ 3
 scripted_low (scripts.Refused r) = omega arith
 scripted_low (scripts.Ready plan script) = omega arith
@@ -195,6 +200,12 @@ command_went commands.Upgrade request old new answer of =
     net_went first (cert ∷ []) (λ rows. OfUpgraded rows cert) old new answer
     (λ rows on. file_went MAX_CERT_BYTES kinds.Certificate cert [] (λ text. Ends (OnUpgrade rows text)) (with_file old first) new answer
     (λ text last. ends_went (OnUpgrade rows text) (with_file (with_file old first) cert) new answer (λ u. same_calm answer (upgrade_answer rows u.0) u.2 (upgrade_low rows u.0)) last) on) of
+command_went commands.Sweep request old new answer of =
+    let first = file_at request 0 in
+    let cert = file_at request 1 in
+    net_went first (cert ∷ []) (λ rows. OfSwept rows cert) old new answer
+    (λ rows on. file_went MAX_CERT_BYTES kinds.Certificate cert [] (λ text. Ends (OnSweep rows text)) (with_file old first) new answer
+    (λ text last. ends_went (OnSweep rows text) (with_file (with_file old first) cert) new answer (λ s. same_calm answer (sweep_answer rows s.0) s.2 (sweep_low rows s.0)) last) on) of
 command_went commands.WhatIf request old new answer of =
     let first = file_at request 0 in
     let cert = file_at request 1 in

@@ -18,7 +18,7 @@ use Rattle.net_solve.specs.Asked.{IsTooMuch}
 use Rattle.script.specs.declared.step.Step.{Step}
 use Rattle.script.specs.Reading.{script_of}
 use Rattle.mcf_words.specs.declared.request.Command.{Command}
-use Rattle.mcf_words.specs.declared.request.Command.TheVariants.{Solve, Check, WhatIf, Upgrade, Print, Gen, Trial}
+use Rattle.mcf_words.specs.declared.request.Command.TheVariants.{Solve, Check, WhatIf, Upgrade, Sweep, Print, Gen, Trial}
 use Rattle.mcf_words.specs.declared.request.Request.{Request}
 use Rattle.mcf_words.specs.Request.{request_of}
 use Rattle.mcf_base.specs.Reading.{IsText}
@@ -92,6 +92,7 @@ Accepts Solve files request = AcceptsSolve files request
 Accepts Check files request = AcceptsCheck files request
 Accepts WhatIf files request = AcceptsWhatIf files request
 Accepts Upgrade files request = AcceptsUpgrade files request
+Accepts Sweep files request = AcceptsUpgrade files request
 Accepts Print files request = AcceptsPrint files request
 Accepts Gen files request = Unit {0}
 Accepts Trial files request = AcceptsTrial request
