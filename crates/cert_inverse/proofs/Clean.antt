@@ -17,7 +17,7 @@ use Rattle.flow_paths.specs.declared.certificate.Proof.{Proof}
 use Rattle.gap_fraction.specs.declared.fraction.TheConstants.{MAX_PART}
 use Rattle.mcf_limits.specs.declared.TheConstants.{MAX_LENGTH}
 use Rattle.text_lines.specs.Spelling.{fraction_word, six_digits, decimal_word}
-use Rattle.cert_names.specs.Sheet.{Sheet, cell_word}
+use Rattle.cert_lines.specs.Sheet.{Sheet, cell_word}
 use Rattle.cert_lines.specs.declared.net_line.TheConstants.{MAX_COUNT}
 use Rattle.cert_lines.specs.Spelling.{counts_words, value_words, length_words, potential_words, path_words, verdict_words, FitsValue, FitsLength, FitsPotential, FitsPath, AreClean}
 use Rattle.cert_lines.proofs.NumberSteps.{both_true}

@@ -5,9 +5,9 @@ use Rattle.text_lines.specs.Lines.{lines_of}
 use Rattle.cert_lines.specs.declared.refusal.CertRefusal.{CertRefusal}
 use Rattle.cert_lines.specs.declared.refusal.CertEnd.{CertEnd}
 use Rattle.cert_lines.specs.declared.refusal.CertEnd.TheVariants.{Refused, Memory}
-use Rattle.cert_names.specs.Sheet.{Sheets, sheet_for}
-use Rattle.cert_names.specs.declared.form.Form.{Form}
-use Rattle.cert_names.specs.declared.form.Form.TheVariants.{First, Second}
+use Rattle.cert_lines.specs.Sheet.{Sheets, sheet_for}
+use Rattle.cert_lines.specs.declared.form.Form.{Form}
+use Rattle.cert_lines.specs.declared.form.Form.TheVariants.{First, Second}
 use Rattle.cert_text.specs.declared.papers.Paper.{Paper}
 use Rattle.cert_text.specs.Reading.{Gives}
 use Rattle.cert_text.specs.Whole.{paper_in}

@@ -8,8 +8,8 @@ use Rattle.std.proofs.lemmas.List.Elements.{All-from_recursion}
 use Rattle.std.proofs.lemmas.List.Splits.{slice_split_at}
 use Rattle.text_lines.specs.Lines.{Line, IsInside, IsLine, spelled, text_of, words_of, lines_of}
 use Rattle.text_lines.proofs.Laws.{words_of-joined}
-use Rattle.cert_names.specs.Sheet.{Sheet, Sheets, sheet_for}
-use Rattle.cert_names.specs.declared.form.Form.{Form}
+use Rattle.cert_lines.specs.Sheet.{Sheet, Sheets, sheet_for}
+use Rattle.cert_lines.specs.declared.form.Form.{Form}
 use Rattle.cert_lines.specs.declared.refusal.CertKind.TheVariants.{Syntax}
 use Rattle.cert_lines.specs.Spelling.{length_words, potential_words, path_words}
 use Rattle.cert_lines.specs.Forms.{is_full}

@@ -9,7 +9,7 @@ use Rattle.flow_paths.specs.declared.certificate.Printed.{Printed}
 use Rattle.gap_fraction.specs.declared.fraction.TheConstants.{MAX_PART}
 use Rattle.mcf_limits.specs.declared.TheConstants.{MAX_GAP, MAX_LENGTH, MAX_PHASES, MAX_UNITS}
 use Rattle.text_lines.specs.Spelling.{fraction_word, decimal_word, six_digits}
-use Rattle.cert_names.specs.Sheet.{Sheet}
+use Rattle.cert_lines.specs.Sheet.{Sheet}
 use Rattle.cert_lines.specs.declared.net_line.TheConstants.{MAX_COUNT}
 use Rattle.cert_lines.specs.Forms.{is_full}
 use Rattle.cert_lines.specs.Numbers.{number_within}

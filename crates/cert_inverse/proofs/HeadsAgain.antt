@@ -9,9 +9,9 @@ use Rattle.unit_scale.specs.declared.modes.LinkMode.TheVariants.{Directed, Undir
 use Rattle.unit_scale.specs.declared.modes.ModuleMode.{ModuleMode}
 use Rattle.unit_scale.specs.declared.modes.ModuleMode.TheVariants.{Ignore, Largest, Sum}
 use Rattle.unit_scale.specs.declared.options.NetOptions.{NetOptions}
-use Rattle.cert_names.specs.Sheet.{Sheet}
-use Rattle.cert_names.specs.declared.form.Form.{Form}
-use Rattle.cert_names.specs.declared.form.Form.TheVariants.{First, Second}
+use Rattle.cert_lines.specs.Sheet.{Sheet}
+use Rattle.cert_lines.specs.declared.form.Form.{Form}
+use Rattle.cert_lines.specs.declared.form.Form.TheVariants.{First, Second}
 use Rattle.cert_lines.specs.HeadLines.{verdict_line}
 use Rattle.cert_lines.specs.Spelling.{verdict_words, links_words, modules_words}
 use Rattle.cert_text.specs.declared.papers.Paper.{Paper}

@@ -13,9 +13,9 @@ use Rattle.sndlib_grammar.specs.Rows.{NetRows}
 use Rattle.sndlib_grammar.specs.declared.refusal.NetRefusal.{NetRefusal}
 use Rattle.unit_scale.specs.Sizes.{decimals_of, sizes}
 use Rattle.unit_scale.specs.Scaling.{ScaledNet, scaled_of, scaled_with, refusal}
-use Rattle.cert_names.specs.Sheet.{IsOf, old_sheet_of, sheet_of, sheets_of, sheet_for}
-use Rattle.cert_names.specs.declared.form.Form.{Form}
-use Rattle.cert_names.specs.declared.form.Form.TheVariants.{First, Second}
+use Rattle.cert_lines.specs.Sheet.{IsOf, old_sheet_of, sheet_of, sheets_of, sheet_for}
+use Rattle.cert_lines.specs.declared.form.Form.{Form}
+use Rattle.cert_lines.specs.declared.form.Form.TheVariants.{First, Second}
 use Rattle.cert_lines.specs.declared.net_line.TheConstants.{MAX_COUNT}
 use Rattle.cert_lines.specs.declared.refusal.CertRefusal.{CertRefusal}
 use Rattle.cert_text.specs.declared.papers.Paper.{Paper}

@@ -22,8 +22,8 @@ use Rattle.unit_scale.specs.Sizes.{decimals_of, sizes, is_left_out}
 use Rattle.unit_scale.specs.Scaling.{ScaledNet, scaled_with, unless_refused, refusal, kept_from, has_hops}
 use Rattle.unit_scale.proofs.NetworkFacts.{cell_count}
 use Rattle.unit_scale.proofs.WholeScaling.{decimals_are}
-use Rattle.cert_names.specs.Sheet.{IsOf, AreNames, counts_of, demand_word, old_sheet_of, sheet_of, sheets_of, signed_words}
-use Rattle.cert_names.proofs.Looked.{few, is_demand}
+use Rattle.cert_lines.specs.Sheet.{IsOf, AreNames, counts_of, demand_word, old_sheet_of, sheet_of, sheets_of, signed_words}
+use Rattle.cert_lines.proofs.Looked.{few, is_demand}
 use Rattle.cert_lines.specs.declared.net_line.TheConstants.{MAX_COUNT}
 use Rattle.cert_lines.specs.Spelling.{AreClean, IsClear}
 use Rattle.cert_lines.proofs.NumberSteps.{both_true}

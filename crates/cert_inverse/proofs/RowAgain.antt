@@ -8,7 +8,7 @@ use Rattle.std.proofs.lemmas.List.{length-map}
 use Rattle.flow_model.specs.Routing.{Row}
 use Rattle.flow_paths.specs.DualRows.{Length, Potential}
 use Rattle.mcf_limits.specs.declared.TheConstants.{MAX_LENGTH, MAX_PATH_CELLS}
-use Rattle.cert_names.specs.Sheet.{Sheet, node_word, cell_word, commodity_word, AreNames}
+use Rattle.cert_lines.specs.Sheet.{Sheet, node_word, cell_word, commodity_word, AreNames}
 use Rattle.cert_lines.specs.Forms.{is_full}
 use Rattle.cert_lines.specs.Numbers.{number_within}
 use Rattle.cert_lines.specs.Rows.{length_row, cells_from, path_row, potentials_from, potential_row}

@@ -11,9 +11,9 @@ use Rattle.flow_paths.specs.declared.certificate.Printed.{Printed}
 use Rattle.flow_paths.specs.declared.certificate.Proof.{Proof}
 use Rattle.gap_fraction.specs.declared.fraction.TheConstants.{MAX_PART}
 use Rattle.mcf_limits.specs.declared.TheConstants.{MAX_GAP, MAX_LENGTH, MAX_PHASES, MAX_UNITS}
-use Rattle.cert_names.specs.Sheet.{Sheet, Sheets, sheet_for}
-use Rattle.cert_names.specs.declared.form.Form.{Form}
-use Rattle.cert_names.specs.declared.form.Form.TheVariants.{First, Second}
+use Rattle.cert_lines.specs.Sheet.{Sheet, Sheets, sheet_for}
+use Rattle.cert_lines.specs.declared.form.Form.{Form}
+use Rattle.cert_lines.specs.declared.form.Form.TheVariants.{First, Second}
 use Rattle.cert_lines.specs.declared.refusal.CertKind.TheVariants.{Syntax}
 use Rattle.cert_lines.specs.declared.refusal.CertRefusal.{CertRefusal}
 use Rattle.cert_lines.specs.Forms.{◌>>=◌, is_full}

@@ -9,7 +9,7 @@ use Rattle.std.proofs.lemmas.List.Sums.{position_or_len_is}
 use Rattle.std.proofs.lemmas.Option.{cond_some}
 use Rattle.std.proofs.lemmas.Slice.Eq.{bytes_eq-Decides}
 use Rattle.text_lines.specs.Lines.{Line}
-use Rattle.cert_names.specs.Sheet.{place_of, AreNames}
+use Rattle.cert_lines.specs.Sheet.{place_of, AreNames}
 use Rattle.cert_lines.specs.Forms.{is_full, one_behind, two_behind, list_behind, row_behind, named_first}
 use Rattle.cert_lines.proofs.NumberSteps.{both_true}
 

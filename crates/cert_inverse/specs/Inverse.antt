@@ -7,9 +7,9 @@ use Rattle.text_lines.specs.Lines.{Line}
 use Rattle.unit_scale.specs.Modes.{link_word, old_link_word}
 use Rattle.unit_scale.specs.declared.modes.LinkMode.{LinkMode}
 use Rattle.unit_scale.specs.declared.options.NetOptions.{NetOptions}
-use Rattle.cert_names.specs.Sheet.{Sheet, Sheets, sheet_for}
-use Rattle.cert_names.specs.declared.form.Form.{Form}
-use Rattle.cert_names.specs.declared.form.Form.TheVariants.{First, Second}
+use Rattle.cert_lines.specs.Sheet.{Sheet, Sheets, sheet_for}
+use Rattle.cert_lines.specs.declared.form.Form.{Form}
+use Rattle.cert_lines.specs.declared.form.Form.TheVariants.{First, Second}
 use Rattle.cert_lines.specs.declared.net_line.TheConstants.{MAX_COUNT}
 use Rattle.cert_lines.specs.Spelling.{IsClear}
 use Rattle.cert_lines.specs.declared.refusal.CertKind.TheVariants.{Syntax}

@@ -6,8 +6,8 @@ use Rattle.flow_model.specs.Routing.{IsFeasible}
 use Rattle.flow_paths.specs.Certificate.{lower_of, upper_of, routing_of, IsValidRouting, IsValid, IsCertified}
 use Rattle.sndlib_grammar.specs.Rows.{NetRows}
 use Rattle.unit_scale.specs.Scaling.{ScaledNet, scaled_of}
-use Rattle.cert_names.specs.Sheet.{sheet_of, sheets_of}
-use Rattle.cert_names.specs.declared.form.Form.{Form}
+use Rattle.cert_lines.specs.Sheet.{sheet_of, sheets_of}
+use Rattle.cert_lines.specs.declared.form.Form.{Form}
 use Rattle.cert_text.specs.declared.papers.Paper.TheVariants as papers
 use Rattle.cert_writer.specs.Text.{FitsProof, FitsRouting}
 use Rattle.cert_judge.specs.declared.judged.Judged.{Judged}

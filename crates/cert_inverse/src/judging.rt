@@ -9,7 +9,7 @@ ghost use Rattle.flow_paths.specs.declared.certificate.Routing.{Routing};
 ghost use Rattle.flow_paths.specs.Certificate.{IsValid, IsValidRouting};
 ghost use Rattle.sndlib_grammar.specs.Rows.{NetRows};
 ghost use Rattle.unit_scale.specs.Scaling.{ScaledNet};
-ghost use Rattle.cert_names.specs.Sheet.{IsOf, old_sheet_of, sheet_of};
+ghost use Rattle.cert_lines.specs.Sheet.{IsOf, old_sheet_of, sheet_of};
 ghost use Rattle.cert_lines.specs.declared.net_line.TheConstants.{MAX_COUNT};
 ghost use Rattle.cert_text.specs.declared.papers.Paper.{Paper};
 ghost use Rattle.cert_writer.specs.Text.{FitsProof, FitsRouting, certificate_text, routing_text};

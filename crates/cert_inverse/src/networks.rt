@@ -4,7 +4,7 @@ ghost use Rattle.std.specs.Prelude.{◌≤◌, ◌≢◌};
 ghost use Rattle.unit_scale.specs.declared.modes.LinkMode.TheVariants.{Bidirected};
 ghost use Rattle.sndlib_grammar.specs.Rows.{NetRows};
 ghost use Rattle.unit_scale.specs.Scaling.{ScaledNet};
-ghost use Rattle.cert_names.specs.Sheet.{IsOf, old_sheet_of, sheet_of, sheets_of};
+ghost use Rattle.cert_lines.specs.Sheet.{IsOf, old_sheet_of, sheet_of, sheets_of};
 ghost use Rattle.cert_lines.specs.declared.net_line.TheConstants.{MAX_COUNT};
 ghost use Rattle.cert_inverse.specs.Inverse.{AreCitable, IsCitable};
 

@@ -18,7 +18,7 @@ use Rattle.sndlib_grammar.specs.declared.refusal.NetRefusal.{NetRefusal}
 use Rattle.unit_scale.specs.Sizes.{decimals_of, sizes}
 use Rattle.unit_scale.specs.Scaling.{ScaledNet, scaled_of, scaled_with, unless_refused, refusal, cell_going, capacity_in, cells_of_link}
 use Rattle.unit_scale.specs.ScaledFacts.{IsScaledNet}
-use Rattle.cert_names.specs.Sheet.{Sheet, sheet_of, sign_mark, signed_words, demand_word}
+use Rattle.cert_lines.specs.Sheet.{Sheet, sheet_of, sign_mark, signed_words, demand_word}
 use Rattle.cert_lines.specs.Spelling.{FitsLength, FitsPotential, FitsPath}
 use Rattle.cert_writer.specs.Text.{FitsRouting, FitsProof}
 

@@ -10,7 +10,7 @@ use Rattle.flow_paths.specs.DualRows.{Length, Potential}
 use Rattle.flow_paths.specs.declared.certificate.Printed.{Printed}
 use Rattle.gap_fraction.specs.declared.fraction.TheConstants.{MAX_PART}
 use Rattle.mcf_limits.specs.declared.TheConstants.{MAX_GAP, MAX_LENGTH, MAX_PATH_CELLS, MAX_PHASES, MAX_UNITS}
-use Rattle.cert_names.specs.Sheet.{Sheet, place_of}
+use Rattle.cert_lines.specs.Sheet.{Sheet, place_of}
 use Rattle.cert_lines.specs.declared.refusal.CertKind.{CertKind}
 use Rattle.cert_lines.specs.declared.refusal.CertKind.TheVariants.{Syntax, UnknownName, BadNumber, TooLarge}
 use Rattle.cert_lines.specs.Numbers.{is_number, number_within, is_micro, micro_value, decimal_within}

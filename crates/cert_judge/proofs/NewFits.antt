@@ -10,9 +10,9 @@ use Rattle.unit_scale.specs.declared.modes.LinkMode.{LinkMode}
 use Rattle.unit_scale.specs.declared.modes.LinkMode.TheVariants.{Directed, Undirected, Bidirected}
 use Rattle.sndlib_grammar.specs.Rows.{NetRows, names_of_links}
 use Rattle.unit_scale.specs.Scaling.{ScaledNet}
-use Rattle.cert_names.specs.Sheet.{Sheet, signed_words, old_sheet_of, sheet_of, sheets_of, sheet_for}
-use Rattle.cert_names.specs.declared.form.Form.{Form}
-use Rattle.cert_names.specs.declared.form.Form.TheVariants.{First, Second}
+use Rattle.cert_lines.specs.Sheet.{Sheet, signed_words, old_sheet_of, sheet_of, sheets_of, sheet_for}
+use Rattle.cert_lines.specs.declared.form.Form.{Form}
+use Rattle.cert_lines.specs.declared.form.Form.TheVariants.{First, Second}
 use Rattle.cert_lines.specs.Spelling.{FitsLength, FitsPotential, FitsPath}
 use Rattle.cert_text.specs.declared.papers.Paper.{Paper}
 use Rattle.cert_text.specs.declared.papers.Paper.TheVariants as papers

@@ -8,7 +8,7 @@ use Rattle.flow_paths.specs.Certificate.{lower_of, upper_of, routing_of, IsValid
 use Rattle.sndlib_grammar.specs.Rows.{NetRows}
 use Rattle.sndlib_grammar.specs.declared.refusal.NetRefusal.{NetRefusal}
 use Rattle.unit_scale.specs.Scaling.{ScaledNet, scaled_of}
-use Rattle.cert_names.specs.Sheet.{sheets_of}
+use Rattle.cert_lines.specs.Sheet.{sheets_of}
 use Rattle.cert_lines.specs.declared.refusal.CertRefusal.{CertRefusal}
 use Rattle.cert_text.specs.declared.opening.CertHead.{CertHead}
 use Rattle.cert_text.specs.declared.papers.Paper.{Paper}

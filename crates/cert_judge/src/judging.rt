@@ -6,7 +6,7 @@ ghost use Rattle.mcf_limits.specs.declared.TheConstants.{MAX_CERT_BYTES};
 ghost use Rattle.flow_paths.specs.Certificate.{IsProofOf, IsRoutingOf};
 ghost use Rattle.sndlib_grammar.specs.Rows.{AreNetRows};
 ghost use Rattle.unit_scale.specs.Scaling.{scaled_of};
-ghost use Rattle.cert_names.specs.Sheet.{sheets_of};
+ghost use Rattle.cert_lines.specs.Sheet.{sheets_of};
 ghost use Rattle.cert_text.specs.Whole.{paper_in};
 ghost use Rattle.cert_text.specs.declared.papers.Paper.TheVariants as PaperIs;
 ghost use Rattle.cert_judge.specs.Judgement.{IsJudgement, IsSaidOf, OnPaper};

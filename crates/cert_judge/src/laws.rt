@@ -4,7 +4,7 @@ ghost use Rattle.std.specs.Prelude.{◌≡◌, List};
 ghost use Rattle.text_lines.specs.Lines.{Line};
 ghost use Rattle.sndlib_grammar.specs.Rows.{NetRows};
 ghost use Rattle.unit_scale.specs.Scaling.{ScaledNet};
-ghost use Rattle.cert_names.specs.Sheet.{Sheets, sheet_of, sheets_of};
+ghost use Rattle.cert_lines.specs.Sheet.{Sheets, sheet_of, sheets_of};
 ghost use Rattle.cert_text.specs.declared.papers.Paper.{Paper};
 ghost use Rattle.cert_text.specs.Whole.{paper_in};
 ghost use Rattle.cert_judge.specs.Fits.{FitsForm, FitsPaper, read};

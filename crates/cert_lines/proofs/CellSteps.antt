@@ -5,7 +5,7 @@ use Rattle.std.specs.Option.{option_map}
 use Rattle.std.proofs.lemmas.List.{append-nil, take_more_set}
 use Rattle.std.proofs.lemmas.Bool.Decides.{nat_tests}
 use Rattle.text_lines.specs.Lines.{Line, words_of}
-use Rattle.cert_names.specs.Sheet.{Sheet, place_of}
+use Rattle.cert_lines.specs.Sheet.{Sheet, place_of}
 use Rattle.cert_lines.specs.declared.refusal.CertKind.{CertKind}
 use Rattle.cert_lines.specs.declared.refusal.CertKind.TheVariants.{UnknownName, TooLarge}
 use Rattle.cert_lines.specs.Forms.{◌>>=◌, words_in}

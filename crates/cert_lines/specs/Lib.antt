@@ -4,3 +4,5 @@ pub mod HeadLines
 pub mod Numbers
 pub mod Rows
 pub mod Spelling
+pub mod Sheet
+pub mod Signs

@@ -3,7 +3,7 @@ use Rattle.std.specs.Prelude.{ℕ, ◌+◌, List, [], ◌∷◌, length, Option,
 use Rattle.text_lines.specs.Lines.{Line}
 use Rattle.flow_model.specs.Routing.{Row}
 use Rattle.flow_paths.specs.DualRows.{Length, Potential}
-use Rattle.cert_names.specs.Sheet.{Sheet, place_of}
+use Rattle.cert_lines.specs.Sheet.{Sheet, place_of}
 use Rattle.mcf_limits.specs.declared.TheConstants.{MAX_LENGTH, MAX_PATH_CELLS}
 use Rattle.cert_lines.specs.declared.refusal.CertKind.{CertKind}
 use Rattle.cert_lines.specs.declared.refusal.CertKind.TheVariants.{Syntax, UnknownName, TooLarge}

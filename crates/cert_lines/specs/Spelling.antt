@@ -6,7 +6,7 @@ use Rattle.text_lines.specs.Lines.{Line, IsInside}
 use Rattle.flow_model.specs.Routing.{Row}
 use Rattle.flow_paths.specs.DualRows.{Length, Potential}
 use Rattle.flow_paths.specs.declared.certificate.Printed.{Printed}
-use Rattle.cert_names.specs.Sheet.{Sheet, node_word, cell_word, commodity_word, AreNames}
+use Rattle.cert_lines.specs.Sheet.{Sheet, node_word, cell_word, commodity_word, AreNames}
 use Rattle.text_lines.specs.Spelling.{fraction_word, decimal_word}
 use Rattle.gap_fraction.specs.declared.fraction.TheConstants.{MAX_PART}
 use Rattle.mcf_limits.specs.declared.TheConstants.{MAX_LENGTH, MAX_PATH_CELLS}

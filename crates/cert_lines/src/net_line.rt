@@ -7,10 +7,10 @@ ghost use Rattle.cert_lines.specs.Forms.{seen, words_in};
 ghost use Rattle.cert_lines.specs.HeadLines.{behind_net, first_counts, last_counts, count_words, four_counts, three_counts, counts_line};
 ghost use Rattle.cert_lines.specs.Counts.{first_seen, last_seen};
 
+use crate::Names;
 use crate::forms::named_first;
 use crate::numbers::number_within;
 use crate::refusal::CertKind;
-use cert_names::Names;
 use text_lines::split_word;
 
 /// The greatest count.

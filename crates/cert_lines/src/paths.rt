@@ -6,10 +6,10 @@ ghost use Rattle.text_lines.specs.Lines.{words_of};
 ghost use Rattle.cert_lines.specs.Forms.{seen, words_in};
 ghost use Rattle.cert_lines.specs.Rows.{cells_from, path_row};
 
+use crate::Names;
 use crate::forms::row_behind;
 use crate::numbers::number_within;
 use crate::refusal::CertKind;
-use cert_names::Names;
 use mcf_limits::{MAX_LENGTH, MAX_PATH_CELLS};
 use text_lines::split_word;
 

@@ -6,10 +6,10 @@ ghost use Rattle.text_lines.specs.Lines.{words_of};
 ghost use Rattle.cert_lines.specs.Forms.{seen, words_in, list_behind};
 ghost use Rattle.cert_lines.specs.Rows.{of_that_many, potentials_from, potential_row};
 
+use crate::Names;
 use crate::forms::list_behind;
 use crate::numbers::number_within;
 use crate::refusal::CertKind;
-use cert_names::Names;
 use mcf_limits::MAX_LENGTH;
 use text_lines::split_word;
 

@@ -5,10 +5,10 @@ ghost use Rattle.text_lines.specs.Lines.{words_of};
 ghost use Rattle.cert_lines.specs.Forms.{seen};
 ghost use Rattle.cert_lines.specs.Rows.{length_row};
 
+use crate::Names;
 use crate::forms::two_behind;
 use crate::numbers::number_within;
 use crate::refusal::CertKind;
-use cert_names::Names;
 use mcf_limits::MAX_LENGTH;
 
 const LENGTH: &[u8] = b"length";

@@ -1,9 +1,9 @@
 -- A text as a certificate or a routing, and what its head says.
 use Rattle.std.specs.Prelude.{ℕ, List, Option, Result, Ok, codes}
 use Rattle.text_lines.specs.Lines.{Line}
-use Rattle.cert_names.specs.Sheet.{Sheet, Sheets, sheet_for}
-use Rattle.cert_names.specs.declared.form.Form.{Form}
-use Rattle.cert_names.specs.declared.form.Form.TheVariants.{First, Second}
+use Rattle.cert_lines.specs.Sheet.{Sheet, Sheets, sheet_for}
+use Rattle.cert_lines.specs.declared.form.Form.{Form}
+use Rattle.cert_lines.specs.declared.form.Form.TheVariants.{First, Second}
 use Rattle.unit_scale.specs.Modes.{link_mode_of, old_link_mode_of, module_mode_of}
 use Rattle.unit_scale.specs.declared.modes.LinkMode.{LinkMode}
 use Rattle.unit_scale.specs.declared.modes.ModuleMode.{ModuleMode}

@@ -9,10 +9,9 @@ ghost use Rattle.cert_text.specs.Papers.{modes_at, scale_at, opening_at, values_
 
 use crate::place::{Place, refused, split};
 use cert_lines::{
-    CertEnd, CertKind, counts_line, gap_line, one_behind, phases_line, scale_line, value_line,
-    verdict_line,
+    CertEnd, CertKind, Names, counts_line, gap_line, one_behind, phases_line, scale_line,
+    value_line, verdict_line,
 };
-use cert_names::Names;
 use flow_paths::Printed;
 use gap_fraction::MAX_PART;
 use mcf_limits::MAX_LENGTH;

@@ -4,7 +4,7 @@ ghost use Rattle.std.specs.Prelude.{◌≡◌, Ok, Err, codes};
 ghost use Rattle.text_lines.specs.Lines.{Line};
 ghost use Rattle.unit_scale.specs.Modes.{old_link_word};
 ghost use Rattle.unit_scale.specs.declared.modes.LinkMode.TheVariants.{Bidirected};
-ghost use Rattle.cert_names.specs.declared.form.Form.TheVariants.{First};
+ghost use Rattle.cert_lines.specs.declared.form.Form.TheVariants.{First};
 ghost use Rattle.cert_lines.specs.declared.refusal.CertKind.TheVariants.{Syntax};
 ghost use Rattle.cert_text.specs.Reading.{mode_line};
 ghost use Rattle.cert_text.specs.Whole.{link_mode_line};

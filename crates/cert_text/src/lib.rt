@@ -8,8 +8,7 @@ mod papers;
 mod place;
 mod rows;
 
-pub use cert_lines::{CertEnd, CertKind, CertRefusal};
-pub use cert_names::Form;
+pub use cert_lines::{CertEnd, CertKind, CertRefusal, Form};
 pub use head::{next_figures, next_modes, next_opening, next_value, next_values};
 pub use laws::old_form_has_no_bidirected_links;
 pub use opening::{CertHead, Kind, Opening, cert_head, header, modes_head};

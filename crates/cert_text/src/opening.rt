@@ -9,8 +9,7 @@ ghost use Rattle.cert_text.specs.Papers.{header};
 ghost use Rattle.cert_text.specs.Whole.{mode_in, link_mode_line, module_mode_line, behind_verdict, modes_head, head_in};
 
 use crate::place::{Place, split};
-use cert_lines::{CertKind, CertRefusal, is_fixed, one_behind, verdict_line};
-use cert_names::Form;
+use cert_lines::{CertKind, CertRefusal, Form, is_fixed, one_behind, verdict_line};
 use mcf_limits::MAX_CERT_BYTES;
 use unit_scale::{
     LinkMode, ModuleMode, NetOptions, link_mode_of, module_mode_of, old_link_mode_of,

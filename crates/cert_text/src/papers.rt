@@ -5,15 +5,14 @@ ghost use Rattle.text_lines.specs.Lines.{lines_of};
 ghost use Rattle.cert_text.specs.Views.{place_view, HasRoom};
 ghost use Rattle.cert_text.specs.Reading.{Gives};
 ghost use Rattle.cert_text.specs.Papers.{dual_at, routing_at, proof_at};
-ghost use Rattle.cert_names.specs.Sheet.{IsOf, sheets_of};
+ghost use Rattle.cert_lines.specs.Sheet.{IsOf, sheets_of};
 ghost use Rattle.cert_text.specs.Whole.{paper_at, paper_in};
 
 use crate::head::{next_figures, next_modes, next_opening, next_values};
 use crate::opening::{Kind, header};
 use crate::place::{Place, closing};
 use crate::rows::{next_lengths, next_paths, next_potentials};
-use cert_lines::CertEnd;
-use cert_names::Names;
+use cert_lines::{CertEnd, Names};
 use flow_paths::{Dual, PathStore, Proof, Routing};
 use mcf_limits::{MAX_CERT_BYTES, MAX_PATH_CELLS};
 use sndlib_read::RawNet;

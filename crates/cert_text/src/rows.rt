@@ -6,8 +6,7 @@ ghost use Rattle.cert_text.specs.Views.{place_view, HasRoom};
 ghost use Rattle.cert_text.specs.Reading.{Gives, rows_at};
 
 use crate::place::{Place, refused, split};
-use cert_lines::{CertEnd, begins, length_row, path_row, potential_row};
-use cert_names::Names;
+use cert_lines::{CertEnd, Names, begins, length_row, path_row, potential_row};
 use flow_paths::{Dual, PathStore};
 use mcf_limits::MAX_PATH_CELLS;
 use std::alloc::Global;

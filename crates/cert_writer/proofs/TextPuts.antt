@@ -8,7 +8,7 @@ use Rattle.mcf_base.specs.Sink.{SinkView}
 use Rattle.text_lines.specs.Writing.{Puts, ended, failed}
 use Rattle.text_lines.proofs.Putting.{puts_then, puts_stop}
 use Rattle.flow_paths.specs.declared.certificate.Proof.{Proof}
-use Rattle.cert_names.specs.Sheet.{Sheet}
+use Rattle.cert_lines.specs.Sheet.{Sheet}
 use Rattle.cert_lines.specs.Spelling.{FitsPath, FitsLength, FitsPotential}
 use Rattle.cert_writer.specs.Text.{FitsProof, IsWritable}
 

@@ -6,7 +6,7 @@ use Rattle.flow_paths.specs.declared.certificate.Routing.{Routing}
 use Rattle.flow_paths.specs.declared.certificate.Proof.{Proof}
 use Rattle.gap_fraction.specs.declared.fraction.TheConstants.{MAX_PART}
 use Rattle.mcf_limits.specs.declared.TheConstants.{MAX_GAP, MAX_LENGTH, MAX_PHASES, MAX_UNITS}
-use Rattle.cert_names.specs.Sheet.{Sheet}
+use Rattle.cert_lines.specs.Sheet.{Sheet}
 use Rattle.cert_lines.specs.Spelling.{verdict_words, links_words, modules_words, counts_words, gap_words, phases_words, scale_words, value_words, length_words, potential_words, path_words, FitsValue, FitsLength, FitsPotential, FitsPath}
 
 -- the form, the verdict and the modes

@@ -8,7 +8,7 @@ ghost use Rattle.cert_lines.specs.Spelling.{count_at, counts_words};
 ghost use Rattle.cert_writer.specs.Text.{IsWritable, FitsProof, opening_lines, figure_lines, end_line, from_potentials, from_lengths, from_paths, from_figures, from_counts, certificate_lines, certificate_text};
 
 use crate::writing::{put_lengths, put_lines, put_paths, put_potentials};
-use cert_names::Names;
+use cert_lines::Names;
 use flow_paths::Proof;
 use mcf_base::{Sink, WriteFault};
 use text_lines::{Buffer, Word};

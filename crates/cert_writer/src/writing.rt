@@ -5,12 +5,12 @@ ghost use Rattle.std.specs.Fmt.{decimal};
 ghost use Rattle.text_lines.specs.Lines.{spelled, text_of};
 ghost use Rattle.text_lines.specs.Writing.{Puts};
 ghost use Rattle.text_lines.specs.Spelling.{behind};
-ghost use Rattle.cert_names.specs.Sheet.{cell_word, node_word, commodity_word};
+ghost use Rattle.cert_lines.specs.Sheet.{cell_word, node_word, commodity_word};
 ghost use Rattle.flow_paths.specs.PathRows.{row_at};
 ghost use Rattle.flow_paths.specs.DualRows.{length_at, potential_at};
 ghost use Rattle.cert_lines.specs.Spelling.{path_words, length_words, potential_words};
 
-use cert_names::Names;
+use cert_lines::Names;
 use flow_paths::{Dual, PathStore};
 use mcf_base::{Sink, WriteFault};
 use text_lines::{Buffer, Word};

@@ -7,8 +7,8 @@ use Rattle.sndlib_grammar.specs.Rows.{NetRows}
 use Rattle.sndlib_grammar.specs.declared.refusal.NetRefusal.{NetRefusal}
 use Rattle.unit_scale.specs.Scaling.{ScaledNet, scaled_of}
 use Rattle.unit_scale.specs.declared.options.NetOptions.{NetOptions}
-use Rattle.cert_names.specs.Sheet.{IsOf, sheet_of, sheets_of}
-use Rattle.cert_names.specs.declared.form.Form.TheVariants.{Second}
+use Rattle.cert_lines.specs.Sheet.{IsOf, sheet_of, sheets_of}
+use Rattle.cert_lines.specs.declared.form.Form.TheVariants.{Second}
 use Rattle.cert_lines.specs.declared.net_line.TheConstants.{MAX_COUNT}
 use Rattle.cert_lines.specs.declared.refusal.CertRefusal.{CertRefusal}
 use Rattle.cert_text.specs.declared.papers.Paper.{Paper}

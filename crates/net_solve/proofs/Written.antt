@@ -15,7 +15,7 @@ use Rattle.unit_scale.specs.ScaledFacts.{IsScaledNet}
 use Rattle.solver_run.specs.declared.options.SolveOptions.{SolveOptions}
 use Rattle.solver_run.specs.History.{SolvedView}
 use Rattle.solver_run.specs.Headline.{IsSolved}
-use Rattle.cert_names.specs.Sheet.{Sheet, IsOf, sheet_of}
+use Rattle.cert_lines.specs.Sheet.{Sheet, IsOf, sheet_of}
 use Rattle.cert_lines.specs.Spelling.{FitsLength, FitsPotential, FitsPath}
 use Rattle.cert_writer.specs.Text.{FitsRouting, FitsProof}
 use Rattle.cert_judge.proofs.Fitting.{IsSized, sized}

@@ -5,7 +5,7 @@ use Rattle.sndlib_grammar.specs.Rows.{NetRows}
 use Rattle.unit_scale.specs.Scaling.{ScaledNet, scaled_of}
 use Rattle.unit_scale.specs.ScaledFacts.{IsScaledNet}
 use Rattle.flow_model.specs.Network.{IsNetwork}
-use Rattle.cert_names.specs.Sheet.{IsOf}
+use Rattle.cert_lines.specs.Sheet.{IsOf}
 use Rattle.cert_lines.specs.declared.net_line.TheConstants.{MAX_COUNT}
 use Rattle.solver_run.specs.History.{SolvedView}
 use Rattle.solver_run.specs.Options.{AreOptions}

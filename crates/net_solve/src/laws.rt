@@ -8,7 +8,7 @@ ghost use Rattle.unit_scale.specs.Scaling.{ScaledNet};
 ghost use Rattle.solver_run.specs.declared.options.SolveOptions.{SolveOptions};
 ghost use Rattle.solver_run.specs.History.{SolvedView};
 ghost use Rattle.solver_run.specs.Headline.{IsSolved};
-ghost use Rattle.cert_names.specs.Sheet.{sheet_of};
+ghost use Rattle.cert_lines.specs.Sheet.{sheet_of};
 ghost use Rattle.cert_writer.specs.Text.{certificate_text};
 ghost use Rattle.cert_judge.specs.declared.judged.Judged.{Judged};
 ghost use Rattle.cert_judge.specs.Judgement.{IsJudgement};

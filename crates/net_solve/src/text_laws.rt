@@ -9,7 +9,7 @@ ghost use Rattle.unit_scale.specs.ScaledFacts.{IsScaledNet};
 ghost use Rattle.solver_run.specs.declared.options.SolveOptions.{SolveOptions};
 ghost use Rattle.solver_run.specs.History.{SolvedView};
 ghost use Rattle.solver_run.specs.Headline.{IsSolved};
-ghost use Rattle.cert_names.specs.Sheet.{IsOf, sheet_of, sheets_of};
+ghost use Rattle.cert_lines.specs.Sheet.{IsOf, sheet_of, sheets_of};
 ghost use Rattle.cert_lines.specs.declared.net_line.TheConstants.{MAX_COUNT};
 ghost use Rattle.cert_text.specs.declared.papers.Paper.TheVariants.{Full};
 ghost use Rattle.cert_text.specs.Whole.{paper_in};

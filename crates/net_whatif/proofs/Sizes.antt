@@ -6,8 +6,8 @@ use Rattle.unit_scale.specs.Names.{cells_of}
 use Rattle.script.specs.Steps.{AreSteps, AreStepsOfCells, ScriptView}
 use Rattle.sndlib_grammar.specs.Rows.{NetRows}
 use Rattle.unit_scale.specs.Scaling.{ScaledNet}
-use Rattle.cert_names.specs.Sheet.{IsOf}
-use Rattle.cert_names.proofs.Looked.{cells_are, cells_are_counted}
+use Rattle.cert_lines.specs.Sheet.{IsOf}
+use Rattle.cert_lines.proofs.Looked.{cells_are, cells_are_counted}
 use Rattle.flow_paths.specs.declared.certificate.Proof.{Proof}
 use Rattle.whatif.specs.Planned.{Planned}
 use Rattle.net_whatif.specs.Scripted.{start_of}

@@ -7,7 +7,7 @@ use Rattle.flow_paths.specs.Certificate.{IsProofOf, IsValid, IsCertified}
 use Rattle.sndlib_grammar.specs.Rows.{NetRows}
 use Rattle.sndlib_grammar.specs.declared.refusal.NetRefusal.{NetRefusal}
 use Rattle.unit_scale.specs.Scaling.{ScaledNet, scaled_of}
-use Rattle.cert_names.specs.Sheet.{IsOf, sheet_of, sheets_of}
+use Rattle.cert_lines.specs.Sheet.{IsOf, sheet_of, sheets_of}
 use Rattle.cert_writer.specs.Text.{FitsProof}
 use Rattle.cert_lines.specs.declared.net_line.TheConstants.{MAX_COUNT}
 use Rattle.cert_lines.specs.Forms.{is_fixed}

@@ -7,7 +7,7 @@ ghost use Rattle.flow_model.specs.Network.{IsNetwork};
 ghost use Rattle.flow_paths.specs.Certificate.{IsProofOf};
 ghost use Rattle.sndlib_grammar.specs.Rows.{AreNetRows};
 ghost use Rattle.unit_scale.specs.Scaling.{scaled_of};
-ghost use Rattle.cert_names.specs.Sheet.{IsOf, sheets_of};
+ghost use Rattle.cert_lines.specs.Sheet.{IsOf, sheets_of};
 ghost use Rattle.cert_lines.specs.declared.net_line.TheConstants.{MAX_COUNT};
 ghost use Rattle.cert_text.specs.Reading.{Gives};
 ghost use Rattle.cert_text.specs.Whole.{head_in, paper_in};

@@ -5,7 +5,7 @@ use Rattle.mcf_base.specs.Shelf.{ShelfView, with_file}
 use Rattle.mcf_base.specs.Reading.{IsText}
 use Rattle.mcf_base.specs.Sink.{SinkView, Wrote}
 use Rattle.flow_paths.specs.declared.certificate.Proof.{Proof}
-use Rattle.cert_names.specs.Sheet.{Sheet}
+use Rattle.cert_lines.specs.Sheet.{Sheet}
 use Rattle.cert_writer.specs.Text.{certificate_text}
 use Rattle.sndlib_grammar.specs.Rows.{NetRows}
 use Rattle.sndlib_grammar.specs.Net.{rows_of}

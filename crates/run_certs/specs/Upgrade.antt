@@ -5,7 +5,7 @@ use Rattle.mcf_base.specs.Shelf.{ShelfView}
 use Rattle.flow_paths.specs.declared.certificate.Proof.{Proof}
 use Rattle.sndlib_grammar.specs.Rows.{NetRows}
 use Rattle.unit_scale.specs.Scaling.{ScaledNet}
-use Rattle.cert_names.specs.Sheet.{sheet_of}
+use Rattle.cert_lines.specs.Sheet.{sheet_of}
 use Rattle.cert_writer.specs.Text.{certificate_text}
 use Rattle.net_whatif.specs.declared.certifying.Certified.{Certified}
 use Rattle.net_whatif.specs.declared.certifying.Certified.TheVariants.{Valid, Said}

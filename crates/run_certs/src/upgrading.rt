@@ -1,12 +1,12 @@
 //! The command `upgrade`: a valid certificate, written in form 2.
 
 ghost use Rattle.sndlib_grammar.specs.Rows.{AreNetRows};
-ghost use Rattle.cert_names.specs.Sheet.{IsOf, sheet_of};
+ghost use Rattle.cert_lines.specs.Sheet.{IsOf, sheet_of};
 ghost use Rattle.cert_writer.specs.Text.{FitsProof};
 ghost use Rattle.run_base.specs.Answer.{IsTold, Writes};
 ghost use Rattle.run_certs.specs.Upgrade.{OfUpgrade, OfUpgraded, upgraded};
 
-use cert_names::{Form, Names};
+use cert_lines::{Form, Names};
 use cert_writer::write_cert;
 use flow_paths::Proof;
 use mcf_base::{Shelf, Sink};

@@ -13,9 +13,9 @@ use Rattle.solver_run.specs.History.{SolvedView}
 use Rattle.flow_paths.specs.declared.certificate.Proof.{Proof}
 use Rattle.flow_paths.specs.Certificate.{IsValid}
 use Rattle.text_lines.specs.Lines.{lines_of}
-use Rattle.cert_names.specs.declared.form.Form.{Form}
-use Rattle.cert_names.specs.declared.form.Form.TheVariants.{Second}
-use Rattle.cert_names.specs.Sheet.{IsOf, Sheets, sheet_for, sheet_of, sheets_of}
+use Rattle.cert_lines.specs.declared.form.Form.{Form}
+use Rattle.cert_lines.specs.declared.form.Form.TheVariants.{Second}
+use Rattle.cert_lines.specs.Sheet.{IsOf, Sheets, sheet_for, sheet_of, sheets_of}
 use Rattle.cert_lines.specs.declared.net_line.TheConstants.{MAX_COUNT}
 use Rattle.cert_text.specs.declared.papers.Paper.{Paper}
 use Rattle.cert_text.specs.declared.papers.Paper.TheVariants as papers

@@ -7,9 +7,9 @@ use Rattle.std.proofs.lemmas.Bool.{or_cases}
 use Rattle.text_lines.specs.Lines.{Line}
 use Rattle.flow_paths.specs.declared.certificate.Routing.{Routing}
 use Rattle.flow_paths.specs.declared.certificate.Proof.{Proof}
-use Rattle.cert_names.specs.declared.form.Form.{Form}
-use Rattle.cert_names.specs.declared.form.Form.TheVariants.{First, Second}
-use Rattle.cert_names.specs.Sheet.{Sheet, Sheets, sheet_for}
+use Rattle.cert_lines.specs.declared.form.Form.{Form}
+use Rattle.cert_lines.specs.declared.form.Form.TheVariants.{First, Second}
+use Rattle.cert_lines.specs.Sheet.{Sheet, Sheets, sheet_for}
 use Rattle.cert_lines.specs.declared.refusal.CertKind.TheVariants.{Syntax}
 use Rattle.cert_lines.specs.declared.refusal.CertRefusal.{CertRefusal}
 use Rattle.cert_lines.specs.Forms.{is_fixed}

@@ -8,7 +8,7 @@ use Rattle.flow_paths.specs.Certificate.{IsValid}
 use Rattle.sndlib_grammar.specs.Rows.{NetRows}
 use Rattle.sndlib_grammar.specs.Net.{rows_of}
 use Rattle.unit_scale.specs.Scaling.{ScaledNet, scaled_of}
-use Rattle.cert_names.specs.Sheet.{sheets_of}
+use Rattle.cert_lines.specs.Sheet.{sheets_of}
 use Rattle.cert_text.specs.declared.opening.CertHead.{CertHead}
 use Rattle.cert_text.specs.declared.papers.Paper.{Paper}
 use Rattle.cert_text.specs.declared.papers.Paper.TheVariants.{Full}

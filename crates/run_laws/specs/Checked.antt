@@ -9,9 +9,9 @@ use Rattle.flow_paths.specs.Certificate.{IsValid}
 use Rattle.sndlib_grammar.specs.Rows.{NetRows}
 use Rattle.unit_scale.specs.Scaling.{ScaledNet, scaled_of}
 use Rattle.solver_run.specs.History.{SolvedView}
-use Rattle.cert_names.specs.declared.form.Form.{Form}
-use Rattle.cert_names.specs.declared.form.Form.TheVariants.{Second}
-use Rattle.cert_names.specs.Sheet.{sheet_of, sheets_of}
+use Rattle.cert_lines.specs.declared.form.Form.{Form}
+use Rattle.cert_lines.specs.declared.form.Form.TheVariants.{Second}
+use Rattle.cert_lines.specs.Sheet.{sheet_of, sheets_of}
 use Rattle.cert_text.specs.declared.papers.Paper.TheVariants.{Full}
 use Rattle.cert_writer.specs.Text.{certificate_text}
 use Rattle.cert_inverse.specs.Inverse.{IsPaperText}

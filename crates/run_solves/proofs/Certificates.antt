@@ -1,7 +1,7 @@
 -- The text of a certificate, by the names and the proof that the writer was given.
 use Rattle.std.proofs.Common.{◌≡◌, Result, subst}
 use Rattle.mcf_base.specs.Sink.{SinkView, Wrote}
-use Rattle.cert_names.specs.Sheet.{Sheet}
+use Rattle.cert_lines.specs.Sheet.{Sheet}
 use Rattle.flow_paths.specs.declared.certificate.Proof.{Proof}
 use Rattle.cert_writer.specs.Text.{certificate_text}
 

@@ -3,7 +3,7 @@ use Rattle.std.specs.Prelude.{◌≡◌, ℕ, List, Some, if◌then◌else◌}
 use Rattle.mcf_base.specs.Shelf.{ShelfView}
 use Rattle.sndlib_grammar.specs.Rows.{NetRows}
 use Rattle.unit_scale.specs.Scaling.{ScaledNet}
-use Rattle.cert_names.specs.Sheet.{sheet_of}
+use Rattle.cert_lines.specs.Sheet.{sheet_of}
 use Rattle.cert_writer.specs.Text.{certificate_text}
 use Rattle.solver_run.specs.History.{SolvedView}
 use Rattle.net_solve.specs.declared.asked.Asked.{Asked}

@@ -2,7 +2,7 @@
 
 ghost use Rattle.std.specs.Prelude.{◌≡◌};
 ghost use Rattle.sndlib_grammar.specs.Rows.{AreNetRows};
-ghost use Rattle.cert_names.specs.Sheet.{IsOf, sheet_of};
+ghost use Rattle.cert_lines.specs.Sheet.{IsOf, sheet_of};
 ghost use Rattle.cert_writer.specs.Text.{FitsProof};
 ghost use Rattle.solver_run.specs.declared.options.SolveOptions.{SolveOptions};
 ghost use Rattle.solver_run.specs.Headline.{IsSolved};
@@ -10,7 +10,7 @@ ghost use Rattle.net_solve.specs.Asked.{IsAsked};
 ghost use Rattle.run_base.specs.Answer.{IsTold, OrWant, Writes};
 ghost use Rattle.run_solves.specs.Solve.{asked_of, solve_answer, SolvesRows, OfSolve};
 
-use cert_names::{Form, Names};
+use cert_lines::{Form, Names};
 use cert_writer::write_cert;
 use flow_solver::Solved;
 use mcf_base::{Gate, Shelf, Sink};

@@ -1,7 +1,7 @@
 use Rattle.std.proofs.Common.{rules, ◌≡◌, Ok, sym, subst}
 use Rattle.text_lines.specs.Lines.{lines_of}
 use Rattle.flow_paths.specs.Certificate.{IsProofOf, IsRoutingOf}
-use Rattle.cert_names.specs.Sheet.{sheet_of, sheets_of}
+use Rattle.cert_lines.specs.Sheet.{sheet_of, sheets_of}
 use Rattle.cert_text.specs.Whole.{paper_in}
 use Rattle.cert_text.specs.declared.papers.Paper.TheVariants as PaperIs
 use Rattle.cert_judge.proofs.Fitting.{sized, routing_fits, proof_fits}

@@ -1,5 +1,5 @@
-use Rattle.cert_names.specs.Sheet.{cell_word, cell_sign, cell_id}
-use Rattle.cert_names.proofs.Looked.{whole_word}
+use Rattle.cert_lines.specs.Sheet.{cell_word, cell_sign, cell_id}
+use Rattle.cert_lines.proofs.Looked.{whole_word}
 use Rattle.cert_writer.proofs.LinePuts.{joined_put, joined_stops}
 use Rattle.cert_writer.proofs.writing.put_cell.Goals as goal
 

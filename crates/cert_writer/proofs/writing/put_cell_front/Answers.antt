@@ -1,7 +1,7 @@
 use Rattle.std.proofs.Common.{◌∷◌, []}
 use Rattle.text_lines.specs.Spelling.{behind}
 use Rattle.text_lines.proofs.Putting.{puts_then, puts_stop}
-use Rattle.cert_names.specs.Sheet.{cell_word}
+use Rattle.cert_lines.specs.Sheet.{cell_word}
 use Rattle.cert_writer.proofs.LinePuts.{word_alone}
 use Rattle.cert_writer.proofs.writing.put_cell_front.Goals as goal
 

@@ -1,5 +1,5 @@
 use Rattle.text_lines.proofs.Joining.{one_word_on, word_stops}
-use Rattle.cert_names.specs.Sheet.{cell_word}
+use Rattle.cert_lines.specs.Sheet.{cell_word}
 use Rattle.cert_writer.proofs.writing.put_cells.Goals as goal
 
 pub returns-in-Err : goal.returns-in-Err

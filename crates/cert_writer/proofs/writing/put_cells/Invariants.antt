@@ -3,7 +3,7 @@ use Rattle.std.specs.Prelude.{map}
 use Rattle.mcf_base.specs.declared.writing.WriteFault.{WriteFault}
 use Rattle.text_lines.specs.Writing.{Puts, ended}
 use Rattle.text_lines.specs.Spelling.{behind}
-use Rattle.cert_names.specs.Sheet.{cell_word}
+use Rattle.cert_lines.specs.Sheet.{cell_word}
 use Rattle.cert_writer.proofs.writing.put_cells.Given as goal
 
 abbrev pub invariant-loop-cell : goal.invariant-loop-cell

@@ -1,7 +1,7 @@
 use Rattle.std.proofs.Common.{◌∷◌, [], map}
 use Rattle.std.specs.Prelude.{codes}
 use Rattle.std.specs.Fmt.{decimal}
-use Rattle.cert_names.specs.Sheet.{cell_word, commodity_word}
+use Rattle.cert_lines.specs.Sheet.{cell_word, commodity_word}
 use Rattle.flow_paths.specs.PathRows.{row_at}
 use Rattle.cert_writer.proofs.LinePuts.{row_front_stops, row_more_stops, row_put}
 use Rattle.cert_writer.proofs.writing.put_path.Goals as goal

@@ -1,7 +1,7 @@
 use Rattle.std.proofs.Common.{◌∷◌, [], map}
 use Rattle.std.specs.Prelude.{codes}
 use Rattle.std.specs.Fmt.{decimal}
-use Rattle.cert_names.specs.Sheet.{node_word}
+use Rattle.cert_lines.specs.Sheet.{node_word}
 use Rattle.flow_paths.specs.DualRows.{potential_at}
 use Rattle.cert_writer.proofs.LinePuts.{row_front_stops, row_more_stops, row_put}
 use Rattle.cert_writer.proofs.writing.put_potential.Goals as goal

@@ -1,6 +1,6 @@
 use Rattle.std.proofs.Common.{rules, ◌≡◌, Ok}
 use Rattle.text_lines.specs.Lines.{lines_of}
-use Rattle.cert_names.specs.Sheet.{IsOf, sheet_of, sheets_of}
+use Rattle.cert_lines.specs.Sheet.{IsOf, sheet_of, sheets_of}
 use Rattle.cert_writer.specs.Text.{FitsProof}
 use Rattle.cert_text.specs.Whole.{paper_in}
 use Rattle.cert_text.specs.declared.papers.Paper.TheVariants as papers

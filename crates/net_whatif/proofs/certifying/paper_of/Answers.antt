@@ -1,5 +1,5 @@
 use Rattle.text_lines.specs.Lines.{lines_of}
-use Rattle.cert_names.specs.Sheet.{sheets_of}
+use Rattle.cert_lines.specs.Sheet.{sheets_of}
 use Rattle.cert_text.specs.Whole.{paper_in}
 use Rattle.cert_judge.proofs.Fitting.{sized}
 use Rattle.net_whatif.proofs.Papers.{read_fits}

@@ -1,5 +1,5 @@
 use Rattle.std.proofs.Common.{rules, inl, inr}
-use Rattle.cert_names.specs.Sheet.{sheet_of}
+use Rattle.cert_lines.specs.Sheet.{sheet_of}
 use Rattle.run_certs.proofs.Certifying.{text_wrote}
 use Rattle.run_certs.proofs.upgrading.write_upgraded.Goals as goal
 

@@ -1,8 +1,8 @@
 use Rattle.std.proofs.Common.{◌<◌, length, ap, sym, subst, ◌∙◌, arith}
 use Rattle.std.proofs.lemmas.List.{length-map}
-use Rattle.cert_names.specs.Sheet.{Sheet, demand_word}
-use Rattle.cert_names.proofs.Looked.{commodities_are, is_demand}
-use Rattle.cert_names.proofs.names.Names.commodity_word.Goals as goal
+use Rattle.cert_lines.specs.Sheet.{Sheet, demand_word}
+use Rattle.cert_lines.proofs.Looked.{commodities_are, is_demand}
+use Rattle.cert_lines.proofs.names.Names.commodity_word.Goals as goal
 
 pub demand-requires : goal.demand-requires
 demand-requires c =

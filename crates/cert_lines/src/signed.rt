@@ -6,8 +6,8 @@ ghost use Rattle.std.specs.Str.{bytes_eq};
 ghost use Rattle.mcf_limits.specs.declared.TheConstants.{MAX_LINKS};
 ghost use Rattle.sndlib_grammar.specs.Rows.{names_of_links};
 ghost use Rattle.unit_scale.specs.Names.{name_of};
-ghost use Rattle.cert_names.specs.Sheet.{sign_mark, signed_words, place_of};
-ghost use Rattle.cert_names.specs.Signs.{sign_marked, marked_cell};
+ghost use Rattle.cert_lines.specs.Sheet.{sign_mark, signed_words, place_of};
+ghost use Rattle.cert_lines.specs.Signs.{sign_marked, marked_cell};
 
 use sndlib_read::RawNet;
 use unit_scale::{CellName, LinkMode, Sign, cell_of, name_of};

@@ -8,10 +8,10 @@ use Rattle.std.proofs.lemmas.List.Quantifiers.{position-Some}
 use Rattle.sndlib_grammar.specs.Rows.{NetRows, NetDemand, AreNetRows, no_demand, no_link, link_at, names_of_nodes, names_of_links, names_of_demands}
 use Rattle.unit_scale.specs.Scaling.{ScaledNet, scaled_with, unless_refused, refusal, kept_from}
 use Rattle.unit_scale.specs.Sizes.{decimals_of, sizes, is_left_out}
-use Rattle.cert_names.specs.declared.form.Form.{Form}
-use Rattle.cert_names.specs.declared.form.Form.TheVariants.{First, Second}
-use Rattle.cert_names.specs.Sheet.{Sheet, IsOf, IsWithin, cell_word, cell_sign, cell_id, sign_size, sign_mark, counts_of, demand_word, place_of, sheet_of, old_sheet_of, sheets_of, sheet_for}
-use Rattle.cert_names.proofs.SignedWords.{words_counted, word_at}
+use Rattle.cert_lines.specs.declared.form.Form.{Form}
+use Rattle.cert_lines.specs.declared.form.Form.TheVariants.{First, Second}
+use Rattle.cert_lines.specs.Sheet.{Sheet, IsOf, IsWithin, cell_word, cell_sign, cell_id, sign_size, sign_mark, counts_of, demand_word, place_of, sheet_of, old_sheet_of, sheets_of, sheet_for}
+use Rattle.cert_lines.proofs.SignedWords.{words_counted, word_at}
 use Rattle.unit_scale.specs.Names.{cells_of, name_of}
 use Rattle.unit_scale.proofs.CellNumbers.{link_below}
 use Rattle.unit_scale.proofs.Named.{cells_counted}

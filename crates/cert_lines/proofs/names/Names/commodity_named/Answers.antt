@@ -1,7 +1,7 @@
 use Rattle.std.proofs.Common.{List, ℕ, ap, sym, ◌∙◌}
-use Rattle.cert_names.specs.Sheet.{Sheet, place_of}
-use Rattle.cert_names.proofs.Looked.{commodities_are, commodity_found, commodity_none}
-use Rattle.cert_names.proofs.names.Names.commodity_named.Goals as goal
+use Rattle.cert_lines.specs.Sheet.{Sheet, place_of}
+use Rattle.cert_lines.proofs.Looked.{commodities_are, commodity_found, commodity_none}
+use Rattle.cert_lines.proofs.names.Names.commodity_named.Goals as goal
 
 pub returns-in-Some : goal.returns-in-Some
 returns-in-Some c =

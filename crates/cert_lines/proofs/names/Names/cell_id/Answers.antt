@@ -3,9 +3,9 @@ use Rattle.unit_scale.specs.declared.names.CellName.{CellName}
 use Rattle.unit_scale.specs.Names.{name_of}
 use Rattle.unit_scale.specs.declared.options.NetOptions.{NetOptions}
 use Rattle.sndlib_grammar.specs.Rows.{NetLink, link_at}
-use Rattle.cert_names.specs.Sheet.{Sheet, cell_sign, cell_id, sheet_of, sheets_of, sheet_for}
-use Rattle.cert_names.proofs.Looked.{id_is, link_of_cell, whole_word}
-use Rattle.cert_names.proofs.names.Names.cell_id.Goals as goal
+use Rattle.cert_lines.specs.Sheet.{Sheet, cell_sign, cell_id, sheet_of, sheets_of, sheet_for}
+use Rattle.cert_lines.proofs.Looked.{id_is, link_of_cell, whole_word}
+use Rattle.cert_lines.proofs.names.Names.cell_id.Goals as goal
 
 pub link-requires-in-Second : goal.link-requires-in-Second
 link-requires-in-Second c =

@@ -1,7 +1,7 @@
 use Rattle.std.proofs.Common.{subst}
-use Rattle.cert_names.specs.Sheet.{IsWithin}
-use Rattle.cert_names.proofs.Looked.{within}
-use Rattle.cert_names.proofs.names.Names.nodes.Goals as goal
+use Rattle.cert_lines.specs.Sheet.{IsWithin}
+use Rattle.cert_lines.proofs.Looked.{within}
+use Rattle.cert_lines.proofs.names.Names.nodes.Goals as goal
 
 pub returns-clause-within : goal.returns-clause-within
 returns-clause-within c =

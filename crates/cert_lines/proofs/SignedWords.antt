@@ -13,8 +13,8 @@ use Rattle.unit_scale.specs.declared.modes.Sign.TheVariants.{Along}
 use Rattle.unit_scale.specs.Names.{per, cells_of, name_of}
 use Rattle.unit_scale.proofs.Parts.{parts_length, part_item}
 use Rattle.unit_scale.proofs.CellNumbers.{number_from, place_below, link_below}
-use Rattle.cert_names.specs.Sheet.{sign_mark, signed_words, place_of}
-use Rattle.cert_names.specs.Signs.{marked_cell}
+use Rattle.cert_lines.specs.Sheet.{sign_mark, signed_words, place_of}
+use Rattle.cert_lines.specs.Signs.{marked_cell}
 
 -- ---- the first place at which a word stands
 

@@ -10,8 +10,8 @@ use Rattle.unit_scale.specs.declared.modes.Sign.TheVariants.{Along, Against, Bot
 use Rattle.unit_scale.specs.declared.options.NetOptions.{NetOptions}
 use Rattle.sndlib_grammar.specs.Rows.{NetRows, AreNetRows, demand_at, names_of_nodes, names_of_links}
 use Rattle.unit_scale.specs.Scaling.{ScaledNet, scaled_of}
-use Rattle.cert_names.specs.declared.form.Form.{Form}
-use Rattle.cert_names.specs.declared.form.Form.TheVariants.{First, Second}
+use Rattle.cert_lines.specs.declared.form.Form.{Form}
+use Rattle.cert_lines.specs.declared.form.Form.TheVariants.{First, Second}
 
 -- the form, the words for how links and modules are read, the words of nodes, cells and commodities
 -- in their order, and the counts

@@ -3,7 +3,7 @@ use Rattle.std.specs.Str.{bytes_eq}
 use Rattle.std.proofs.lemmas.List.{length-map}
 use Rattle.std.proofs.lemmas.List.Quantifiers.{position-Some}
 use Rattle.sndlib_grammar.specs.Rows.{names_of_links}
-use Rattle.cert_names.proofs.signed.marked_cell.Goals as goal
+use Rattle.cert_lines.proofs.signed.marked_cell.Goals as goal
 
 pub cell_of-requires : goal.cell_of-requires
 cell_of-requires c =

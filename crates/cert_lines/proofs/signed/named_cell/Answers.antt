@@ -1,9 +1,9 @@
 use Rattle.std.proofs.Common.{◌≡◌, List, ℕ, [], ◌∷◌, length, refl, ap, sym, ◌∙◌, arith}
 use Rattle.std.specs.List.{flat_map}
 use Rattle.sndlib_grammar.specs.Rows.{names_of_links}
-use Rattle.cert_names.specs.Sheet.{place_of, signed_words}
-use Rattle.cert_names.proofs.SignedWords.{word_found, empty_is_none}
-use Rattle.cert_names.proofs.signed.named_cell.Goals as goal
+use Rattle.cert_lines.specs.Sheet.{place_of, signed_words}
+use Rattle.cert_lines.proofs.SignedWords.{word_found, empty_is_none}
+use Rattle.cert_lines.proofs.signed.named_cell.Goals as goal
 
 pub returns-in-Some : goal.returns-in-Some
 returns-in-Some c =

@@ -1,9 +1,9 @@
 use Rattle.std.proofs.Common.{◌≡◌, ◌<◌, length, ap, sym, subst, ◌∙◌}
-use Rattle.cert_names.specs.Sheet.{Sheet, cell_sign, sign_mark, sheet_of, sheets_of, sheet_for}
+use Rattle.cert_lines.specs.Sheet.{Sheet, cell_sign, sign_mark, sheet_of, sheets_of, sheet_for}
 use Rattle.unit_scale.specs.Names.{name_of}
 use Rattle.unit_scale.specs.declared.options.NetOptions.{NetOptions}
-use Rattle.cert_names.proofs.Looked.{sign_is}
-use Rattle.cert_names.proofs.names.Names.cell_sign.Goals as goal
+use Rattle.cert_lines.proofs.Looked.{sign_is}
+use Rattle.cert_lines.proofs.names.Names.cell_sign.Goals as goal
 
 pub returns-in-Second : goal.returns-in-Second
 returns-in-Second c =

@@ -17,7 +17,7 @@ pub struct Names<'a> {
 }
 
 impl<'a> Model for Names<'a> {
-    ghost use Rattle.cert_names.specs.Sheet.{Sheet, sheets_of, sheet_for, IsOf};
+    ghost use Rattle.cert_lines.specs.Sheet.{Sheet, sheets_of, sheet_for, IsOf};
 
     ghost Value = { Sheet };
 
@@ -28,8 +28,8 @@ impl<'a> Model for Names<'a> {
 
 impl<'a> Names<'a> {
     ghost use Rattle.std.specs.Prelude.{◌≡◌, ◌<◌, ◌++◌, length};
-    ghost use Rattle.cert_names.specs.Sheet.{node_word, cell_word, cell_sign, cell_id};
-    ghost use Rattle.cert_names.specs.Sheet.{commodity_word, place_of, sheets_of, sheet_for, IsOf, IsWithin};
+    ghost use Rattle.cert_lines.specs.Sheet.{node_word, cell_word, cell_sign, cell_id};
+    ghost use Rattle.cert_lines.specs.Sheet.{commodity_word, place_of, sheets_of, sheet_for, IsOf, IsWithin};
 
     /// The words of these rows and of their network in units, in this form.
     pub fn new(rows: &'a RawNet<'a>, net: &'a Scaled, form: Form) -> Self
