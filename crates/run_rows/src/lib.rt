@@ -21,6 +21,8 @@ mod running;
 #[cfg(test)]
 mod solves;
 #[cfg(test)]
+mod sweeps;
+#[cfg(test)]
 mod upgrades;
 #[cfg(test)]
 mod usages;
@@ -31,6 +33,6 @@ mod words;
 
 pub use edits::{Edit, expect_certs, expect_nets, expect_on_nets};
 pub use expected::{
-    CHECK, PRINT, UPGRADE, WHAT_IF, expect, expect_cert, expect_net, expect_script,
+    CHECK, PRINT, SWEEP, UPGRADE, WHAT_IF, expect, expect_cert, expect_net, expect_script,
 };
 pub use running::{AMPLE, Answer, File, Outside, ample_answer, answer_through, answer_to, judged};
