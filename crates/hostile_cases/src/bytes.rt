@@ -3,7 +3,7 @@
 use crate::running::is_line;
 use crate::texts::{SCRIPT, last_line, spliced};
 use cert_cases::{CERTIFICATE, ONE_LINK, ROUTING, SIGNED, SIGNED_ROUTING, VALID};
-use run_rows::{Answer, File, PRINT, WHAT_IF, ample_answer, judged};
+use run_given::{Answer, File, PRINT, WHAT_IF, ample_answer, judged};
 use std::alloc::Global;
 use std::process::Abort;
 use std::test::Fail;

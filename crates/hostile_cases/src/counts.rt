@@ -3,7 +3,7 @@
 ghost use Rattle.std.specs.Prelude.{◌≤◌};
 
 use crate::running::{answer_within, is_line};
-use run_rows::{PRINT, expect_net, judged};
+use run_given::{PRINT, expect_net, judged};
 use std::alloc::{AllocError, Global};
 use std::process::Abort;
 use std::test::Fail;

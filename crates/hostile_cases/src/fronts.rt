@@ -2,7 +2,7 @@
 
 use crate::texts::{SCRIPT, last_line};
 use cert_cases::{CERTIFICATE, ONE_LINK, ROUTING, SIGNED, SIGNED_ROUTING, VALID};
-use run_rows::{File, PRINT, WHAT_IF, ample_answer, expect_cert, expect_script, judged};
+use run_given::{File, PRINT, WHAT_IF, ample_answer, expect_cert, expect_script, judged};
 use std::alloc::Global;
 use std::process::Abort;
 use std::test::Fail;

@@ -2,7 +2,7 @@
 
 use crate::texts::filled;
 use cert_cases::{ONE_LINK, VALID, repeated};
-use run_rows::{
+use run_given::{
     CHECK, File, PRINT, UPGRADE, WHAT_IF, expect, expect_cert, expect_net, expect_script,
 };
 use std::alloc::Global;

@@ -2,7 +2,7 @@
 
 use crate::running::answer_within;
 use cert_cases::{CERTIFICATE, ONE_LINK, VALID, edited, repeated};
-use run_rows::{Edit, ample_answer, expect_certs, expect_script};
+use run_given::{Edit, ample_answer, expect_certs, expect_script};
 use std::test::Fail;
 
 const SOLVE: &[&str] = &["solve", "net", "--workers", "1"];

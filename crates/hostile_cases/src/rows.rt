@@ -1,7 +1,7 @@
 //! Rows that other tables have not: each an edit of a small text, and its answer.
 
 use cert_cases::{CERTIFICATE, ONE_LINK, edited};
-use run_rows::{CHECK, File, PRINT, WHAT_IF, expect, expect_net, expect_script};
+use run_given::{CHECK, File, PRINT, WHAT_IF, expect, expect_net, expect_script};
 use std::test::Fail;
 
 // What a row shows, the words, a part of the network of one link and what takes its place, the status, and the text.

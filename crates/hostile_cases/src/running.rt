@@ -1,6 +1,6 @@
 //! Answers of one line, and answers with more room than usual.
 
-use run_rows::{AMPLE, Answer, File, Outside, answer_to};
+use run_given::{AMPLE, Answer, File, Outside, answer_to};
 use std::alloc::{AllocError, Global};
 use std::thread::Threads;
 

@@ -1,10 +1,10 @@
 //! Rows of `check` on routings and on networks, and the order of refusals.
 
-use crate::edits::{Edit, expect_certs, expect_on_nets};
-use crate::expected::expect;
-use crate::networks::{BOTH_ROUTED, BOTH_WAYS, EACH_WAY_ROUTED, THERE_AND_BACK};
-use crate::running::File;
 use cert_cases::{CERTIFICATE, ONE_LINK, ROUTING, SIGNED_ROUTING, edited};
+use run_given::{
+    BOTH_ROUTED, BOTH_WAYS, EACH_WAY_ROUTED, Edit, File, THERE_AND_BACK, expect, expect_certs,
+    expect_on_nets,
+};
 use std::test::Fail;
 
 const ROUTINGS: &[Edit] = &[

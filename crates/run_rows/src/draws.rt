@@ -2,8 +2,7 @@
 
 ghost use Rattle.std.specs.Prelude.{◌≤◌};
 
-use crate::expected::{PRINT, expect, expect_net};
-use crate::running::{AMPLE, Answer, Outside, ample_answer, answer_to};
+use run_given::{AMPLE, Answer, Outside, PRINT, ample_answer, answer_to, expect, expect_net};
 use std::str;
 use std::test::Fail;
 

@@ -1,9 +1,7 @@
 //! Rows of `print`: the canonical text of a network, or its refusal.
 
-use crate::edits::{Edit, expect_nets};
-use crate::expected::{PRINT, expect_net};
-use crate::networks::{FREE_LAYOUT, FREE_LAYOUT_PRINTED};
 use cert_cases::{ONE_LINK, edited, repeated};
+use run_given::{Edit, FREE_LAYOUT, FREE_LAYOUT_PRINTED, PRINT, expect_net, expect_nets};
 use std::alloc::{AllocError, Global};
 use std::test::Fail;
 

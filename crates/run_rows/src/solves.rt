@@ -1,9 +1,9 @@
 //! Rows of `solve`: the certificate of a network, or its refusal. Each certificate is then judged by `check`.
 
-use crate::expected::expect_net;
-use crate::networks::{BOTH_WAYS, BOTH_WAYS_SOLVED, CUT_SIGNED, NO_CAPACITY, TWO_LINKS};
-use crate::running::judged;
 use cert_cases::{ONE_LINK, SIGNED};
+use run_given::{
+    BOTH_WAYS, BOTH_WAYS_SOLVED, CUT_SIGNED, NO_CAPACITY, TWO_LINKS, expect_net, judged,
+};
 use std::test::Fail;
 
 /// Three nodes in a row with modules, a skipped section, and a demand from a node to itself.

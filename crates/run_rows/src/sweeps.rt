@@ -1,13 +1,11 @@
 //! Rows of `sweep`: what a certificate is worth without each single link, or what else is said of the files.
 
-use crate::expected::{SWEEP, expect};
-use crate::networks::{
-    BOTH_WAYS, BOTH_WAYS_SOLVED, CUT, CUT_SIGNED, EACH_WAY_ROUTED, NO_CAPACITY, TWO_LINKS,
-};
-use crate::running::File;
 use crate::upgrades::OPEN_SIGNED;
-use crate::whatifs::{INVALID, OPEN};
 use cert_cases::{CERTIFICATE, ONE_LINK, ROUTING, SIGNED_ROUTING};
+use run_given::{
+    BOTH_WAYS, BOTH_WAYS_SOLVED, CUT, CUT_SIGNED, EACH_WAY_ROUTED, File, INVALID, NO_CAPACITY,
+    OPEN, OPEN_SWEPT, SWEEP, TWO_LINKS, expect,
+};
 use std::test::Fail;
 
 /// Nodes without a link, and a demand between them.
@@ -17,10 +15,6 @@ const NO_LINKS: &[u8] =
 /// Its certificate.
 const NO_LINKS_SOLVED: &[u8] =
     b"mcf-certificate 2\nverdict closed\nlinks directed\nmodules largest\nnet nodes 2 cells 0 commodities 1 decimals 0 skipped 0 left 0 hops 0\ngap 0.050000\nphases 0\nscale 0 1\nlower 0/1 0.000000\nupper 0/4 0.000000\npotential A 0 1\nend\n";
-
-/// What is left of the certificate of two links without each of them.
-pub const WITHOUT_EACH: &[u8] =
-    b"sweep L1 lower 7/10 0.700000 upper 13510798882111482/19301141260159260 0.700000\nsweep L2 lower 0/10 0.000000 upper 6755399441055744/19301141260159260 0.350001\n";
 
 // What a row shows, the network, the certificate, the status, and the text.
 type Row = (
@@ -32,13 +26,13 @@ type Row = (
 );
 
 const ROWS: &[Row] = &[
-    ("each_link_is_closed_alone", TWO_LINKS, OPEN, 0, WITHOUT_EACH),
+    ("each_link_is_closed_alone", TWO_LINKS, OPEN, 0, OPEN_SWEPT),
     (
         "certificate_of_form_2",
         TWO_LINKS,
         OPEN_SIGNED,
         0,
-        WITHOUT_EACH,
+        OPEN_SWEPT,
     ),
     (
         "both_cells_are_closed",

@@ -1,12 +1,10 @@
 //! Rows of `upgrade`: a valid certificate of either form in form 2, or what else is said of the files.
 
-use crate::expected::{UPGRADE, expect};
-use crate::networks::{
-    BOTH_WAYS, BOTH_WAYS_SOLVED, CUT, CUT_SIGNED, EACH_WAY_ROUTED, NO_CAPACITY, TWO_LINKS,
-};
-use crate::running::File;
-use crate::whatifs::{INVALID, OPEN};
 use cert_cases::{CERTIFICATE, ONE_LINK, ROUTING, SIGNED, SIGNED_ROUTING};
+use run_given::{
+    BOTH_WAYS, BOTH_WAYS_SOLVED, CUT, CUT_SIGNED, EACH_WAY_ROUTED, File, INVALID, NO_CAPACITY,
+    OPEN, TWO_LINKS, UPGRADE, expect,
+};
 use std::test::Fail;
 
 /// The certificate of one phase over the second link in form 2.

@@ -1,7 +1,7 @@
 //! Words that ask for nothing.
 
-use crate::running::{File, ample_answer};
 use cert_cases::{ONE_LINK, ROUTING};
+use run_given::{File, ample_answer};
 use std::test::Fail;
 
 const USAGES: &[&[&str]] = &[

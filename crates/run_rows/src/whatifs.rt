@@ -1,25 +1,18 @@
 //! Rows of `whatif`: what a script shows of a certificate, or the first refusal of the three files.
 
-use crate::expected::{WHAT_IF, expect, expect_script};
-use crate::networks::{BOTH_WAYS, BOTH_WAYS_SOLVED, CUT, NO_CAPACITY, TWO_LINKS};
-use crate::running::File;
 use cert_cases::{CERTIFICATE, ONE_LINK, ROUTING, SIGNED, SIGNED_ROUTING, repeated};
+use run_given::{
+    BOTH_WAYS, BOTH_WAYS_SOLVED, CUT, File, INVALID, NO_CAPACITY, OPEN, TWO_LINKS, WHAT_IF, expect,
+    expect_script,
+};
 use std::test::Fail;
 
 /// The header of a routing, without the end of its line.
 const HEADER_OF_A_ROUTING: &[u8] = b"mcf-routing 1";
 
-/// A certificate of one phase over the second link, in form 1.
-pub const OPEN: &[u8] =
-    b"mcf-certificate 1\nverdict open\nlinks directed\nmodules largest\nnet nodes 2 cells 2 commodities 1 decimals 0 skipped 0 left 0 hops 0\ngap 0.050000\nphases 1\nscale 7 10\nlower 7/10 0.700000\nupper 20266198323167226/19301141260159260 1.050001\npath D1 10 L2\nlength L1 2251799813685248\nlength L2 1930114126015926\npotential A 0 1930114126015926\nend\n";
-
 /// A certificate of a phase over each link.
 const TWO_PHASES: &[u8] =
     b"mcf-certificate 1\nverdict closed\nlinks directed\nmodules largest\nnet nodes 2 cells 2 commodities 1 decimals 0 skipped 0 left 0 hops 0\ngap 0.200000\nphases 3\nscale 3 10\nlower 9/10 0.900000\nupper 20266198323167226/19301141260159260 1.050001\npath D1 10 L1\npath D1 20 L2\nlength L1 2251799813685248\nlength L2 1930114126015926\npotential A 0 1930114126015926\nend\n";
-
-/// A certificate that says open and is closed.
-pub const INVALID: &[u8] =
-    b"mcf-certificate 1\nverdict open\nlinks directed\nmodules largest\nnet nodes 2 cells 1 commodities 1 decimals 0 skipped 0 left 0 hops 0\ngap 0.050000\nphases 1\nscale 10 4\nlower 10/4 2.500000\nupper 45035996273704960/18014398509481984 2.500000\npath D1 4 L1\nlength L1 4503599627370496\npotential A 0 4503599627370496\nend\n";
 
 // What a row shows, the network, the certificate, the script, the status, and the text.
 type Row = (

@@ -1,7 +1,7 @@
 //! Rows of words that ask for something: the files they name, and the values of options.
 
-use crate::running::owned_words;
 use mcf_words::{Command, Request, WordsEnd, read_words};
+use run_given::owned_words;
 use std::alloc::Global;
 use std::test::Fail;
 

@@ -1,11 +1,10 @@
 //! Files and output that fail: at each read, at each write, and where nothing stands.
 
-use crate::expected::expect;
-use crate::networks::{FREE_LAYOUT, FREE_LAYOUT_PRINTED, TWO_LINKS};
-use crate::running::{AMPLE, File, Outside, ample_answer, answer_to};
-use crate::sweeps::WITHOUT_EACH;
-use crate::whatifs::OPEN;
 use cert_cases::{CERTIFICATE, ONE_LINK, ROUTING, SIGNED, VALID};
+use run_given::{
+    AMPLE, FREE_LAYOUT, FREE_LAYOUT_PRINTED, File, OPEN, OPEN_SWEPT, Outside, TWO_LINKS, ample_answer,
+    answer_to, expect,
+};
 use std::alloc::Global;
 use std::process::Abort;
 use std::test::Fail;
@@ -59,7 +58,7 @@ const UPGRADE: Run = Run {
 const SWEEP: Run = Run {
     words: &["sweep", "net", "cert"],
     files: &[("net", TWO_LINKS), ("cert", OPEN)],
-    text: WITHOUT_EACH,
+    text: OPEN_SWEPT,
     reads: 13,
 };
 

@@ -1,9 +1,7 @@
 //! Rows of `check` on certificates.
 
-use crate::edits::{Edit, expect_certs};
-use crate::expected::expect_cert;
-use crate::networks::{BOTH_WAYS, BOTH_WAYS_SOLVED, CUT, NO_CAPACITY};
 use cert_cases::{CERTIFICATE, ONE_LINK, SIGNED, VALID, edited, repeated};
+use run_given::{BOTH_WAYS, BOTH_WAYS_SOLVED, CUT, Edit, NO_CAPACITY, expect_cert, expect_certs};
 use std::test::Fail;
 
 const CERTIFICATES: &[Edit] = &[

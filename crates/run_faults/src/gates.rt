@@ -1,7 +1,7 @@
 //! Runs with two workers, of which a gate holds one: the other goes on meanwhile, over the same loads.
 
-use crate::running::{AMPLE, answer_through};
 use mcf_base::Gate;
+use run_given::{AMPLE, answer_through};
 use std::process::Abort;
 use std::sync::atomic::{AtomicBool, AtomicU64, Ordering};
 use std::test::Fail;
