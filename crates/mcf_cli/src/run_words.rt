@@ -53,6 +53,7 @@ fn run_command<F: Shelf, K: Sink, G: Gate, R: Threads + Sync>(
             request.names.name(0),
             request.names.name(1),
         ),
+        Command::SweepSolve => tell(out, Outcome::Usage),
         Command::Print => print(alloc, shelf, out, request.names.name(0)),
         Command::Gen => gen_net(alloc, out, request),
         Command::Trial => trial(rt, alloc, out, request, gate),
