@@ -10,6 +10,8 @@ mod prints;
 #[cfg(test)]
 mod solves;
 #[cfg(test)]
+mod sweep_solves;
+#[cfg(test)]
 mod sweeps;
 #[cfg(test)]
 mod upgrades;

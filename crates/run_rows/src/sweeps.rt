@@ -9,7 +9,7 @@ use run_given::{
 use std::test::Fail;
 
 /// Nodes without a link, and a demand between them.
-const NO_LINKS: &[u8] =
+pub const NO_LINKS: &[u8] =
     b"?SNDlib native format; type: network; version: 1.0\nNODES (\n  A\n  B\n)\nLINKS (\n)\nDEMANDS (\n  D1 ( A B ) 1 4 UNLIMITED\n)\n";
 
 /// Its certificate.
