@@ -1,12 +1,13 @@
 //! The command `sweep`: what a valid certificate is worth without each single link.
 
-ghost use Rattle.std.specs.Prelude.{◌≡◌, IfOk, length, map};
-ghost use Rattle.sndlib_grammar.specs.Rows.{AreNetRows, names_of_links};
+ghost use Rattle.std.specs.Prelude.{◌≡◌, IfOk, map};
+ghost use Rattle.sndlib_grammar.specs.Rows.{AreNetRows};
 ghost use Rattle.whatif.specs.Planned.{evaluation_of};
 ghost use Rattle.net_whatif.specs.Certified.{IsCertificate};
 ghost use Rattle.run_base.specs.Answer.{IsTold, OrWant};
 ghost use Rattle.run_sweeps.specs.Sweep.{OfSweep, OfSwept, swept, worth_without};
 
+use crate::ids::link_ids;
 use flow_paths::Proof;
 use mcf_base::{Shelf, Sink};
 use mcf_limits::{MAX_CERT_BYTES, MAX_NET_BYTES};
@@ -18,18 +19,6 @@ use std::thread::Threads;
 use sweep::{sweep_plan, write_sweep};
 use unit_scale::Scaled;
 use whatif::{Bounds, Plan};
-
-// The ids of the links, in their order.
-fn link_ids<'a>(alloc: Global, rows: &RawNet<'a>) -> Result<Vec<&'a [u8]>, AllocError>
-    ensures { IfOk result (λ ids. map (λ id. id.now) ids.items ≡ names_of_links rows.now) }
-{
-    let count = rows.links();
-    let mut ids = Vec::with_capacity(alloc, count as usize)?;
-    for i in 0..count {
-        ids.push(rows.link(i).id)?;
-    }
-    Ok(ids)
-}
 
 // What the certificate is worth without each link, in link order.
 fn bounds_without<R: Threads + Sync>(

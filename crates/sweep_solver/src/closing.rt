@@ -23,6 +23,7 @@ use std::thread::Threads;
 use unit_scale::{LinkMode, name_of};
 
 /// A network whose links are closed one at a time, how its links are read, and how each network is solved.
+#[derive(Drop)]
 pub struct Closing<'a> {
     pub net: &'a Net,
     pub mode: LinkMode,

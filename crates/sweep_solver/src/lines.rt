@@ -60,5 +60,9 @@ pub fn write_swept<K: Sink>(out: &mut K, ids: &[&[u8]], swept: &[Swept]) -> Resu
 pub fn swept_status(swept: &[Swept]) -> u8
     ensures { result ≡ swept_status_lem swept.now }
 {
-    if swept.iter().all(|one| one.closed) { 0 } else { 1 }
+    if swept.iter().all(|one| one.closed) {
+        0
+    } else {
+        1
+    }
 }

@@ -67,7 +67,16 @@ pub fn fill_all<G: Gate, R: Threads + Sync>(
             ensures { (i : ℕ) → i < length part.entry.now
                 → IsFilled mode net.entry.now options.entry.now (first + i)
                 (slice_index_or part.exit.now i None) }
-        { fill_slots(rt, alloc, &Closing { net, mode, options }, gate, first, part) },
+        {
+            fill_slots(
+                rt,
+                alloc,
+                &Closing { net, mode, options },
+                gate,
+                first,
+                part,
+            )
+        },
     );
 }
 
