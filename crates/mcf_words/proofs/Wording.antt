@@ -1,6 +1,6 @@
 -- The words for a request spell it.
-use Rattle.std.proofs.Common.{◌≡◌, ◌∙◌, ◌&&◌, ◌*◌, ◌+◌, ◌-◌, ◌^◌, ◌≤◌, ◌<◌, ◌⊎◌, inl, inr, ℕ, suc, Bool, cond, true, false, refl, sym, ap, subst, arith, List, [], ◌∷◌, ◌++◌, append-nil, length, map, take, drop, Option, Some, None, All, Contains, codes, decimal, le-leb, eq-eqb, eqb-true, true≢false}
-use Rattle.std.specs.Prelude.{◌==◌, nat_le, slice_index, slice_index_or}
+use Rattle.std.proofs.Common.{◌≡◌, ◌∙◌, ◌&&◌, ◌*◌, ◌+◌, ◌-◌, ◌^◌, ◌≤◌, ◌<◌, ◌⊎◌, inl, inr, ℕ, Bool, cond, true, false, refl, sym, ap, subst, arith, List, [], ◌∷◌, ◌++◌, append-nil, length, map, take, drop, Option, Some, None, All, Contains, codes, decimal, le-leb, eq-eqb, eqb-true, true≢false}
+use Rattle.std.specs.Prelude.{◌==◌, nat_le, slice_index_or}
 use Rattle.std.specs.Char.{is_ascii_digit}
 use Rattle.std.specs.Int.{IsInRange}
 use Rattle.std.specs.List.{flat_map, list_all, prefix_len}
@@ -11,16 +11,16 @@ use Rattle.std.proofs.lemmas.Bool.Decides.{nat_tests}
 use Rattle.std.proofs.lemmas.Fmt.{decimal_is_IsNumeral, length-decimal-le}
 use Rattle.std.proofs.lemmas.List.Elements.{All-nil, All-from_recursion, All-map}
 use Rattle.std.proofs.lemmas.Str.Parse.{digit_from_value}
-use Rattle.mcf_limits.specs.declared.TheConstants.{DEFAULT_WORKERS, MAX_DECIMALS, MAX_GAP, MAX_NODES, MAX_LINKS, MAX_DEMANDS, MAX_PHASES, MAX_WORKERS, MAX_STEP}
-use Rattle.sndlib_grammar.specs.Number.{Number, behind_digits, behind_whole, front_digits, number_of, plain, with_digits}
+use Rattle.mcf_limits.specs.declared.TheConstants.{DEFAULT_WORKERS, MAX_GAP, MAX_NODES, MAX_LINKS, MAX_DEMANDS, MAX_PHASES, MAX_WORKERS, MAX_STEP}
+use Rattle.sndlib_grammar.specs.Number.{Number, behind_digits, behind_whole, front_digits, number_of, plain}
 use Rattle.unit_scale.specs.Modes.{link_word, module_word}
 use Rattle.mcf_words.specs.declared.request.Command.{Command}
 use Rattle.mcf_words.specs.declared.request.Command.TheVariants.{Solve, Check, WhatIf, Upgrade, Sweep, SweepSolve, Print, Gen, Trial}
 use Rattle.mcf_words.specs.declared.request.Request.{Request}
 use Rattle.mcf_words.specs.Items.{Setting}
-use Rattle.mcf_words.specs.Values.{is_whole, values_of}
-use Rattle.mcf_words.specs.Request.{IsBudget, IsWithinLimits, file_count, form_of, options_of, one_worker_options, solver_options}
-use Rattle.mcf_words.specs.Parts.{Part, Plain, Apart, Joined, AreParts, MayStand, words_of, plain_of, settings_of}
+use Rattle.mcf_words.specs.Values.{values_of}
+use Rattle.mcf_words.specs.Request.{IsBudget, IsWithinLimits, file_count, options_of, one_worker_options, solver_options}
+use Rattle.mcf_words.specs.Parts.{Apart, AreParts, MayStand, words_of, plain_of, settings_of}
 use Rattle.mcf_words.specs.WordValues.{IsGapWord, IsNumberWord, IsPhasesWord, Says}
 use Rattle.mcf_words.specs.Spelled.{IsSpelled, NameFiles, NameNumbers, OptionsSay}
 use Rattle.mcf_words.specs.Words.{AreFour, HasDefaults, IsRequest, gap_word, option_words, options_for, phases_words, plain_for, takes_workers, words_for, workers_words}
