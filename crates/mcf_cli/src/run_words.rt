@@ -53,7 +53,6 @@ fn run_command<F: Shelf, K: Sink, G: Gate, R: Threads + Sync>(
             request.names.name(0),
             request.names.name(1),
         ),
-        Command::SweepSolve => tell(out, Outcome::Usage),
         Command::SweepSolve => {
             sweepsolve(rt, alloc, shelf, out, request.names.name(0), request, gate)
         }
