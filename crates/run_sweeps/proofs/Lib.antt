@@ -1,3 +1,4 @@
 pub mod Naming
 pub mod Worth
 pub mod Told
+pub mod Solves

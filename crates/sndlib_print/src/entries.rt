@@ -1,6 +1,6 @@
 //! The line of an entry, put into a buffer.
 
-ghost use Rattle.std.specs.Prelude.{◌≡◌, ◌<◌, ◌∷◌, ◌++◌, [], length, map};
+ghost use Rattle.std.specs.Prelude.{◌≡◌, ◌<◌, ◌∷◌, ◌++◌, [], codes, length, map};
 ghost use Rattle.text_lines.specs.Lines.{spelled};
 ghost use Rattle.text_lines.specs.Writing.{Puts};
 ghost use Rattle.text_lines.specs.Spelling.{behind};
@@ -8,7 +8,7 @@ ghost use Rattle.sndlib_grammar.specs.Rows.{node_at, link_at, demand_at, names_o
 ghost use Rattle.sndlib_grammar.specs.Canonical.{node_line, link_line, demand_line};
 
 use mcf_base::{Sink, WriteFault};
-use sndlib_read::RawNet;
+use sndlib_read::{LinkRow, RawNet};
 use text_lines::Buffer;
 
 // Puts the words, a space before each, and a line feed.
@@ -66,6 +66,36 @@ pub fn put_node<K: Sink>(
     }
 }
 
+// Puts the line of a link with the ids of its ends and the words of its modules.
+fn put_link_row<K: Sink>(
+    row: &LinkRow<'_>,
+    source: &[u8],
+    target: &[u8],
+    modules: &[&[u8]],
+    buffer: &mut Buffer,
+    out: &mut K,
+) -> Result<(), WriteFault>
+    ensures { Puts (K.seen out.old) (K.seen out.new) buffer.old buffer.new result
+        (spelled ([] ∷ [] ∷ row.now.id.now ∷ codes "(" ∷ source.now ∷ target.now ∷ codes ")" ∷ row.now.installed.now
+        ∷ map (λ w. w.now) row.now.costs ++ codes "(" ∷ map (λ w. w.now) modules.now ++ codes ")" ∷ [])) }
+{
+    let [cost, routing, setup] = row.costs;
+    let front: [&[u8]; 11] = [
+        b"",
+        row.id,
+        b"(",
+        source,
+        target,
+        b")",
+        row.installed,
+        cost,
+        routing,
+        setup,
+        b"(",
+    ];
+    put_entry(buffer, out, &front, modules, &[b")"])
+}
+
 /// Puts the line of the link of that number.
 pub fn put_link<K: Sink>(
     raw: &RawNet<'_>,
@@ -81,21 +111,7 @@ pub fn put_link<K: Sink>(
     let row = raw.link(i);
     let source = raw.node_id(row.source);
     let target = raw.node_id(row.target);
-    let [cost, routing, setup] = row.costs;
-    let front: [&[u8]; 11] = [
-        b"",
-        row.id,
-        b"(",
-        source,
-        target,
-        b")",
-        row.installed,
-        cost,
-        routing,
-        setup,
-        b"(",
-    ];
-    put_entry(buffer, out, &front, raw.modules(i), &[b")"])
+    put_link_row(&row, source, target, raw.modules(i), buffer, out)
 }
 
 /// Puts the line of the demand of that number.

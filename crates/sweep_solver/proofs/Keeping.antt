@@ -1,22 +1,19 @@
--- What is kept of a solve.
-use Rattle.std.proofs.Common.{◌≡◌, ℕ, ◌*◌, ◌≤◌, subst, sym, arith}
-use Rattle.std.proofs.lemmas.Nat.{mul-le}
-use Rattle.mcf_limits.specs.declared.TheConstants.{MAX_LENGTH, MAX_PHASES, MAX_UNITS}
+-- The bound of a certificate is a fraction.
+use Rattle.std.proofs.Common.{◌≡◌, ◌≢◌, ℕ, ◌^◌, ◌≤◌, subst, sym, arith}
+use Rattle.gap_fraction.specs.declared.fraction.TheConstants.{MAX_PART}
 use Rattle.gap_fraction.specs.Fraction.{IsFraction}
-use Rattle.flow_model.specs.Network.{Network}
-use Rattle.unit_scale.specs.declared.modes.LinkMode.{LinkMode}
-use Rattle.unit_scale.specs.Closed.{closed}
-use Rattle.solver_run.specs.History.{SolvedView}
-use Rattle.solver_run.specs.Headline.{IsSolved}
-use Rattle.sweep_solver.specs.declared.asked.SweepOptions.{SweepOptions}
-use Rattle.sweep_solver.specs.declared.swept.Swept.{Swept}
-use Rattle.sweep_solver.specs.Asked.{alone}
-use Rattle.sweep_solver.specs.Swept.{IsKeptOf, IsSwept}
+use Rattle.flow_model.specs.Network.{Network, IsNetwork}
+use Rattle.flow_paths.specs.declared.certificate.Proof.{Proof}
+use Rattle.flow_paths.specs.Certificate.{IsValid, upper_of}
+use Rattle.whatif.proofs.Limits.{AreSmall, distance_within}
 
-pub kept_of_solve : (mode : LinkMode) (net shut : Network) (o : SweepOptions) (link : ℕ) (solve : SolvedView) (s : Swept) → shut ≡ closed mode net link
-    → IsSolved shut (alone o) solve → IsKeptOf shut solve.proof s → IsSwept mode net o link s
-kept_of_solve mode net shut o link solve s is solved kept = record {
-  solve = solve;
-  solved = subst (λ (n : Network). IsSolved n (alone o) solve) is solved;
-  kept = subst (λ (n : Network). IsKeptOf n solve.proof s) is kept;
+positive : (a b : ℕ) → a ≡ b → b ≢ 0 → 1 ≤ a
+positive a b e ne = omega arith
+
+-- the bound of a valid certificate is a fraction
+pub upper_fits : (net : Network) (proof : Proof) (volume : ℕ) → IsNetwork net → IsValid net proof → AreSmall proof.dual.potentials → volume ≤ 2 ^ 119 → IsFraction (record { num = volume; den = proof.upper.den })
+upper_fits net proof volume n v small below = record {
+  positive = positive proof.upper.den (upper_of net proof.dual).den v.printed.upper.den v.distance.divides;
+  num = omega arith;
+  den = subst (λ (d : ℕ). d ≤ MAX_PART) (sym v.printed.upper.den) (distance_within net proof n small);
 }

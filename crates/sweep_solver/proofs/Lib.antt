@@ -1,4 +1,3 @@
-pub mod Working
 pub mod Shutting
 pub mod Keeping
 pub mod Gathering

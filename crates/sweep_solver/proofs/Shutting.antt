@@ -1,16 +1,15 @@
 -- The network with a link closed is a network.
-use Rattle.std.proofs.Common.{◌≡◌, ℕ, zero, suc, ◌+◌, ◌<◌, ◌≤◌, Bool, true, false, cond, List, [], ◌∷◌, ◌++◌, length, get_or, map, take, refl, sym, ap, subst, ◌∙◌, arith}
+use Rattle.std.proofs.Common.{◌≡◌, ℕ, zero, suc, ◌+◌, ◌<◌, ◌≤◌, Bool, true, false, List, [], ◌∷◌, ◌++◌, length, get_or, map, take, sym, ap, subst, ◌∙◌, arith}
 use Rattle.std.specs.Prelude.{◌==◌, if◌then◌else◌}
 use Rattle.std.specs.List.{enumerate_from}
-use Rattle.std.proofs.lemmas.List.{take_all, take_more, length-map}
+use Rattle.std.proofs.lemmas.List.{take_all, take_more}
 use Rattle.flow_model.specs.declared.net.Cell.{Cell}
+use Rattle.flow_model.specs.declared.net.Commodity.{Commodity}
 use Rattle.flow_model.specs.Network.{Network, IsNetwork, IsCell}
 use Rattle.flow_paths.specs.Evaluation.{with_caps}
 use Rattle.unit_scale.specs.declared.modes.LinkMode.{LinkMode}
 use Rattle.unit_scale.specs.Names.{name_of}
 use Rattle.unit_scale.specs.Closed.{closed, with_link}
-use Rattle.solver_run.specs.declared.options.SolveOptions.{SolveOptions}
-use Rattle.solver_run.specs.Options.{AreOptions}
 use Rattle.whatif.proofs.Sums.{with_caps-length}
 
 -- the cells, those of the link with capacity 0
@@ -38,12 +37,12 @@ shut_length mode cells link = with_caps-length cells (with_link mode (map (λ (c
 
 -- ---- one cell after the other
 
-pub shut_more : (mode : LinkMode) (cells done : List Cell) (link c : ℕ) (cell new : Cell) → c < length cells → cell ≡ get_or cells c cell → done ≡ take c (shut_cells mode cells link)
-    → new ≡ shut_cell mode link c cell → done ++ new ∷ [] ≡ take (c + 1) (shut_cells mode cells link)
-shut_more mode cells done link c cell new lt at h is =
+pub shut_more : (mode : LinkMode) (cells done more : List Cell) (link c : ℕ) (d new : Cell) → c < length cells → done ≡ take c (shut_cells mode cells link)
+    → new ≡ shut_cell mode link c (get_or cells c d) → more ≡ done ++ new ∷ [] → more ≡ take (c + 1) (shut_cells mode cells link)
+shut_more mode cells done more link c d new lt h is pushed =
     let all : List Cell = shut_cells mode cells link in
-    let here : get_or all c cell ≡ new = shut_at mode cells link c cell lt ∙ (ap (shut_cell mode link c) (sym at) ∙ sym is) in
-    ap (λ (l : List Cell). l ++ new ∷ []) h ∙ (ap (λ (x : Cell). take c all ++ x ∷ []) (sym here) ∙ sym (take_more all c cell (omega (arith, shut_length mode cells link))))
+    let here : get_or all c d ≡ new = shut_at mode cells link c d lt ∙ sym is in
+    pushed ∙ (ap (λ (l : List Cell). l ++ new ∷ []) h ∙ (ap (λ (x : Cell). take c all ++ x ∷ []) (sym here) ∙ sym (take_more all c d (omega (arith, shut_length mode cells link)))))
 
 pub shut_all : (mode : LinkMode) (cells done : List Cell) (link c : ℕ) → length cells ≤ c → done ≡ take c (shut_cells mode cells link) → done ≡ shut_cells mode cells link
 shut_all mode cells done link c le h = h ∙ take_all c (shut_cells mode cells link) (omega (arith, shut_length mode cells link))
@@ -70,16 +69,11 @@ closed_network mode net link n = record {
         subst (IsCell net.nodes) (sym (shut_at mode net.cells link k d lt))
         (shut_is ((name_of mode k).link == link) net.nodes (get_or net.cells k d) (n.cells k d lt))
 
--- options of the network are options with a link closed
-pub closed_options : (mode : LinkMode) (net shut : Network) (link : ℕ) (o : SolveOptions) → shut ≡ closed mode net link → AreOptions net o → AreOptions shut o
-closed_options mode net shut link o is h =
-    subst (λ (n : Network). AreOptions n o) (sym is) (record {
-      gap = h.gap;
-      some_phase = h.some_phase;
-      phases = h.phases;
-      some_worker = h.some_worker;
-      workers = h.workers;
-      some_step = h.some_step;
-      step = h.step;
-      work = h.work;
-    })
+-- and its parts make it
+pub closed_parts : (mode : LinkMode) (net : Network) (link nodes : ℕ) (own cells : List Cell) (ks : List Commodity) → IsNetwork net → nodes ≡ net.nodes → own ≡ net.cells → cells ≡ shut_cells mode own link
+    → ks ≡ net.commodities → IsNetwork (record { nodes = nodes; cells = cells; commodities = ks })
+closed_parts mode net link nodes own cells ks n nodes_are own_are cells_are ks_are =
+    let shut : cells ≡ shut_cells mode net.cells link = cells_are ∙ ap (λ (l : List Cell). shut_cells mode l link) own_are in
+    subst (λ (m : ℕ). IsNetwork (record { nodes = m; cells = cells; commodities = ks })) (sym nodes_are)
+    (subst (λ (l : List Cell). IsNetwork (record { nodes = net.nodes; cells = l; commodities = ks })) (sym shut)
+    (subst (λ (l : List Commodity). IsNetwork (record { nodes = net.nodes; cells = shut_cells mode net.cells link; commodities = l })) (sym ks_are) (closed_network mode net link n)))

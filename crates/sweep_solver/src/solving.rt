@@ -30,7 +30,7 @@ pub fn sweep_solve<G: Gate, R: Threads + Sync>(
 ) -> Result<Vec<Swept>, AllocError>
     requires few { links ≤ MAX_LINKS }
     requires options { 1 ≤ links → AreOptions net.now (alone options.now) }
-    ensures { IfOk result (AreSwept mode net.now options.now links) }
+    ensures { IfOk result (λ v. AreSwept mode net.now options.now links v.items) }
 {
     if links == 0 {
         return Ok(Vec::new(alloc));

@@ -44,7 +44,7 @@ invariant_of-result c =
     let lengths_are : lengths ≡ lengths_in net proof.dual = c.in_ok-lengths.ensures.value ∙ ap (λ n. map (length_of proof.dual.lengths) (range_with_len 0 n)) count in
     let tree_is : c.in_ok-tree.tree ≡ ratios 0 net.cells loads = c.in_ok-tree.ensures ∙ (c.deref-2.ensures.value ∙ (c.in_ok-ratios_of.ensures.value ∙ (ap (λ (cells : List Cell). ratios 0 cells c.deref.result.now) c.cells-cells.ensures.value ∙ ap (ratios 0 net.cells) c.deref.ensures.value))) in
     let caps_are : c.in_ok-caps.caps.items ≡ map (λ c. c.cap) net.cells = c.in_ok-caps.ensures ∙ ap (λ (cells : List Cell). map (λ c. c.cap) cells) c.cells-cells.ensures.value in
-    let kept = kept_new net proof loads lengths c.cells-cells.ensures.net c.requires.proof c.requires.valid c.rows-_rows.ensures.limits loads_are lengths_are c.in_ok-lengths.ensures.limit in
+    let kept = kept_new net proof loads lengths c.cells-cells.ensures.net c.requires.proof c.requires.valid c.rows-rows.ensures.limits loads_are lengths_are c.in_ok-lengths.ensures.limit in
     let with_tree = subst (λ (t : List Ratio). IsKept (record { net = net; proof = proof; caps = map (λ c. c.cap) net.cells }) loads lengths t proof.upper.num proof.upper.den) (sym tree_is) kept in
     let with_caps = subst (λ (l : List ℕ). IsKept (record { net = net; proof = proof; caps = l }) loads lengths c.in_ok-tree.tree proof.upper.num proof.upper.den) (sym caps_are) with_tree in
     let net_is : (arc_value c.in_ok-new.field-0).net.value ≡ net = ap (λ s. s.net.value) c.in_ok-new.ensures.ok ∙ c.of.ensures in
