@@ -1,11 +1,13 @@
 //! Texts of certificates and routings: what their heads say, and each refusal with its line.
 
-ghost use Rattle.std.specs.Prelude.{◌≡◌, Ok};
+ghost use Rattle.std.specs.Prelude.{◌≡◌, ◌≤◌, Ok, length};
+ghost use Rattle.mcf_limits.specs.declared.TheConstants.{MAX_CERT_BYTES};
+ghost use Rattle.cert_lines.specs.Sheet.{IsOf};
 ghost use Rattle.sndlib_grammar.specs.Rows.{AreNetRows};
 ghost use Rattle.unit_scale.specs.Scaling.{scaled_of};
 
 use crate::one_link::{CERTIFICATE, ONE_LINK, ROUTING, SIGNED, SIGNED_ROUTING, edited};
-use cert_text::{CertEnd, CertKind, Form, Kind, cert_head, read_cert};
+use cert_text::{CertEnd, CertKind, CertRefusal, Form, Kind, Known, open, read_rest};
 use mcf_limits::MAX_CERT_BYTES;
 use sndlib_read::{RawNet, read_net};
 use std::alloc::Global;
@@ -24,7 +26,7 @@ const OF_FORM_1: &[Edit] = &[
         CertKind::NoHeader,
     ),
     (b"verdict closed", b"verdict shut", 2, CertKind::Syntax),
-    (b"links directed", b"links undirected", 3, CertKind::Syntax),
+    (b"links directed", b"links both", 3, CertKind::Syntax),
     (b"modules largest", b"modules  largest", 4, CertKind::Syntax),
     (b"net nodes 2", b"net nodes 3", 5, CertKind::OtherNet),
     (
@@ -126,6 +128,21 @@ const OF_FORM_2: &[Edit] = &[
     (b"length +L1", b"length =L1", 12, CertKind::UnknownName),
 ];
 
+// The first fault of the text, where it has one.
+fn fault_of(alloc: Global, rows: &RawNet<'_>, net: &Scaled, text: &[u8]) -> Option<CertRefusal>
+    requires net { IsOf rows.now net.now }
+    requires text { length text.now ≤ MAX_CERT_BYTES }
+{
+    let opened = match open(Known::Both, text) {
+        Ok(opened) => opened,
+        Err(refusal) => return Some(refusal),
+    };
+    match read_rest(alloc, rows, net, opened) {
+        Err(CertEnd::Refused(refusal)) => Some(refusal),
+        _ => None,
+    }
+}
+
 // Each edit of the certificate is refused at its line, by rows that scale to the network under the options.
 fn refused(
     rt: &impl Abort,
@@ -142,12 +159,12 @@ fn refused(
     for (old, new, line, kind) in edits {
         let text = edited(alloc, cert, *old, *new)?;
         assert!(rt; text.len() <= MAX_CERT_BYTES);
-        match read_cert(alloc, &*rows, net, &text) {
-            Err(CertEnd::Refused(refusal)) => {
+        match fault_of(alloc, &*rows, net, &text) {
+            Some(refusal) => {
                 assert_eq!(rt; refusal.line, *line, "{kind:?}");
                 assert_eq!(rt; refusal.kind, *kind, "at {line}");
             }
-            _ => assert!(rt; false, "{kind:?} at {line}"),
+            None => assert!(rt; false, "{kind:?} at {line}"),
         }
     }
     Ok(())
@@ -185,8 +202,9 @@ fn refusals_with_their_lines(rt: HostRuntime) -> Result<(), Fail> {
 // How the text is headed.
 fn expect_head(rt: &impl Abort, text: &[u8], kind: Kind, form: Form, modules: ModuleMode) {
     assert!(rt; text.len() <= MAX_CERT_BYTES);
-    match cert_head(text) {
-        Ok(head) => {
+    match open(Known::Both, text) {
+        Ok(opened) => {
+            let head = opened.head;
             assert!(rt; head.kind == kind && head.form == form);
             assert!(rt; head.links == LinkMode::Directed && head.modules == modules);
         }
@@ -207,9 +225,9 @@ fn heads(rt: HostRuntime) {
 #[test]
 fn head_of_links_of_two_cells(rt: HostRuntime) {
     let text = b"mcf-routing 2\nlinks bidirected\nmodules sum\n";
-    let head = cert_head(text);
+    let opened = open(Known::Both, text);
     assert!(rt;
-        head.is_ok_and(|h| h.links == LinkMode::Bidirected && h.modules == ModuleMode::Sum)
+        opened.is_ok_and(|o| o.head.links == LinkMode::Bidirected && o.head.modules == ModuleMode::Sum)
     );
 }
 
@@ -234,8 +252,27 @@ fn heads_that_are_refused(rt: HostRuntime) {
     ] {
         assert!(rt; text.len() <= MAX_CERT_BYTES);
         assert!(rt;
-            cert_head(text).is_err_and(|r| r.line == line && r.kind == kind),
+            open(Known::Both, text).is_err_and(|r| r.line == line && r.kind == kind),
             "at {line}"
         );
     }
+}
+
+// Where the headers of certificates alone are known, that of a routing is none, whatever follows it.
+#[test]
+fn routings_that_are_not_known(rt: HostRuntime) {
+    for text in [
+        b"mcf-routing 1".as_slice(),
+        b"mcf-routing 2",
+        b"mcf-routing 2\nlinks both\n",
+        ROUTING,
+        SIGNED_ROUTING,
+    ] {
+        assert!(rt; text.len() <= MAX_CERT_BYTES);
+        assert!(rt;
+            open(Known::Certificates, text).is_err_and(|r| r.line == 1 && r.kind == CertKind::NoHeader)
+        );
+    }
+    assert!(rt; CERTIFICATE.len() <= MAX_CERT_BYTES);
+    assert!(rt; open(Known::Certificates, CERTIFICATE).is_ok());
 }

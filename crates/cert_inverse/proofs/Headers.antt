@@ -18,7 +18,7 @@ use Rattle.cert_text.specs.declared.opening.Kind.{Kind}
 use Rattle.cert_text.specs.declared.opening.Kind.TheVariants as kinds
 use Rattle.cert_text.specs.declared.opening.Opening.{Opening}
 use Rattle.cert_text.specs.Reading.{Place, has_more, bytes_of}
-use Rattle.cert_text.specs.Papers.{form_of, header_of, header}
+use Rattle.cert_text.specs.Papers.{form_of, header_of, header, header_by}
 use Rattle.cert_writer.specs.Text.{end_line, from_counts, path_lines}
 use Rattle.cert_judge.proofs.Steps.{done, ok_is, passed}
 use Rattle.cert_inverse.specs.Inverse.{AreInForms, form_said, form_word, paper_text}
@@ -62,7 +62,7 @@ form_is line o e = by (is_fixed (codes "mcf-certificate 1") line) (is_fixed (cod
     by false false false false h i j k s = absurd cc
 
 pub header_take : (lines : List Line) (x : Opening × Place) → header lines ≡ Ok x → bytes_of lines ≡ spelled (said_words x.0) ++ bytes_of x.1.rest
-unfolding header
+unfolding header_by
 header_take [] x e = absurd cc
 header_take (line ∷ lines) x e = by (form_of line) refl e
   where
@@ -75,7 +75,7 @@ header_take (line ∷ lines) x e = by (form_of line) refl e
 
 -- what was read says its form
 pub header_said : (lines : List Line) (x : Opening × Place) → header lines ≡ Ok x → form_said lines ≡ Some x.0.form
-unfolding header
+unfolding header_by
 header_said [] x e = absurd cc
 header_said (line ∷ lines) x e = by (form_of line) refl e
   where
@@ -87,15 +87,15 @@ header_said (line ∷ lines) x e = by (form_of line) refl e
 
 -- ---- what is spelled is read
 
-header_by : (kind : Kind) (form : Form) (line : Line) (lines : List Line) → header (said_words (opening kind form) ∷ line ∷ lines) ≡ Ok (opening kind form, place 2 (line ∷ lines))
-unfolding header
-header_by kinds.Certificate First line lines = refl
-header_by kinds.Certificate Second line lines = refl
-header_by kinds.Routing First line lines = refl
-header_by kinds.Routing Second line lines = refl
+header_spelled : (kind : Kind) (form : Form) (line : Line) (lines : List Line) → header (said_words (opening kind form) ∷ line ∷ lines) ≡ Ok (opening kind form, place 2 (line ∷ lines))
+unfolding header_by
+header_spelled kinds.Certificate First line lines = refl
+header_spelled kinds.Certificate Second line lines = refl
+header_spelled kinds.Routing First line lines = refl
+header_spelled kinds.Routing Second line lines = refl
 
 pub header_again : (kind : Kind) (form : Form) (word : List ℕ) (line : Line) (lines : List Line) → word ≡ form_word form → header (header_words kind word ∷ line ∷ lines) ≡ Ok (opening kind form, place 2 (line ∷ lines))
-header_again kind form word line lines e = ap (λ (w : List ℕ). header (header_words kind w ∷ line ∷ lines)) e ∙ header_by kind form line lines
+header_again kind form word line lines e = ap (λ (w : List ℕ). header (header_words kind w ∷ line ∷ lines)) e ∙ header_spelled kind form line lines
 
 -- ---- no text is of both forms
 

@@ -18,7 +18,7 @@ use Rattle.cert_text.specs.declared.papers.Paper.{Paper}
 use Rattle.cert_text.specs.declared.papers.Paper.TheVariants as papers
 use Rattle.cert_text.specs.declared.opening.Kind.TheVariants as kinds
 use Rattle.cert_text.specs.Reading.{next_line}
-use Rattle.cert_text.specs.Whole.{link_mode_line, module_mode_line, behind_verdict, modes_head, head_in}
+use Rattle.cert_text.specs.Whole.{link_mode_line, module_mode_line, verdict_at, modes_behind, opened_by, head_by, head_in}
 use Rattle.cert_writer.specs.Text.{certificate_lines, from_counts}
 use Rattle.cert_judge.specs.Fits.{FitsPaper}
 use Rattle.cert_inverse.specs.Inverse.{IsCitable, form_word, head_of, link_word_in, paper_lines, paper_text, read_head}
@@ -59,7 +59,7 @@ module _ (sheet : Sheet) (form : Form) (options : NetOptions) (own : IsCitable s
 
   full_head : (closed : Bool) (line : Line) (rest : List Line)
       → head_in (header_words kinds.Certificate sheet.form ∷ verdict_words closed ∷ links_words sheet ∷ modules_words sheet ∷ line ∷ rest) ≡ read_head (record { kind = kinds.Certificate; form = form; links = options.links; modules = options.modules })
-  unfolding head_in modes_head behind_verdict
+  unfolding head_by opened_by verdict_at modes_behind
   full_head closed line rest =
       let behind = links_words sheet ∷ modules_words sheet ∷ line ∷ rest in
       let verdict = next_again verdict_line 2 (verdict_words closed) behind closed refl (verdict_again closed) in
@@ -67,7 +67,7 @@ module _ (sheet : Sheet) (form : Form) (options : NetOptions) (own : IsCitable s
 
   routing_head : (line : Line) (rest : List Line)
       → head_in (header_words kinds.Routing sheet.form ∷ links_words sheet ∷ modules_words sheet ∷ line ∷ rest) ≡ read_head (record { kind = kinds.Routing; form = form; links = options.links; modules = options.modules })
-  unfolding head_in modes_head behind_verdict
+  unfolding head_by opened_by verdict_at modes_behind
   routing_head line rest =
       rw (header_again kinds.Routing form sheet.form (links_words sheet) (modules_words sheet ∷ line ∷ rest) h.form_is, links_read 2 (modules_words sheet) (line ∷ rest), modules_read 3 line rest) refl
 

@@ -20,8 +20,7 @@ use Rattle.cert_lines.specs.declared.net_line.TheConstants.{MAX_COUNT}
 use Rattle.cert_lines.specs.declared.refusal.CertRefusal.{CertRefusal}
 use Rattle.cert_text.specs.declared.papers.Paper.{Paper}
 use Rattle.cert_text.specs.declared.papers.Paper.TheVariants as papers
-use Rattle.cert_text.specs.declared.opening.CertHead.{CertHead}
-use Rattle.cert_text.specs.Whole.{head_in, paper_in}
+use Rattle.cert_text.specs.declared.opening.Known.TheVariants.{Both}
 use Rattle.cert_writer.specs.Text.{FitsProof, FitsRouting, certificate_text, routing_text}
 use Rattle.cert_judge.specs.Fits.{FitsPaper}
 use Rattle.cert_judge.proofs.NewFits.{new_fits}
@@ -30,8 +29,12 @@ use Rattle.cert_check.specs.declared.verdict.Fault.TheVariants.{C1, C2, C3, C4, 
 use Rattle.cert_check.specs.Verdict.{IsFirstRouteFault, IsFirstFault}
 use Rattle.cert_judge.specs.declared.judged.Judged.{Judged}
 use Rattle.cert_judge.specs.declared.judged.Judged.TheVariants.{NetRefused, CertRefused, Invalid, Feasible, Valid}
-use Rattle.cert_judge.specs.Judgement.{options_of, IsSaidOf, OnPaper, OnNet, OnHead, IsJudgement}
-use Rattle.cert_inverse.specs.Inverse.{IsCitable, IsTextOf, paper_text}
+use Rattle.cert_judge.specs.declared.refusal.Refusal.{Refusal}
+use Rattle.cert_judge.specs.declared.refusal.Refusal.TheVariants.{Net, Cert}
+use Rattle.cert_judge.specs.Papers.{options_of, IsReadOf}
+use Rattle.cert_judge.specs.Judgement.{IsSaidOf, IsJudgement, refused}
+use Rattle.cert_judge.proofs.Judgements.{judged_by, judged_of}
+use Rattle.cert_inverse.specs.Inverse.{IsCitable, IsTextOf, head_of, paper_text}
 use Rattle.cert_inverse.specs.Judging.{valid_of, feasible_of, IsValidText, IsFeasibleText}
 use Rattle.cert_inverse.proofs.NetworkWords.{accepted, citable, citable_old, in_forms, is_scaled, old_word}
 use Rattle.cert_inverse.proofs.HeadsAgain.{HasModes, heads_again}
@@ -42,6 +45,17 @@ use Rattle.cert_inverse.proofs.Exactly.{text_of_read}
 under_options : (rows : NetRows) (net : ScaledNet) → IsOf rows net → scaled_of rows net.options ≡ Ok net
 under_options rows net h = subst (λ (o : NetOptions). scaled_of rows o ≡ Ok net) (ap (λ (n : ScaledNet). n.options) (is_scaled rows net h)) h.scaled
 
+-- what is written in a form is read as what was written
+pub written_read : (rows : NetRows) (net : ScaledNet) (form : Form) (paper : Paper) → IsOf rows net → IsCitable (sheet_for (sheets_of rows net) form) → HasModes (sheet_for (sheets_of rows net) form) form net.options
+    → FitsPaper (sheet_for (sheets_of rows net) form) paper → IsReadOf Both rows (paper_text (sheet_for (sheets_of rows net) form) paper) net paper
+written_read rows net form paper h own modes fits = record {
+  head_of = head_of form net.options paper;
+  head_read = heads_again (sheet_for (sheets_of rows net) form) form net.options paper own fits modes;
+  scaled = under_options rows net h;
+  fits = refl;
+  rest_read = reads_back (sheets_of rows net) form paper (in_forms rows net) own fits;
+}
+
 -- what is written in a form is judged as what was written
 module _ (rows : NetRows) (net : ScaledNet) (form : Form) (paper : Paper) (judged : Judged) (h : IsOf rows net) where
   written_in : (own : IsCitable (sheet_for (sheets_of rows net) form)) → HasModes (sheet_for (sheets_of rows net) form) form net.options → FitsPaper (sheet_for (sheets_of rows net) form) paper
@@ -49,11 +63,8 @@ module _ (rows : NetRows) (net : ScaledNet) (form : Form) (paper : Paper) (judge
   written_in own modes fits said =
       let sheets = sheets_of rows net in
       let sheet = sheet_for sheets form in
-      let lines = lines_of (paper_text sheet paper) in
-      let head = heads_again sheet form net.options paper own fits modes in
-      let at_head : OnNet rows lines net.options (scaled_of rows net.options) judged = subst (λ (r : Result CertHead CertRefusal). OnHead rows lines r judged) head said in
-      let at_net : OnPaper net.options net.net (paper_in sheets lines) judged = subst (λ (r : Result ScaledNet NetRefusal). OnNet rows lines net.options r judged) (under_options rows net h) at_head in
-      subst (λ (r : Result Paper CertRefusal). OnPaper net.options net.net r judged) (reads_back sheets form paper (in_forms rows net) own fits) at_net
+      let text = paper_text sheet paper in
+      judged_of rows text net paper judged (written_read rows net form paper h own modes fits) said
 
 -- the words of the options stand in the sheet of each form
 pub modes_of : (rows : NetRows) (net : ScaledNet) → HasModes (sheet_of rows net) Second net.options
@@ -145,20 +156,25 @@ IsOfPaper (Invalid fault) = Unit {0}
 IsOfPaper (Feasible options value) = Unit {0}
 IsOfPaper (Valid options closed lower upper) = Unit {0}
 
-on_paper : (rows : NetRows) (text : List ℕ) (judged : Judged) (net : ScaledNet) → IsOfPaper judged → scaled_of rows net.options ≡ Ok net → (read : Result Paper CertRefusal) → paper_in (sheets_of rows net) (lines_of text) ≡ read → OnPaper net.options net.net read judged → IsReached rows text judged
-on_paper rows text judged net own scaled (Ok paper) e said = record { net = net; paper = paper; scaled = scaled; written = text_of_read (sheets_of rows net) text paper (in_forms rows net) e; fits = new_fits rows net (lines_of text) paper e; said = said }
-on_paper rows text judged net own scaled (Err r) e said = absurd (subst IsOfPaper said own)
+-- what is said is no refusal
+no_refusal : (judged : Judged) → IsOfPaper judged → (r : Refusal) → judged ≡ refused r → ⊥
+no_refusal judged own (Net r) e = subst IsOfPaper e own
+no_refusal judged own (Cert r) e = subst IsOfPaper e own
 
-on_net : (rows : NetRows) (text : List ℕ) (judged : Judged) (o : NetOptions) → IsOfPaper judged → (read : Result ScaledNet NetRefusal) → scaled_of rows o ≡ read → OnNet rows (lines_of text) o read judged → IsReached rows text judged
-on_net rows text judged o own (Ok net) e said =
-    let is = its_options rows o net e in
-    on_paper rows text judged net own (subst (λ (q : NetOptions). scaled_of rows q ≡ Ok net) is e) (paper_in (sheets_of rows net) (lines_of text)) refl
-    (subst (λ (q : NetOptions). OnPaper q net.net (paper_in (sheets_of rows net) (lines_of text)) judged) is said)
-on_net rows text judged o own (Err r) e said = absurd (subst IsOfPaper said own)
-
-on_head : (rows : NetRows) (text : List ℕ) (judged : Judged) → IsOfPaper judged → (read : Result CertHead CertRefusal) → OnHead rows (lines_of text) read judged → IsReached rows text judged
-on_head rows text judged own (Ok head) said = on_net rows text judged (options_of head) own (scaled_of rows (options_of head)) refl said
-on_head rows text judged own (Err r) said = absurd (subst IsOfPaper said own)
+reached : (rows : NetRows) (text : List ℕ) (judged : Judged) → IsOfPaper judged → IsJudgement rows text judged → IsReached rows text judged
+reached rows text judged own said =
+    let a = judged_by rows text judged (no_refusal judged own) said in
+    let net = a.0 in
+    let paper = a.1 in
+    let is = its_options rows (options_of a.2.head_of) net a.2.scaled in
+    record {
+      net = net;
+      paper = paper;
+      scaled = subst (λ (q : NetOptions). scaled_of rows q ≡ Ok net) is a.2.scaled;
+      written = text_of_read (sheets_of rows net) text paper (in_forms rows net) a.2.rest_read;
+      fits = new_fits rows net (lines_of text) paper a.2.rest_read;
+      said = a.3;
+    }
 
 as_certificate : (rows : NetRows) (text : List ℕ) (net : ScaledNet) (options : NetOptions) (closed : Bool) (lower upper : Fraction) → scaled_of rows net.options ≡ Ok net → (paper : Paper) → IsTextOf (sheets_of rows net) text paper → FitsPaper (sheet_of rows net) paper
     → IsSaidOf net.options net.net paper (Valid options closed lower upper) → IsValidText rows text (Valid options closed lower upper)
@@ -169,7 +185,7 @@ as_certificate rows text net options closed lower upper scaled (papers.Routing r
 
 pub judged_certificate : (rows : NetRows) (text : List ℕ) (options : NetOptions) (closed : Bool) (lower upper : Fraction) → IsJudgement rows text (Valid options closed lower upper) → IsValidText rows text (Valid options closed lower upper)
 judged_certificate rows text options closed lower upper said =
-    let r = on_head rows text (Valid options closed lower upper) tt (head_in (lines_of text)) said in
+    let r = reached rows text (Valid options closed lower upper) tt said in
     as_certificate rows text r.net options closed lower upper r.scaled r.paper r.written r.fits r.said
 
 as_routing : (rows : NetRows) (text : List ℕ) (net : ScaledNet) (options : NetOptions) (value : Fraction) → scaled_of rows net.options ≡ Ok net → (paper : Paper) → IsTextOf (sheets_of rows net) text paper → FitsPaper (sheet_of rows net) paper
@@ -181,5 +197,5 @@ as_routing rows text net options value scaled (papers.Full p) written fits said 
 
 pub judged_routing : (rows : NetRows) (text : List ℕ) (options : NetOptions) (value : Fraction) → IsJudgement rows text (Feasible options value) → IsFeasibleText rows text (Feasible options value)
 judged_routing rows text options value said =
-    let r = on_head rows text (Feasible options value) tt (head_in (lines_of text)) said in
+    let r = reached rows text (Feasible options value) tt said in
     as_routing rows text r.net options value r.scaled r.paper r.written r.fits r.said

@@ -24,7 +24,7 @@ use Rattle.cert_text.specs.declared.papers.Paper.{Paper}
 use Rattle.cert_text.specs.declared.papers.Paper.TheVariants as papers
 use Rattle.cert_text.specs.declared.opening.Kind.TheVariants as kinds
 use Rattle.cert_text.specs.Reading.{has_more, mode_line, rows_from, bytes_of, closing}
-use Rattle.cert_text.specs.Papers.{modes_at, scale_at, opening_at, values_at, dual_at, routing_at, proof_at}
+use Rattle.cert_text.specs.Papers.{modes_at, scale_at, opening_at, counted_at, values_at, dual_at, routing_at, routing_from, proof_at, proof_from}
 use Rattle.cert_text.specs.Whole.{paper_at, paper_in}
 use Rattle.cert_writer.specs.Text.{end_line, FitsRouting, FitsProof}
 use Rattle.cert_judge.specs.Fits.{FitsPaper}
@@ -46,7 +46,7 @@ modes_again sheet at rest own more =
 
 pub opening_again : (sheet : Sheet) (closed : Bool) (gap at : ℕ) (rest : List Line) → IsCitable sheet → gap ≤ MAX_GAP → has_more rest ≡ true
     → opening_at sheet (place at (verdict_words closed ∷ links_words sheet ∷ modules_words sheet ∷ counts_words sheet ∷ gap_words gap ∷ rest)) ≡ Ok ((closed, gap), place (at + 1 + 1 + 1 + 1 + 1) rest)
-unfolding opening_at
+unfolding opening_at counted_at
 opening_again sheet closed gap at rest own small more =
     let behind_counts = gap_words gap ∷ rest in
     let behind_modes = counts_words sheet ∷ behind_counts in
@@ -106,7 +106,7 @@ from_phases r rest = phases_words r.phases ∷ scale_words (r.scale_cap, r.scale
 
 routing_again : (sheet : Sheet) (at : ℕ) (r : Routing) (tail : List Line) (ends : ℕ → Result (Unit {0}) CertRefusal) → IsCitable sheet → FitsRouting sheet r → Ends tail ends
     → routing_at sheet (place at (links_words sheet ∷ modules_words sheet ∷ from_phases r (map (path_words sheet) r.paths ++ (end_line ∷ tail)))) ≡ (ends (at + 1 + 1 + 1 + 1 + length r.paths) >>= λ last. Ok r)
-unfolding routing_at
+unfolding routing_at routing_from
 routing_again sheet at r tail ends own fits end =
     let rows = map (path_words sheet) r.paths ++ (end_line ∷ tail) in
     let modes = modes_again sheet at (from_phases r rows) own refl in
@@ -124,7 +124,7 @@ abbrev proof_end : ℕ → Proof → ℕ
 proof_end at p = at + 1 + 1 + 1 + 1 + 1 + 1 + 1 + 1 + 1 + length p.routing.paths + length p.dual.lengths + length p.dual.potentials
 
 proof_again : (sheet : Sheet) (at : ℕ) (p : Proof) (tail : List Line) (ends : ℕ → Result (Unit {0}) CertRefusal) → IsCitable sheet → FitsProof sheet p → Ends tail ends → proof_at sheet (place at (behind_proof sheet p (from_paths sheet p tail))) ≡ (ends (proof_end at p) >>= λ last. Ok p)
-unfolding proof_at
+unfolding proof_at proof_from
 proof_again sheet at p tail ends own fits end =
     let from_values = value_words (codes "lower") p.lower ∷ value_words (codes "upper") p.upper ∷ from_paths sheet p tail in
     let r = p.routing in

@@ -22,7 +22,7 @@ use Rattle.cert_text.specs.declared.papers.Paper.TheVariants as papers
 use Rattle.cert_text.specs.declared.opening.Kind.{Kind}
 use Rattle.cert_text.specs.declared.opening.Kind.TheVariants as kinds
 use Rattle.cert_text.specs.Reading.{Place, next_line, mode_line, rows_from, bytes_of, closing}
-use Rattle.cert_text.specs.Papers.{modes_at, scale_at, opening_at, values_at, dual_at, routing_at, proof_at, header}
+use Rattle.cert_text.specs.Papers.{modes_at, scale_at, opening_at, counted_at, values_at, dual_at, routing_at, routing_from, proof_at, proof_from, header}
 use Rattle.cert_text.specs.Whole.{paper_at, paper_in}
 use Rattle.cert_writer.specs.Text.{end_line}
 use Rattle.cert_judge.proofs.Steps.{bind_ok, done, ok_is}
@@ -81,7 +81,7 @@ abbrev pub opened_lines : Sheet → Bool × ℕ → List Line
 opened_lines sheet o = verdict_words o.0 ∷ links_words sheet ∷ modules_words sheet ∷ counts_words sheet ∷ gap_words o.1 ∷ []
 
 pub opening_take : (sheet : Sheet) (place : Place) (x : (Bool × ℕ) × Place) → opening_at sheet place ≡ Ok x → Between (opened_lines sheet x.0) place x.1
-unfolding opening_at
+unfolding opening_at counted_at
 opening_take sheet place x e =
     let made = λ (v : Bool) (gap : ℕ × Place). done {A = (Bool × ℕ) × Place} {E = CertRefusal} ((v, gap.0), gap.1) in
     let a = bind_ok (next_line verdict_line place) (λ v. modes_at sheet v.1 >>= λ modes. next_line (counts_line sheet) modes >>= λ counts. next_line gap_line counts.1 >>= λ gap. made v.0 gap) x e in
@@ -123,7 +123,7 @@ abbrev behind_routing : Sheet → Routing → List Line
 behind_routing sheet r = links_words sheet ∷ modules_words sheet ∷ phases_words r.phases ∷ scale_words (r.scale_cap, r.scale_load) ∷ (map (path_words sheet) r.paths ++ end_line ∷ [])
 
 routing_take : (sheet : Sheet) (place : Place) (r : Routing) → routing_at sheet place ≡ Ok r → bytes_of place.rest ≡ text_of (behind_routing sheet r)
-unfolding routing_at
+unfolding routing_at routing_from
 routing_take sheet place r e =
     let made = λ (s : Scale) (ps : List Row). done {A = Routing} {E = CertRefusal} (routing_made s ps) in
     let a = bind_ok (modes_at sheet place) (λ modes. scale_at modes >>= λ scale. rows_from (codes "path") (path_row sheet) scale.1.at scale.1.rest >>= λ paths. closing paths.1 >>= λ last. made scale.0 paths.0) r e in
@@ -153,7 +153,7 @@ behind_proof sheet p =
     ++ (map (path_words sheet) p.routing.paths ++ (dual_lines sheet p.dual ++ end_line ∷ []))))
 
 proof_take : (sheet : Sheet) (place : Place) (p : Proof) → proof_at sheet place ≡ Ok p → bytes_of place.rest ≡ text_of (behind_proof sheet p)
-unfolding proof_at
+unfolding proof_at proof_from
 proof_take sheet place p e =
     let path = λ (q : Place). rows_from (codes "path") (path_row sheet) q.at q.rest in
     let made = λ (o : Bool × ℕ) (s : Scale) (v : Printed × Printed) (ps : List Row) (d : DualRows). done {A = Proof} {E = CertRefusal} (proof_made o s v ps d) in

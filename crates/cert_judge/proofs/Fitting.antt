@@ -48,7 +48,7 @@ accepted : (a net : ScaledNet) (r : Option NetRefusal) → unless_refused a r �
 accepted a net None e = ap (net_or a) e
 accepted a net (Some r) e = absurd cc
 
-is_scaled : (rows : NetRows) (o : NetOptions) (net : ScaledNet) → scaled_of rows o ≡ Ok net → scaled_with o (decimals_of (sizes o.modules rows)) rows ≡ net
+pub is_scaled : (rows : NetRows) (o : NetOptions) (net : ScaledNet) → scaled_of rows o ≡ Ok net → scaled_with o (decimals_of (sizes o.modules rows)) rows ≡ net
 is_scaled rows o net e =
     let s = decimals_of (sizes o.modules rows) in
     accepted (scaled_with o s rows) net (refusal o.modules s rows) e

@@ -1,5 +1,9 @@
 pub mod Fitting
+pub mod Judgements
+pub mod Kinds
 pub mod LineFits
 pub mod NewFits
+pub mod PaperFacts
 pub mod PaperFits
+pub mod Stages
 pub mod Steps

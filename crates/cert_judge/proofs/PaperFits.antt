@@ -27,7 +27,7 @@ use Rattle.cert_text.specs.declared.opening.Kind.TheVariants as kinds
 use Rattle.cert_text.specs.declared.papers.Paper.{Paper}
 use Rattle.cert_text.specs.declared.papers.Paper.TheVariants as papers
 use Rattle.cert_text.specs.Reading.{Place, next_line, mode_line, rows_from, closing}
-use Rattle.cert_text.specs.Papers.{modes_at, scale_at, opening_at, values_at, dual_at, routing_at, proof_at, header}
+use Rattle.cert_text.specs.Papers.{modes_at, scale_at, opening_at, counted_at, values_at, dual_at, routing_at, routing_from, proof_at, proof_from, header}
 use Rattle.cert_text.specs.Whole.{paper_at, paper_in}
 use Rattle.cert_writer.specs.Text.{FitsRouting, FitsProof}
 use Rattle.cert_judge.specs.Fits.{FitsForm, FitsPaper, HasLinkWord}
@@ -93,7 +93,7 @@ abbrev OpeningFits : Sheet → (Bool × ℕ) × Place → Type 0
 OpeningFits sheet x = HasLinkWord sheet × (x.0.1 ≤ MAX_GAP)
 
 opening_ok : (sheet : Sheet) (place : Place) (x : (Bool × ℕ) × Place) → opening_at sheet place ≡ Ok x → OpeningFits sheet x
-unfolding opening_at
+unfolding opening_at counted_at
 opening_ok sheet place x e =
     let made = λ (v : Bool) (gap : ℕ × Place). done {A = (Bool × ℕ) × Place} {E = CertRefusal} ((v, gap.0), gap.1) in
     let a = bind_ok (next_line verdict_line place) (λ v. modes_at sheet v.1 >>= λ modes. next_line (counts_line sheet) modes >>= λ counts. next_line gap_line counts.1 >>= λ gap. made v.0 gap) x e in
@@ -119,7 +119,7 @@ abbrev RoutingFits : Sheet → Routing → Type 0
 RoutingFits sheet r = HasLinkWord sheet × FitsRouting sheet r
 
 routing_ok : (sheet : Sheet) (place : Place) (r : Routing) → routing_at sheet place ≡ Ok r → RoutingFits sheet r
-unfolding routing_at
+unfolding routing_at routing_from
 routing_ok sheet place r e =
     let made = λ (s : Scale) (ps : List Row). done {A = Routing} {E = CertRefusal} (record { phases = s.0; scale_cap = s.1.0; scale_load = s.1.1; paths = ps }) in
     let a = bind_ok (modes_at sheet place) (λ modes. scale_at modes >>= λ scale. rows_from (codes "path") (path_row sheet) scale.1.at scale.1.rest >>= λ paths. closing paths.1 >>= λ last. made scale.0 paths.0) r e in
@@ -146,7 +146,7 @@ abbrev ProofFits : Sheet → Proof → Type 0
 ProofFits sheet p = HasLinkWord sheet × FitsProof sheet p
 
 proof_ok : (sheet : Sheet) (place : Place) (p : Proof) → proof_at sheet place ≡ Ok p → ProofFits sheet p
-unfolding proof_at
+unfolding proof_at proof_from
 proof_ok sheet place p e =
     let path = λ (q : Place). rows_from (codes "path") (path_row sheet) q.at q.rest in
     let made = λ (o : Bool × ℕ) (s : Scale) (v : Printed × Printed) (ps : List Row) (d : DualRows). done {A = Proof} {E = CertRefusal} (proof_made o s v ps d) in

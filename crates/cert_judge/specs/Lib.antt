@@ -1,2 +1,5 @@
-pub mod Judgement
+pub mod Certified
+pub mod Chain
 pub mod Fits
+pub mod Judgement
+pub mod Papers

@@ -1,25 +1,23 @@
 //! From two texts to a judgement.
 
-ghost use Rattle.std.specs.Prelude.{◌≡◌, ◌≤◌, IfOk, Ok, length};
-ghost use Rattle.text_lines.specs.Lines.{lines_of};
+ghost use Rattle.std.specs.Prelude.{◌≡◌, ◌≤◌, IfOk, length};
 ghost use Rattle.mcf_limits.specs.declared.TheConstants.{MAX_CERT_BYTES};
 ghost use Rattle.flow_paths.specs.Certificate.{IsProofOf, IsRoutingOf};
 ghost use Rattle.sndlib_grammar.specs.Rows.{AreNetRows};
-ghost use Rattle.unit_scale.specs.Scaling.{scaled_of};
-ghost use Rattle.cert_lines.specs.Sheet.{sheets_of};
-ghost use Rattle.cert_text.specs.Whole.{paper_in};
 ghost use Rattle.cert_text.specs.declared.papers.Paper.TheVariants as PaperIs;
-ghost use Rattle.cert_judge.specs.Judgement.{IsJudgement, IsSaidOf, OnPaper};
+ghost use Rattle.cert_judge.specs.Papers.{IsOfNet};
+ghost use Rattle.cert_judge.specs.Judgement.{IsJudgement, IsSaidOf, OnPaper, refused};
 
 use crate::judged::Judged;
-use crate::papers_fit;
+use crate::reading::read_paper;
+use crate::refusal::{ReadEnd, Refusal};
 use cert_check::{RouteEnd, Verdict, check, check_routing};
-use cert_text::{CertEnd, Paper, cert_head, read_cert};
+use cert_text::{Known, Paper};
 use flow_model::Net;
 use flow_paths::{Proof, Routing};
 use sndlib_read::RawNet;
 use std::alloc::{AllocError, Global};
-use unit_scale::{NetOptions, ScaleEnd, Scaled, scale};
+use unit_scale::{NetOptions, Scaled};
 
 fn on_routing(
     alloc: Global,
@@ -61,26 +59,24 @@ fn on_proof(
     }
 }
 
-// The judgement of the text with the names of the network.
-fn on_paper(
-    alloc: Global,
-    rows: &RawNet<'_>,
-    net: &Scaled,
-    options: NetOptions,
-    text: &[u8],
-) -> Result<Judged, AllocError>
-    requires rows { AreNetRows rows.now }
-    requires net { scaled_of rows.now options ≡ Ok net.now }
-    requires text { length text.now ≤ MAX_CERT_BYTES }
-    ensures { IfOk result (OnPaper options net.now.net
-        (paper_in (sheets_of rows.now net.now) (lines_of text.now))) }
+/// What is said of a certificate or a routing on its network: the first condition that fails, or that it stands.
+pub fn judge_paper(alloc: Global, net: &Scaled, paper: &Paper) -> Result<Judged, AllocError>
+    requires { IsOfNet net.now.net paper.now }
+    ensures { IfOk result (OnPaper net.now paper.now) }
 {
-    papers_fit();
-    match read_cert(alloc, rows, net, text) {
-        Ok(Paper::Routing(routing)) => on_routing(alloc, net.net(), &routing, options),
-        Ok(Paper::Full(proof)) => on_proof(alloc, net.net(), &proof, options),
-        Err(CertEnd::Refused(refusal)) => Ok(Judged::CertRefused(refusal)),
-        Err(CertEnd::Memory) => Err(AllocError),
+    match paper {
+        Paper::Routing(routing) => on_routing(alloc, net.net(), routing, net.options()),
+        Paper::Full(proof) => on_proof(alloc, net.net(), proof, net.options()),
+    }
+}
+
+/// A refusal, as it is said.
+pub fn refused(refusal: Refusal) -> Judged
+    ensures { result ≡ refused refusal }
+{
+    match refusal {
+        Refusal::Net(refusal) => Judged::NetRefused(refusal),
+        Refusal::Cert(refusal) => Judged::CertRefused(refusal),
     }
 }
 
@@ -91,17 +87,9 @@ pub fn judge(alloc: Global, rows: &RawNet<'_>, text: &[u8]) -> Result<Judged, Al
     requires text { length text.now ≤ MAX_CERT_BYTES }
     ensures { IfOk result (IsJudgement rows.now text.now) }
 {
-    let head = match cert_head(text) {
-        Ok(head) => head,
-        Err(refusal) => return Ok(Judged::CertRefused(refusal)),
-    };
-    let options = NetOptions {
-        links: head.links,
-        modules: head.modules,
-    };
-    match scale(alloc, rows, options) {
-        Ok(net) => on_paper(alloc, rows, &net, options, text),
-        Err(ScaleEnd::Refused(refusal)) => Ok(Judged::NetRefused(refusal)),
-        Err(ScaleEnd::Memory) => Err(AllocError),
+    match read_paper(alloc, rows, Known::Both, text) {
+        Ok((net, paper)) => judge_paper(alloc, &net, &paper),
+        Err(ReadEnd::Refused(refusal)) => Ok(refused(refusal)),
+        Err(ReadEnd::Memory) => Err(AllocError),
     }
 }

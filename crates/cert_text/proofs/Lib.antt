@@ -1,3 +1,4 @@
+pub mod FirstLines
 pub mod LineSteps
 pub mod OldForm
 pub mod RowSteps

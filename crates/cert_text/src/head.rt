@@ -5,7 +5,7 @@ ghost use Rattle.cert_text.specs.Views.{place_view, HasRoom};
 ghost use Rattle.cert_text.specs.Reading.{Gives, next_line, mode_line};
 ghost use Rattle.text_lines.specs.Lines.{words_of};
 ghost use Rattle.cert_lines.specs.HeadLines.{verdict_line, counts_line, gap_line, phases_line, scale_line, value_line};
-ghost use Rattle.cert_text.specs.Papers.{modes_at, scale_at, opening_at, values_at};
+ghost use Rattle.cert_text.specs.Papers.{modes_at, scale_at, counted_at, opening_at, values_at};
 
 use crate::place::{Place, refused, split};
 use cert_lines::{
@@ -222,6 +222,28 @@ pub fn next_values(place: Place<'_>) -> Result<((Printed, Printed), Place<'_>), 
     }
 }
 
+/// That verdict and the gap, behind the line of counts.
+#[tactic(auto, unfolding(crate::specs::Papers::counted_at))]
+pub fn next_counted<'a>(
+    names: &Names<'_>,
+    closed: bool,
+    place: Place<'a>,
+) -> Result<((bool, u64), Place<'a>), CertEnd>
+    requires { HasRoom place }
+    ensures exact { Gives (λ x. (x.0, place_view x.1)) result
+        (counted_at names.now closed (place_view place.entry)) }
+    ensures room { IfOk result (λ x. HasRoom x.1) }
+{
+    let (_, place) = match next_counts(names, place) {
+        Ok(read) => read,
+        Err(end) => return Err(end),
+    };
+    match next_gap(place) {
+        Ok((gap, place)) => Ok(((closed, gap), place)),
+        Err(end) => Err(end),
+    }
+}
+
 /// Whether the verdict is closed, and the gap, behind the lines of modes and counts.
 #[tactic(auto, unfolding(crate::specs::Papers::opening_at))]
 pub fn next_opening<'a>(
@@ -241,12 +263,5 @@ pub fn next_opening<'a>(
         Ok(place) => place,
         Err(end) => return Err(end),
     };
-    let (_, place) = match next_counts(names, place) {
-        Ok(read) => read,
-        Err(end) => return Err(end),
-    };
-    match next_gap(place) {
-        Ok((gap, place)) => Ok(((closed, gap), place)),
-        Err(end) => Err(end),
-    }
+    next_counted(names, closed, place)
 }

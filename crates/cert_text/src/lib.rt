@@ -9,9 +9,9 @@ mod place;
 mod rows;
 
 pub use cert_lines::{CertEnd, CertKind, CertRefusal, Form};
-pub use head::{next_figures, next_modes, next_opening, next_value, next_values};
+pub use head::{next_counted, next_figures, next_modes, next_opening, next_value, next_values};
 pub use laws::old_form_has_no_bidirected_links;
-pub use opening::{CertHead, Kind, Opening, cert_head, header, modes_head};
-pub use papers::{Paper, read_cert};
+pub use opening::{CertHead, Kind, Known, Opened, Opening, open};
+pub use papers::{Paper, read_rest};
 pub use place::{Place, closing, fixed, refused, split};
 pub use rows::{next_lengths, next_paths, next_potentials};

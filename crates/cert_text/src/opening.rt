@@ -3,10 +3,10 @@
 ghost use Rattle.std.specs.Prelude.{◌≡◌, ◌≤◌, ◌+◌, ◌^◌, ◌<◌, IfOk, length};
 ghost use Rattle.text_lines.specs.Lines.{words_of, lines_of};
 ghost use Rattle.cert_lines.specs.Forms.{seen};
-ghost use Rattle.cert_text.specs.Views.{place_view, HasRoom};
+ghost use Rattle.cert_text.specs.Views.{place_view, opened_view, HasRoom};
 ghost use Rattle.cert_text.specs.Reading.{next_line};
-ghost use Rattle.cert_text.specs.Papers.{header};
-ghost use Rattle.cert_text.specs.Whole.{mode_in, link_mode_line, module_mode_line, behind_verdict, modes_head, head_in};
+ghost use Rattle.cert_text.specs.Papers.{known_form, header_by};
+ghost use Rattle.cert_text.specs.Whole.{mode_in, link_mode_line, module_mode_line, verdict_at, modes_behind, opened_by};
 
 use crate::place::{Place, split};
 use cert_lines::{CertKind, CertRefusal, Form, is_fixed, one_behind, verdict_line};
@@ -20,6 +20,15 @@ use unit_scale::{
 pub enum Kind {
     Certificate,
     Routing,
+}
+
+/// Which first lines are known.
+#[derive(Clone, Copy, Debug, PartialEq, Eq)]
+pub enum Known {
+    /// Those of certificates and of routings.
+    Both,
+    /// Those of certificates alone.
+    Certificates,
 }
 
 /// What a first line says.
@@ -36,6 +45,17 @@ pub struct CertHead {
     pub form: Form,
     pub links: LinkMode,
     pub modules: ModuleMode,
+}
+
+/// A text whose first lines were read.
+#[derive(Clone, Copy)]
+pub struct Opened<'a> {
+    /// What they say.
+    pub head: CertHead,
+    /// Whether its verdict is `closed`; a routing has none.
+    pub closed: Option<bool>,
+    /// Where its other lines are read from.
+    pub rest: Place<'a>,
 }
 
 const OLD_CERTIFICATE: &[u8] = b"mcf-certificate 1";
@@ -83,22 +103,41 @@ fn form_of(line: &[u8]) -> Option<Opening>
 
 ghost use Rattle.cert_text.specs.Papers.{form_of};
 
-/// What the first line of the text says, and the place behind it.
-#[tactic(auto, using(crate::proofs::LineSteps::has_line), unfolding(crate::specs::Papers::header))]
-pub fn header(text: &[u8]) -> Result<(Opening, Place<'_>), CertRefusal>
+// What the line says as a first line, where that is known.
+fn known_form(known: Known, line: &[u8]) -> Option<Opening>
+    ensures { result ≡ known_form known (form_of (words_of line.now)) }
+{
+    let form = form_of(line);
+    match (known, form) {
+        (
+            Known::Certificates,
+            Some(
+                Opening {
+                    kind: Kind::Routing,
+                    ..
+                },
+            ),
+        ) => None,
+        _ => form,
+    }
+}
+
+// What the first line of the text says, and the place behind it.
+#[tactic(auto, using(crate::proofs::LineSteps::has_line), unfolding(crate::specs::Papers::header_by))]
+fn header(known: Known, text: &[u8]) -> Result<(Opening, Place<'_>), CertRefusal>
     requires { length text.now ≤ MAX_CERT_BYTES }
-    ensures exact { seen (λ x. (x.0, place_view x.1)) result ≡ header (lines_of text.now) }
+    ensures exact { seen (λ x. (x.0, place_view x.1)) result ≡ header_by known (lines_of text.now) }
     ensures room { IfOk result (λ x. HasRoom x.1) }
 {
     match split(Place { at: 1, rest: text }) {
-        Some((line, after)) => match form_of(line) {
+        Some((line, after)) => match known_form(known, line) {
             Some(opening) => Ok((opening, after)),
             None => Err(CertRefusal {
                 line: 1,
                 kind: CertKind::NoHeader,
             }),
         },
-        None => match form_of(text) {
+        None => match known_form(known, text) {
             Some(_) => Err(CertRefusal {
                 line: 1,
                 kind: CertKind::Syntax,
@@ -179,8 +218,9 @@ fn next_links(form: Form, place: Place<'_>) -> Result<(LinkMode, Place<'_>), Cer
 #[tactic(auto, using(crate::proofs::LineSteps::has_line), unfolding(crate::specs::Reading::next_line))]
 fn next_modules(place: Place<'_>) -> Result<(ModuleMode, Place<'_>), CertRefusal>
     requires { HasRoom place }
-    ensures { seen (λ x. (x.0, place_view x.1)) result
+    ensures exact { seen (λ x. (x.0, place_view x.1)) result
         ≡ next_line module_mode_line (place_view place.entry) }
+    ensures room { IfOk result (λ x. HasRoom x.1) }
 {
     let (line, after) = match split(place) {
         Some(parts) => parts,
@@ -200,15 +240,15 @@ fn next_modules(place: Place<'_>) -> Result<(ModuleMode, Place<'_>), CertRefusal
     }
 }
 
-// The place behind the verdict, where there is one.
-#[tactic(auto, using(crate::proofs::LineSteps::has_line), unfolding(crate::specs::Reading::next_line, crate::specs::Whole::behind_verdict))]
-fn behind_verdict(kind: Kind, place: Place<'_>) -> Result<Place<'_>, CertRefusal>
+// The verdict, where there is one, and the place behind it.
+#[tactic(auto, using(crate::proofs::LineSteps::has_line), unfolding(crate::specs::Reading::next_line, crate::specs::Whole::verdict_at))]
+fn verdict_at(kind: Kind, place: Place<'_>) -> Result<(Option<bool>, Place<'_>), CertRefusal>
     requires { HasRoom place }
-    ensures exact { seen place_view result ≡ behind_verdict kind (place_view place.entry) }
-    ensures room { IfOk result HasRoom }
+    ensures exact { seen (λ x. (x.0, place_view x.1)) result ≡ verdict_at kind (place_view place.entry) }
+    ensures room { IfOk result (λ x. HasRoom x.1) }
 {
     match kind {
-        Kind::Routing => return Ok(place),
+        Kind::Routing => return Ok((None, place)),
         Kind::Certificate => {}
     }
     let (line, after) = match split(place) {
@@ -221,7 +261,7 @@ fn behind_verdict(kind: Kind, place: Place<'_>) -> Result<Place<'_>, CertRefusal
         }
     };
     match verdict_line(line) {
-        Ok(_) => Ok(after),
+        Ok(closed) => Ok((Some(closed), after)),
         Err(kind) => Err(CertRefusal {
             line: place.at,
             kind,
@@ -229,44 +269,50 @@ fn behind_verdict(kind: Kind, place: Place<'_>) -> Result<Place<'_>, CertRefusal
     }
 }
 
-/// How links and modules are read, from the lines behind a first line that says this: the verdict,
-/// where there is one, and the two lines of the modes. Else the first of these lines with a fault.
-#[tactic(auto, unfolding(crate::specs::Whole::modes_head))]
-pub fn modes_head(opening: Opening, place: Place<'_>) -> Result<NetOptions, CertRefusal>
+// How links and modules are read, and the place behind both lines.
+#[tactic(auto, unfolding(crate::specs::Whole::modes_behind))]
+fn modes_behind(form: Form, place: Place<'_>) -> Result<(NetOptions, Place<'_>), CertRefusal>
     requires { HasRoom place }
-    ensures { result ≡ modes_head opening (place_view place.entry) }
+    ensures exact { seen (λ x. (x.0, place_view x.1)) result ≡ modes_behind form (place_view place.entry) }
+    ensures room { IfOk result (λ x. HasRoom x.1) }
 {
-    let place = match behind_verdict(opening.kind, place) {
-        Ok(place) => place,
-        Err(refusal) => return Err(refusal),
-    };
-    let (links, place) = match next_links(opening.form, place) {
+    let (links, place) = match next_links(form, place) {
         Ok(read) => read,
         Err(refusal) => return Err(refusal),
     };
     match next_modules(place) {
-        Ok((modules, _)) => Ok(NetOptions { links, modules }),
+        Ok((modules, place)) => Ok((NetOptions { links, modules }, place)),
         Err(refusal) => Err(refusal),
     }
 }
 
-/// The kind of a text, its form and its modes, from lines 1 to 4 of a certificate or 1 to 3 of a
-/// routing: else the first of these lines that has a fault.
-#[tactic(auto, unfolding(crate::specs::Whole::head_in))]
-pub fn cert_head(text: &[u8]) -> Result<CertHead, CertRefusal>
+/// Opens a text: its kind, its form and its modes, from lines 1 to 4 of a certificate or 1 to 3 of a
+/// routing, the verdict, and where the other lines are read from. Else the first of these lines that
+/// has a fault; a header that is not among the known ones is none.
+#[tactic(auto, unfolding(crate::specs::Whole::opened_by))]
+pub fn open(known: Known, text: &[u8]) -> Result<Opened<'_>, CertRefusal>
     requires { length text.now ≤ MAX_CERT_BYTES }
-    ensures { result ≡ head_in (lines_of text.now) }
+    ensures exact { seen opened_view result ≡ opened_by known (lines_of text.now) }
+    ensures room { IfOk result (λ o. HasRoom o.rest) }
 {
-    let (opening, place) = match header(text) {
+    let (opening, place) = match header(known, text) {
         Ok(first) => first,
         Err(refusal) => return Err(refusal),
     };
-    match modes_head(opening, place) {
-        Ok(modes) => Ok(CertHead {
-            kind: opening.kind,
-            form: opening.form,
-            links: modes.links,
-            modules: modes.modules,
+    let (closed, place) = match verdict_at(opening.kind, place) {
+        Ok(read) => read,
+        Err(refusal) => return Err(refusal),
+    };
+    match modes_behind(opening.form, place) {
+        Ok((modes, rest)) => Ok(Opened {
+            head: CertHead {
+                kind: opening.kind,
+                form: opening.form,
+                links: modes.links,
+                modules: modes.modules,
+            },
+            closed,
+            rest,
         }),
         Err(refusal) => Err(refusal),
     }

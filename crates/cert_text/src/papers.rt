@@ -1,20 +1,21 @@
 //! Whole texts.
 
-ghost use Rattle.std.specs.Prelude.{◌≤◌, IfOk, length};
-ghost use Rattle.text_lines.specs.Lines.{lines_of};
-ghost use Rattle.cert_text.specs.Views.{place_view, HasRoom};
+ghost use Rattle.std.specs.Prelude.{◌≡◌, IfOk, List, Ok};
+ghost use Rattle.text_lines.specs.Lines.{Line};
+ghost use Rattle.cert_text.specs.Views.{opened_view, place_view, HasRoom};
 ghost use Rattle.cert_text.specs.Reading.{Gives};
-ghost use Rattle.cert_text.specs.Papers.{dual_at, routing_at, proof_at};
+ghost use Rattle.cert_text.specs.Papers.{dual_at, routing_from, proof_from};
 ghost use Rattle.cert_lines.specs.Sheet.{IsOf, sheets_of};
-ghost use Rattle.cert_text.specs.Whole.{paper_at, paper_in};
+ghost use Rattle.cert_text.specs.declared.opening.Known.{Known};
+ghost use Rattle.cert_text.specs.Whole.{opened_by, paper_in, rest_at, SaysModes};
 
-use crate::head::{next_figures, next_modes, next_opening, next_values};
-use crate::opening::{Kind, header};
+use crate::head::{next_counted, next_figures, next_values};
+use crate::opening::Opened;
 use crate::place::{Place, closing};
 use crate::rows::{next_lengths, next_paths, next_potentials};
 use cert_lines::{CertEnd, Names};
 use flow_paths::{Dual, PathStore, Proof, Routing};
-use mcf_limits::{MAX_CERT_BYTES, MAX_PATH_CELLS};
+use mcf_limits::MAX_PATH_CELLS;
 use sndlib_read::RawNet;
 use std::alloc::Global;
 use unit_scale::Scaled;
@@ -45,7 +46,7 @@ fn paths_of<'a>(
     }
 }
 
-ghost use Rattle.std.specs.Prelude.{codes};
+ghost use Rattle.std.specs.Prelude.{codes, Some};
 ghost use Rattle.cert_lines.specs.Rows.{path_row};
 ghost use Rattle.cert_text.specs.Reading.{rows_at};
 
@@ -76,16 +77,12 @@ fn dual_of<'a>(
     }
 }
 
-// What follows the header of a routing.
-#[tactic(auto, unfolding(crate::specs::Papers::routing_at))]
-fn routing_of(alloc: Global, names: &Names<'_>, place: Place<'_>) -> Result<Routing, CertEnd>
+// What follows the modes of a routing.
+#[tactic(auto, unfolding(crate::specs::Papers::routing_from))]
+fn routing_from(alloc: Global, names: &Names<'_>, place: Place<'_>) -> Result<Routing, CertEnd>
     requires { HasRoom place }
-    ensures { Gives (λ x. x) result (routing_at names.now (place_view place.entry)) }
+    ensures { Gives (λ x. x) result (routing_from names.now (place_view place.entry)) }
 {
-    let place = match next_modes(names, place) {
-        Ok(place) => place,
-        Err(end) => return Err(end),
-    };
     let ((phases, scale), place) = match next_figures(place) {
         Ok(read) => read,
         Err(end) => return Err(end),
@@ -105,16 +102,18 @@ fn routing_of(alloc: Global, names: &Names<'_>, place: Place<'_>) -> Result<Rout
     }
 }
 
-// What follows the header of a certificate.
-#[tactic(auto, unfolding(crate::specs::Papers::proof_at))]
-fn proof_of(alloc: Global, names: &Names<'_>, place: Place<'_>) -> Result<Proof, CertEnd>
+// What follows the gap of a certificate of that verdict and that gap.
+#[tactic(auto, unfolding(crate::specs::Papers::proof_from))]
+fn proof_from(
+    alloc: Global,
+    names: &Names<'_>,
+    opening: (bool, u64),
+    place: Place<'_>,
+) -> Result<Proof, CertEnd>
     requires { HasRoom place }
-    ensures { Gives (λ x. x) result (proof_at names.now (place_view place.entry)) }
+    ensures { Gives (λ x. x) result (proof_from names.now (opening, place_view place.entry)) }
 {
-    let ((closed, gap), place) = match next_opening(names, place) {
-        Ok(read) => read,
-        Err(end) => return Err(end),
-    };
+    let (closed, gap) = opening;
     let ((phases, scale), place) = match next_figures(place) {
         Ok(read) => read,
         Err(end) => return Err(end),
@@ -149,46 +148,61 @@ fn proof_of(alloc: Global, names: &Names<'_>, place: Place<'_>) -> Result<Proof,
     }
 }
 
-// What follows a header of that kind.
-#[tactic(auto, unfolding(crate::specs::Whole::paper_at))]
-fn paper_of(
+// What follows the modes of a certificate of that verdict.
+#[tactic(auto, unfolding(crate::specs::Whole::rest_at))]
+fn proof_of(
     alloc: Global,
     names: &Names<'_>,
-    kind: Kind,
+    closed: bool,
     place: Place<'_>,
 ) -> Result<Paper, CertEnd>
     requires { HasRoom place }
-    ensures { Gives (λ x. x) result (paper_at names.now kind (place_view place.entry)) }
+    ensures { Gives (λ x. x) result (rest_at names.now (Some closed) (place_view place.entry)) }
 {
-    match kind {
-        Kind::Certificate => match proof_of(alloc, names, place) {
-            Ok(proof) => Ok(Paper::Full(proof)),
-            Err(end) => Err(end),
-        },
-        Kind::Routing => match routing_of(alloc, names, place) {
+    let (opening, place) = match next_counted(names, closed, place) {
+        Ok(read) => read,
+        Err(end) => return Err(end),
+    };
+    match proof_from(alloc, names, opening, place) {
+        Ok(proof) => Ok(Paper::Full(proof)),
+        Err(end) => Err(end),
+    }
+}
+
+// What follows the modes, behind that verdict or behind none.
+#[tactic(auto, unfolding(crate::specs::Whole::rest_at))]
+fn paper_of(
+    alloc: Global,
+    names: &Names<'_>,
+    closed: Option<bool>,
+    place: Place<'_>,
+) -> Result<Paper, CertEnd>
+    requires { HasRoom place }
+    ensures { Gives (λ x. x) result (rest_at names.now closed (place_view place.entry)) }
+{
+    match closed {
+        Some(closed) => proof_of(alloc, names, closed, place),
+        None => match routing_from(alloc, names, place) {
             Ok(routing) => Ok(Paper::Routing(routing)),
             Err(end) => Err(end),
         },
     }
 }
 
-/// The certificate or the routing that the text spells of these rows and their network in units, in
-/// the form that its first line says, or the first line with a fault.
-#[tactic(auto, unfolding(crate::specs::Whole::paper_in))]
-pub fn read_cert<'a>(
+/// The certificate or the routing that an opened text spells of these rows and their network in units
+/// under the modes that it says, in its form; or the first line with a fault.
+pub fn read_rest<'a>(
     alloc: Global,
     rows: &'a RawNet<'a>,
     net: &'a Scaled,
-    text: &[u8],
+    opened: Opened<'_>,
 ) -> Result<Paper, CertEnd>
     requires net { IsOf rows.now net.now }
-    requires size { length text.now ≤ MAX_CERT_BYTES }
-    ensures { Gives (λ x. x) result (paper_in (sheets_of rows.now net.now) (lines_of text.now)) }
+    requires room { HasRoom opened.rest }
+    ensures { (known : Known) (lines : List Line) → opened_by known lines ≡ Ok (opened_view opened.entry)
+        → SaysModes net.now.options opened.entry.head
+        → Gives (λ x. x) result (paper_in (sheets_of rows.now net.now) lines) }
 {
-    let (opening, place) = match header(text) {
-        Ok(first) => first,
-        Err(refusal) => return Err(CertEnd::Refused(refusal)),
-    };
-    let names = Names::new(rows, net, opening.form);
-    paper_of(alloc, &names, opening.kind, place)
+    let names = Names::new(rows, net, opened.head.form);
+    paper_of(alloc, &names, opened.closed, opened.rest)
 }

@@ -1,5 +1,2 @@
-pub mod AsJudged
-pub mod Headers
-pub mod Papers
 pub mod Sizes
 pub mod SoundLines

@@ -16,7 +16,7 @@ use Rattle.whatif.specs.Planned.{Planned, IsPlanned, after_step, shown_of}
 use Rattle.whatif.specs.Shown.{show_line, shown_lines}
 use Rattle.whatif.proofs.Keeping.{planned_link}
 use Rattle.whatif.proofs.Sound.{are_bounds}
-use Rattle.net_whatif.specs.Certified.{IsCertificate}
+use Rattle.cert_judge.specs.Certified.{IsCertificate}
 use Rattle.net_whatif.specs.Scripted.{start_of}
 use Rattle.net_whatif.specs.Sound.{AreSoundLines, IsSoundLine}
 

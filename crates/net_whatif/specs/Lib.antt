@@ -1,4 +1,2 @@
-pub mod Certified
-pub mod Judged
 pub mod Scripted
 pub mod Sound

@@ -1,18 +1,14 @@
-//! Laws, each proved for all networks, texts, certificates and scripts.
+//! Laws, each proved for all networks, certificates and scripts.
 
-ghost use Rattle.std.specs.Prelude.{◌≡◌, ℕ, List, false, length};
-ghost use Rattle.text_lines.specs.Lines.{lines_of};
+ghost use Rattle.std.specs.Prelude.{ℕ, List, length};
 ghost use Rattle.unit_scale.specs.declared.modes.LinkMode.{LinkMode};
 ghost use Rattle.flow_paths.specs.declared.certificate.Proof.{Proof};
 ghost use Rattle.script.specs.declared.step.Step.{Step};
 ghost use Rattle.script.specs.Steps.{AreSteps};
 ghost use Rattle.sndlib_grammar.specs.Rows.{NetRows};
 ghost use Rattle.unit_scale.specs.Scaling.{ScaledNet};
-ghost use Rattle.cert_judge.specs.Judgement.{IsJudgement};
+ghost use Rattle.cert_judge.specs.Certified.{IsCertificate};
 ghost use Rattle.whatif.specs.Planned.{Planned, IsPlanned};
-ghost use Rattle.net_whatif.specs.declared.certifying.Certified.{Certified};
-ghost use Rattle.net_whatif.specs.Certified.{IsCertificate, IsCertifiedText, is_routing};
-ghost use Rattle.net_whatif.specs.Judged.{judged_of};
 ghost use Rattle.net_whatif.specs.Scripted.{start_of};
 ghost use Rattle.net_whatif.specs.Sound.{AreSoundLines};
 
@@ -28,11 +24,4 @@ pub fn certificate_lines_are_bounds()
     ensures { (rows : NetRows) (net : ScaledNet) (proof : Proof) (steps : List Step)
         → IsCertificate rows net proof → AreSteps (length rows.links) steps
         → AreSoundLines net.options.links (start_of net proof) steps }
-{}
-
-/// Where line 1 of a text is no header of a routing, what comes of it is what `check` says of it.
-pub fn certified_as_judged()
-    ensures { (rows : NetRows) (text : List ℕ) (certified : Certified)
-        → is_routing (lines_of text) ≡ false → IsCertifiedText rows text certified
-        → IsJudgement rows text (judged_of certified) }
 {}

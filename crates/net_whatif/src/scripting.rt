@@ -5,7 +5,7 @@ ghost use Rattle.mcf_base.specs.Sink.{Wrote};
 ghost use Rattle.mcf_limits.specs.declared.TheConstants.{MAX_SCRIPT_BYTES};
 ghost use Rattle.script.specs.Steps.{AreStepsOfCells};
 ghost use Rattle.whatif.specs.Shown.{shown_text};
-ghost use Rattle.net_whatif.specs.Certified.{IsCertificate};
+ghost use Rattle.cert_judge.specs.Certified.{IsCertificate};
 ghost use Rattle.net_whatif.specs.Scripted.{CanRun, IsScriptedText};
 
 use flow_paths::Proof;

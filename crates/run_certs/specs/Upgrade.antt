@@ -7,9 +7,9 @@ use Rattle.sndlib_grammar.specs.Rows.{NetRows}
 use Rattle.unit_scale.specs.Scaling.{ScaledNet}
 use Rattle.cert_lines.specs.Sheet.{sheet_of}
 use Rattle.cert_writer.specs.Text.{certificate_text}
-use Rattle.net_whatif.specs.declared.certifying.Certified.{Certified}
-use Rattle.net_whatif.specs.declared.certifying.Certified.TheVariants.{Valid, Said}
-use Rattle.net_whatif.specs.Certified.{IsCertifiedText}
+use Rattle.cert_judge.specs.declared.certifying.Certified.{Certified}
+use Rattle.cert_judge.specs.declared.certifying.Certified.TheVariants.{Valid, Said}
+use Rattle.cert_judge.specs.Certified.{IsCertifiedText}
 use Rattle.run_base.specs.declared.outcome.Paper.TheVariants.{Certificate}
 use Rattle.run_base.specs.declared.outcome.Outcome.TheVariants.{Judged}
 use Rattle.run_base.specs.Answer.{Answer, answer_of, text_answer}

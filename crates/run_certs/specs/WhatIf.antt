@@ -6,11 +6,11 @@ use Rattle.flow_paths.specs.declared.certificate.Proof.{Proof}
 use Rattle.sndlib_grammar.specs.Rows.{NetRows}
 use Rattle.unit_scale.specs.Scaling.{ScaledNet}
 use Rattle.whatif.specs.Shown.{shown_text}
-use Rattle.net_whatif.specs.declared.certifying.Certified.{Certified}
-use Rattle.net_whatif.specs.declared.certifying.Certified.TheVariants.{Valid, Said}
+use Rattle.cert_judge.specs.declared.certifying.Certified.{Certified}
+use Rattle.cert_judge.specs.declared.certifying.Certified.TheVariants.{Valid, Said}
 use Rattle.net_whatif.specs.declared.scripting.Scripted.{Scripted}
 use Rattle.net_whatif.specs.declared.scripting.Scripted.TheVariants.{Refused, Ready}
-use Rattle.net_whatif.specs.Certified.{IsCertifiedText}
+use Rattle.cert_judge.specs.Certified.{IsCertifiedText}
 use Rattle.net_whatif.specs.Scripted.{IsScriptedText}
 use Rattle.run_base.specs.declared.outcome.Paper.TheVariants.{Certificate, Script}
 use Rattle.run_base.specs.declared.outcome.Outcome.TheVariants.{ScriptRefused, Judged}

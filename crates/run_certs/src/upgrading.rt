@@ -6,12 +6,12 @@ ghost use Rattle.cert_writer.specs.Text.{FitsProof};
 ghost use Rattle.run_base.specs.Answer.{IsTold, Writes};
 ghost use Rattle.run_certs.specs.Upgrade.{OfUpgrade, OfUpgraded, upgraded};
 
+use cert_judge::{Certified, read_certificate};
 use cert_lines::{Form, Names};
 use cert_writer::write_cert;
 use flow_paths::Proof;
 use mcf_base::{Shelf, Sink};
 use mcf_limits::{MAX_CERT_BYTES, MAX_NET_BYTES};
-use net_whatif::{Certified, read_certificate};
 use run_base::{Ended, Outcome, Paper, file_text, net_rows, tell};
 use sndlib_read::RawNet;
 use std::alloc::Global;

@@ -1,11 +1,10 @@
 -- What each command answers to accepted files: an answer with status 0 or 1.
-use Rattle.std.proofs.Common.{◌≡◌, ℕ, ◌≤◌, Bool, true, false, List, Some, Result, Ok, Err, inl, inr, ap, subst, sym, ◌∙◌, arith}
+use Rattle.std.proofs.Common.{◌≡◌, ℕ, ◌≤◌, Bool, true, false, List, Some, Result, Ok, Err, inl, inr, ap, subst, sym, ◌∙◌, arith, refl}
 use Rattle.std.specs.Prelude.{◌⊎◌, if◌then◌else◌}
 use Rattle.std.specs.List.{list_all}
 use Rattle.mcf_limits.specs.declared.TheConstants.{MAX_CERT_BYTES, MAX_SCRIPT_BYTES}
 use Rattle.mcf_base.specs.Faults.{Rose}
 use Rattle.mcf_base.specs.Shelf.{Holding, ShelfView, with_file}
-use Rattle.text_lines.specs.Lines.{lines_of}
 use Rattle.unit_scale.specs.declared.options.NetOptions.{NetOptions}
 use Rattle.flow_model.specs.Network.{Network}
 use Rattle.flow_paths.specs.declared.certificate.Proof.{Proof}
@@ -13,26 +12,26 @@ use Rattle.flow_paths.specs.Certificate.{IsValid}
 use Rattle.sndlib_grammar.specs.Rows.{NetRows}
 use Rattle.sndlib_grammar.specs.declared.refusal.NetRefusal.{NetRefusal}
 use Rattle.unit_scale.specs.Scaling.{ScaledNet, scaled_of}
-use Rattle.cert_lines.specs.Sheet.{sheets_of}
-use Rattle.cert_lines.specs.declared.refusal.CertRefusal.{CertRefusal}
-use Rattle.cert_text.specs.declared.opening.CertHead.{CertHead}
 use Rattle.cert_text.specs.declared.papers.Paper.{Paper}
 use Rattle.cert_text.specs.declared.papers.Paper.TheVariants as papers
-use Rattle.cert_text.specs.Whole.{head_in, paper_in}
 use Rattle.cert_judge.specs.declared.judged.Judged.{Judged}
 use Rattle.cert_judge.specs.declared.judged.Judged.TheVariants as judges
-use Rattle.cert_judge.specs.Judgement.{options_of, IsSaidOf, IsJudgement, OnPaper as SaidOnPaper, OnNet as SaidOnNet, OnHead as SaidOnHead}
+use Rattle.cert_text.specs.declared.opening.Known.TheVariants.{Both}
+use Rattle.cert_judge.specs.Papers.{IsReadOf}
+use Rattle.cert_judge.specs.Judgement.{IsSaidOf}
+use Rattle.cert_judge.proofs.Judgements.{certified_of, judged_of}
+use Rattle.cert_judge.proofs.Kinds.{certificate_either}
 use Rattle.net_solve.specs.declared.solving.Solving.{Solving}
 use Rattle.net_solve.specs.declared.solving.Solving.TheVariants as solvings
 use Rattle.net_solve.specs.Solving.{IsSolving}
 use Rattle.net_solve.specs.Asked.{IsTooMuch}
 use Rattle.script.specs.Reading.{script_of}
 use Rattle.script.specs.declared.step.Step.{Step}
-use Rattle.net_whatif.specs.declared.certifying.Certified.{Certified}
-use Rattle.net_whatif.specs.declared.certifying.Certified.TheVariants as certs
+use Rattle.cert_judge.specs.declared.certifying.Certified.{Certified}
+use Rattle.cert_judge.specs.declared.certifying.Certified.TheVariants as certs
 use Rattle.net_whatif.specs.declared.scripting.Scripted.{Scripted}
 use Rattle.net_whatif.specs.declared.scripting.Scripted.TheVariants as scripts
-use Rattle.net_whatif.specs.Certified.{OnCertificate as CertOnCertificate, OnPaper, OnNet, OnHead, OnHeader, IsCertifiedText}
+use Rattle.cert_judge.specs.Certified.{OnCertificate as CertOnCertificate, IsCertifiedText}
 use Rattle.net_whatif.specs.Scripted.{IsScriptedText}
 use Rattle.mcf_words.specs.declared.request.Request.{Request}
 use Rattle.mcf_words.specs.declared.request.Command.{Command}
@@ -54,7 +53,6 @@ use Rattle.run_solves.specs.Drawn.{links_drawn, net_drawn, gen_answer, trial_lin
 use Rattle.mcf_cli.specs.Run.{file_at, OfCommand}
 use Rattle.run_laws.specs.Accepted.{IsSolvable, IsSweepSolvable, IsPaperFile, IsScriptFile, AcceptsPrint, AcceptsSolve, AcceptsSweepSolve, AcceptsCheck, AcceptsUpgrade, AcceptsWhatIf, AcceptsTrial, Accepts}
 use Rattle.run_laws.proofs.Given.{Memories, of_text, of_rows}
-use Rattle.run_laws.proofs.Forms.{no_header_of_routing}
 
 -- reading answers one thing
 clash : {T E : Type 0} (r : Result T E) (x : T) (e : E) → r ≡ Ok x → r ≡ Err e → ⊥
@@ -122,19 +120,14 @@ said_low o net (papers.Full p) (judges.NetRefused x) is = absurd is
 said_low o net (papers.Routing r) (judges.CertRefused x) is = absurd is
 said_low o net (papers.Full p) (judges.CertRefused x) is = absurd is
 
--- what is said of a text that is read
-said_of : (rows : NetRows) (text : List ℕ) (head : CertHead) (net : ScaledNet) (paper : Paper) (judged : Judged)
-    → head_in (lines_of text) ≡ Ok head → scaled_of rows (options_of head) ≡ Ok net → paper_in (sheets_of rows net) (lines_of text) ≡ Ok paper
-    → IsJudgement rows text judged → IsSaidOf (options_of head) net.net paper judged
-said_of rows text head net paper judged head_read scaled rest_read is =
-    let on_head = subst (λ (r : Result CertHead CertRefusal). SaidOnHead rows (lines_of text) r judged) head_read is in
-    let on_net = subst (λ (r : Result ScaledNet NetRefusal). SaidOnNet rows (lines_of text) (options_of head) r judged) scaled on_head in
-    subst (λ (r : Result Paper CertRefusal). SaidOnPaper (options_of head) net.net r judged) rest_read on_net
+-- a file that is accepted is read, stage by stage
+file_read : (files : Holding) (name : List ℕ) (rows : NetRows) (net : ScaledNet) (paper : Paper) → (file : IsPaperFile files name rows net paper) → IsReadOf Both rows file.text net paper
+file_read files name rows net paper file = record { head_of = file.head; head_read = file.head_read; scaled = file.scaled; fits = refl; rest_read = file.rest_read }
 
 texts_low : (files : Holding) (name : List ℕ) (rows : NetRows) (net : ScaledNet) (paper : Paper) (answer : Answer) → (file : IsPaperFile files name rows net paper) → OnTexts rows file.text answer → answer.status ≤ 1
 texts_low files name rows net paper answer file (judged, is, e) =
     status_is answer (answer_of (outcomes.Judged judged)) e
-    (said_low (options_of file.head) net.net paper judged (said_of rows file.text file.head net paper judged file.head_read file.scaled file.rest_read is))
+    (said_low net.options net.net paper judged (judged_of rows file.text net paper judged (file_read files name rows net paper file) is))
 
 check_low : (files : Holding) (request : Request) (old new : ShelfView) (answer : Answer) → old.holds ≡ Some files → ¬ (Rose old.faults.count new.faults.count)
     → AcceptsCheck files request → OfCheck (file_at request 0) (file_at request 1) old new answer → Low answer
@@ -168,15 +161,11 @@ certified_low files name rows net proof (certs.Said (judges.CertRefused x)) old 
 certified_low files name rows net proof (certs.Said (judges.Feasible o v)) old new answer tells calm script is on = absurd is
 certified_low files name rows net proof (certs.Said (judges.Valid o c l u)) old new answer tells calm script is on = absurd is
 
--- what comes of a certificate's text that is read
-certificate_of : (rows : NetRows) (text : List ℕ) (head : CertHead) (net : ScaledNet) (proof : Proof) (certified : Certified)
-    → head_in (lines_of text) ≡ Ok head → scaled_of rows (options_of head) ≡ Ok net → paper_in (sheets_of rows net) (lines_of text) ≡ Ok (papers.Full proof)
-    → IsCertifiedText rows text certified → CertOnCertificate rows net proof certified
-certificate_of rows text head net proof certified head_read scaled rest_read is =
-    let on_header = subst (λ (b : Bool). OnHeader rows (lines_of text) b certified) (no_header_of_routing (sheets_of rows net) (lines_of text) proof rest_read) is in
-    let on_head = subst (λ (r : Result CertHead CertRefusal). OnHead rows (lines_of text) r certified) head_read on_header in
-    let on_net = subst (λ (r : Result ScaledNet NetRefusal). OnNet rows (lines_of text) r certified) scaled on_head in
-    subst (λ (r : Result Paper CertRefusal). OnPaper rows net r certified) rest_read on_net
+-- what comes of a certificate's file that is accepted
+certificate_of : (files : Holding) (name : List ℕ) (rows : NetRows) (net : ScaledNet) (proof : Proof) (certified : Certified) → (file : IsPaperFile files name rows net (papers.Full proof))
+    → IsCertifiedText rows file.text certified → CertOnCertificate rows net proof certified
+certificate_of files name rows net proof certified file is =
+    certified_of rows file.text net proof certified (certificate_either rows file.text net proof (file_read files name rows net (papers.Full proof) file)) is
 
 whatif_low : (files : Holding) (request : Request) (old new : ShelfView) (answer : Answer) → old.holds ≡ Some files → ¬ (Rose old.faults.count new.faults.count)
     → AcceptsWhatIf files request → OfWhatIf (file_at request 0) (file_at request 1) (file_at request 2) old new answer → Low answer
@@ -192,7 +181,7 @@ whatif_low files request old new answer tells calm (rows, given, net, proof, fil
     by first cert third (inl (memory, same)) = inl memory
     by first cert third (inr on) =
         certified_low files (file_at request 2) rows net proof on.0 (with_file (with_file old (file_at request 0)) (file_at request 1)) new answer tells calm script
-        (certificate_of rows file.text file.head net proof on.0 file.head_read file.scaled file.rest_read on.1) on.2
+        (certificate_of files (file_at request 1) rows net proof on.0 file on.1) on.2
 
 -- ---- upgrade
 
@@ -207,7 +196,7 @@ upgraded_low rows net proof (certs.Said (judges.Valid o c l u)) is = absurd is
 upgrade_text_low : (files : Holding) (name : List ℕ) (rows : NetRows) (net : ScaledNet) (proof : Proof) (answer : Answer) → (file : IsPaperFile files name rows net (papers.Full proof)) → OnUpgrade rows file.text answer → answer.status ≤ 1
 upgrade_text_low files name rows net proof answer file (certified, is, e) =
     status_is answer (upgrade_answer rows certified) e
-    (upgraded_low rows net proof certified (certificate_of rows file.text file.head net proof certified file.head_read file.scaled file.rest_read is))
+    (upgraded_low rows net proof certified (certificate_of files name rows net proof certified file is))
 
 upgrade_low : (files : Holding) (request : Request) (old new : ShelfView) (answer : Answer) → old.holds ≡ Some files → ¬ (Rose old.faults.count new.faults.count)
     → AcceptsUpgrade files request → OfUpgrade (file_at request 0) (file_at request 1) old new answer → Low answer
@@ -231,7 +220,7 @@ swept_low rows net proof (certs.Said (judges.Valid o c l u)) is = absurd is
 sweep_text_low : (files : Holding) (name : List ℕ) (rows : NetRows) (net : ScaledNet) (proof : Proof) (answer : Answer) → (file : IsPaperFile files name rows net (papers.Full proof)) → OnSweep rows file.text answer → answer.status ≤ 1
 sweep_text_low files name rows net proof answer file (certified, is, e) =
     status_is answer (sweep_answer rows certified) e
-    (swept_low rows net proof certified (certificate_of rows file.text file.head net proof certified file.head_read file.scaled file.rest_read is))
+    (swept_low rows net proof certified (certificate_of files name rows net proof certified file is))
 
 sweep_low : (files : Holding) (request : Request) (old new : ShelfView) (answer : Answer) → old.holds ≡ Some files → ¬ (Rose old.faults.count new.faults.count)
     → AcceptsUpgrade files request → OfSweep (file_at request 0) (file_at request 1) old new answer → Low answer

@@ -22,17 +22,21 @@ use Rattle.cert_text.specs.declared.papers.Paper.TheVariants as papers
 use Rattle.cert_text.specs.Whole.{head_in, paper_in}
 use Rattle.cert_judge.specs.declared.judged.Judged.{Judged}
 use Rattle.cert_judge.specs.declared.judged.Judged.TheVariants as judges
-use Rattle.cert_judge.specs.Judgement.{options_of, OnPaper as SaidOnPaper, OnNet as SaidOnNet, OnHead as SaidOnHead}
+use Rattle.cert_judge.specs.declared.refusal.Refusal.{Refusal}
+use Rattle.cert_judge.specs.declared.refusal.Refusal.TheVariants.{Net, Cert}
+use Rattle.cert_judge.specs.Papers.{options_of}
+use Rattle.cert_judge.specs.Judgement.{refused}
+use Rattle.cert_judge.proofs.Judgements.{certified_by, judged_by}
 use Rattle.net_solve.specs.declared.solving.Solving.{Solving}
 use Rattle.net_solve.specs.declared.solving.Solving.TheVariants as solvings
 use Rattle.net_solve.specs.Solving.{IsSolving}
-use Rattle.net_whatif.specs.declared.certifying.Certified.{Certified}
-use Rattle.net_whatif.specs.declared.certifying.Certified.TheVariants as certs
+use Rattle.cert_judge.specs.declared.certifying.Certified.{Certified}
+use Rattle.cert_judge.specs.declared.certifying.Certified.TheVariants as certs
 use Rattle.net_whatif.specs.declared.scripting.Scripted.{Scripted}
 use Rattle.net_whatif.specs.declared.scripting.Scripted.TheVariants as scripts
 use Rattle.script.specs.declared.step.Step.{Step}
 use Rattle.script.specs.Reading.{script_of}
-use Rattle.net_whatif.specs.Certified.{no_header, is_routing, OnCertificate as CertOnCertificate, OnPaper, OnNet, OnHead, OnHeader}
+use Rattle.cert_judge.specs.Certified.{told, OnCertificate as CertOnCertificate, IsCertifiedText}
 use Rattle.net_whatif.specs.Scripted.{IsScriptedText}
 use Rattle.mcf_words.specs.declared.request.Request.{Request}
 use Rattle.mcf_words.specs.Request.{request_of}
@@ -106,35 +110,10 @@ trial_accepts request answer full (rows, read, inr (s, done, same)) = done.work
 
 -- ---- check
 
--- a certificate or a routing that was read, in its parts
-record IsRead (rows : NetRows) (lines : List Line) : Type 0 where
-  pub net : ScaledNet
-  pub paper : Paper
-  pub head : CertHead
-  pub head_read : head_in lines ≡ Ok head
-  pub scaled : scaled_of rows (options_of head) ≡ Ok net
-  pub rest_read : paper_in (sheets_of rows net) lines ≡ Ok paper
-
-judged_full : (judged : Judged) → (answer_of (outcomes.Judged judged)).status ≤ 1 → (r : NetRefusal) → judged ≡ judges.NetRefused r → ⊥
-judged_full judged low r e = not_full (answer_of (outcomes.Judged judged)) (outcomes.Judged (judges.NetRefused r)) (ap (λ (j : Judged). answer_of (outcomes.Judged j)) e) low (omega arith)
-
-cert_full : (judged : Judged) → (answer_of (outcomes.Judged judged)).status ≤ 1 → (r : CertRefusal) → judged ≡ judges.CertRefused r → ⊥
-cert_full judged low r e = not_full (answer_of (outcomes.Judged judged)) (outcomes.Judged (judges.CertRefused r)) (ap (λ (j : Judged). answer_of (outcomes.Judged j)) e) low (omega arith)
-
-read_paper : (rows : NetRows) (lines : List Line) (head : CertHead) (net : ScaledNet) (judged : Judged) → head_in lines ≡ Ok head → scaled_of rows (options_of head) ≡ Ok net
-    → (r : Result Paper CertRefusal) → paper_in (sheets_of rows net) lines ≡ r → SaidOnPaper (options_of head) net.net r judged → (answer_of (outcomes.Judged judged)).status ≤ 1 → IsRead rows lines
-read_paper rows lines head net judged h s (Ok paper) e is low = record { net = net; paper = paper; head = head; head_read = h; scaled = s; rest_read = e }
-read_paper rows lines head net judged h s (Err x) e is low = absurd (cert_full judged low x is)
-
-read_net : (rows : NetRows) (lines : List Line) (head : CertHead) (judged : Judged) → head_in lines ≡ Ok head
-    → (r : Result ScaledNet NetRefusal) → scaled_of rows (options_of head) ≡ r → SaidOnNet rows lines (options_of head) r judged → (answer_of (outcomes.Judged judged)).status ≤ 1 → IsRead rows lines
-read_net rows lines head judged h (Ok net) e is low = read_paper rows lines head net judged h e (paper_in (sheets_of rows net) lines) refl is low
-read_net rows lines head judged h (Err x) e is low = absurd (judged_full judged low x is)
-
-read_head : (rows : NetRows) (lines : List Line) (judged : Judged)
-    → (r : Result CertHead CertRefusal) → head_in lines ≡ r → SaidOnHead rows lines r judged → (answer_of (outcomes.Judged judged)).status ≤ 1 → IsRead rows lines
-read_head rows lines judged (Ok head) e is low = read_net rows lines head judged e (scaled_of rows (options_of head)) refl is low
-read_head rows lines judged (Err x) e is low = absurd (cert_full judged low x is)
+-- a line of status 0 or 1 tells no refusal
+judged_full : (judged : Judged) → (answer_of (outcomes.Judged judged)).status ≤ 1 → (r : Refusal) → judged ≡ refused r → ⊥
+judged_full judged low (Net r) e = not_full (answer_of (outcomes.Judged judged)) (outcomes.Judged (judges.NetRefused r)) (ap (λ (j : Judged). answer_of (outcomes.Judged j)) e) low (omega arith)
+judged_full judged low (Cert r) e = not_full (answer_of (outcomes.Judged judged)) (outcomes.Judged (judges.CertRefused r)) (ap (λ (j : Judged). answer_of (outcomes.Judged j)) e) low (omega arith)
 
 check_accepts : (files : Holding) (request : Request) (old new : ShelfView) (answer : Answer) → old.holds ≡ Some files → answer.status ≤ 1 → OfCheck (file_at request 0) (file_at request 1) old new answer → AcceptsCheck files request
 check_accepts files request old new answer tells full of =
@@ -144,8 +123,8 @@ check_accepts files request old new answer tells full of =
     let t = text_of_file MAX_CERT_BYTES kinds.Certificate files cert (λ text. Ends (OnTexts r.0 text)) (with_file old first) new answer tells full r.2 in
     let on : OnTexts r.0 t.0 answer = ends_full (OnTexts r.0 t.0) (with_file (with_file old first) cert) new answer full t.2 in
     let low = other_is answer (answer_of (outcomes.Judged on.0)) on.2 full in
-    let p = read_head r.0 (lines_of t.0) on.0 (head_in (lines_of t.0)) refl on.1 low in
-    (r.0, r.1, p.net, p.paper, record { text = t.0; given = t.1; head = p.head; head_read = p.head_read; scaled = p.scaled; rest_read = p.rest_read })
+    let p = judged_by r.0 t.0 on.0 (judged_full on.0 low) on.1 in
+    (r.0, r.1, p.0, p.1, record { text = t.0; given = t.1; head = p.2.head_of; head_read = p.2.head_read; scaled = p.2.scaled; rest_read = p.2.rest_read })
 
 -- ---- whatif
 
@@ -210,26 +189,14 @@ upgrade_full rows certified answer same full judged e above = not_full answer (o
 pub sweep_full : (rows : NetRows) (certified : Certified) (answer : Answer) → answer ≡ sweep_answer rows certified → answer.status ≤ 1 → IsNotRefused certified
 sweep_full rows certified answer same full judged e above = not_full answer (outcomes.Judged judged) (same ∙ ap (sweep_answer rows) e) full above
 
-cert_paper : (rows : NetRows) (lines : List Line) (head : CertHead) (net : ScaledNet) (certified : Certified) → head_in lines ≡ Ok head → scaled_of rows (options_of head) ≡ Ok net
-    → (r : Result Paper CertRefusal) → paper_in (sheets_of rows net) lines ≡ r → OnPaper rows net r certified → IsNotRefused certified → IsCertRead rows lines certified
-cert_paper rows lines head net certified h s (Ok (papers.Full proof)) e is only = record { net = net; proof = proof; head = head; head_read = h; scaled = s; rest_read = e; on = is }
-cert_paper rows lines head net certified h s (Ok (papers.Routing r)) e is only = absurd is
-cert_paper rows lines head net certified h s (Err x) e is only = absurd (only (judges.CertRefused x) is (omega arith))
+not_told : (certified : Certified) → IsNotRefused certified → (r : Refusal) → certified ≡ told r → ⊥
+not_told certified only (Net r) e = only (judges.NetRefused r) e (omega arith)
+not_told certified only (Cert r) e = only (judges.CertRefused r) e (omega arith)
 
-cert_net : (rows : NetRows) (lines : List Line) (head : CertHead) (certified : Certified) → head_in lines ≡ Ok head
-    → (r : Result ScaledNet NetRefusal) → scaled_of rows (options_of head) ≡ r → OnNet rows lines r certified → IsNotRefused certified → IsCertRead rows lines certified
-cert_net rows lines head certified h (Ok net) e is only = cert_paper rows lines head net certified h e (paper_in (sheets_of rows net) lines) refl is only
-cert_net rows lines head certified h (Err x) e is only = absurd (only (judges.NetRefused x) is (omega arith))
-
-cert_head : (rows : NetRows) (lines : List Line) (certified : Certified)
-    → (r : Result CertHead CertRefusal) → head_in lines ≡ r → OnHead rows lines r certified → IsNotRefused certified → IsCertRead rows lines certified
-cert_head rows lines certified (Ok head) e is only = cert_net rows lines head certified e (scaled_of rows (options_of head)) refl is only
-cert_head rows lines certified (Err x) e is only = absurd (only (judges.CertRefused x) is (omega arith))
-
-pub cert_header : (rows : NetRows) (lines : List Line) (certified : Certified)
-    → (b : Bool) → OnHeader rows lines b certified → IsNotRefused certified → IsCertRead rows lines certified
-cert_header rows lines certified false is only = cert_head rows lines certified (head_in lines) refl is only
-cert_header rows lines certified true is only = absurd (only (judges.CertRefused no_header) is (omega arith))
+pub cert_read : (rows : NetRows) (text : List ℕ) (certified : Certified) → IsCertifiedText rows text certified → IsNotRefused certified → IsCertRead rows (lines_of text) certified
+cert_read rows text certified is only =
+    let a = certified_by rows text certified (not_told certified only) is in
+    record { net = a.0; proof = a.1; head = a.2.head_of; head_read = a.2.head_read; scaled = a.2.scaled; rest_read = a.2.rest_read; on = a.3 }
 
 -- a certificate is told, and not want of memory
 certificate_full : (rows : NetRows) (script text : List ℕ) (old new : ShelfView) (answer : Answer) → answer.status ≤ 1 → OrMemory (OnCertificate rows script text) old new answer → OnCertificate rows script text old new answer
@@ -245,7 +212,7 @@ whatif_accepts files request old new answer tells full of =
     let r = rows_of_file files first (λ rows. OfFile MAX_CERT_BYTES kinds.Certificate cert (λ text. OrMemory (OnCertificate rows script text))) old new answer tells full of in
     let t = text_of_file MAX_CERT_BYTES kinds.Certificate files cert (λ text. OrMemory (OnCertificate r.0 script text)) (with_file old first) new answer tells full r.2 in
     let on = certificate_full r.0 script t.0 (with_file (with_file old first) cert) new answer full t.2 in
-    let p = cert_header r.0 (lines_of t.0) on.0 (is_routing (lines_of t.0)) on.1 (said_full (with_file (with_file old first) cert) new r.0 script on.0 answer on.2 full) in (
+    let p = cert_read r.0 t.0 on.0 on.1 (said_full (with_file (with_file old first) cert) new r.0 script on.0 answer on.2 full) in (
       r.0,
       r.1,
       p.net,
@@ -263,7 +230,7 @@ upgrade_accepts files request old new answer tells full of =
     let r = rows_of_file files first (λ rows. OfUpgraded rows cert) old new answer tells full of in
     let t = text_of_file MAX_CERT_BYTES kinds.Certificate files cert (λ text. Ends (OnUpgrade r.0 text)) (with_file old first) new answer tells full r.2 in
     let on : OnUpgrade r.0 t.0 answer = ends_full (OnUpgrade r.0 t.0) (with_file (with_file old first) cert) new answer full t.2 in
-    let p = cert_header r.0 (lines_of t.0) on.0 (is_routing (lines_of t.0)) on.1 (upgrade_full r.0 on.0 answer on.2 full) in
+    let p = cert_read r.0 t.0 on.0 on.1 (upgrade_full r.0 on.0 answer on.2 full) in
     (r.0, r.1, p.net, p.proof, record { text = t.0; given = t.1; head = p.head; head_read = p.head_read; scaled = p.scaled; rest_read = p.rest_read })
 
 -- ---- sweep
@@ -275,7 +242,7 @@ sweep_accepts files request old new answer tells full of =
     let r = rows_of_file files first (λ rows. OfSwept rows cert) old new answer tells full of in
     let t = text_of_file MAX_CERT_BYTES kinds.Certificate files cert (λ text. Ends (OnSweep r.0 text)) (with_file old first) new answer tells full r.2 in
     let on : OnSweep r.0 t.0 answer = ends_full (OnSweep r.0 t.0) (with_file (with_file old first) cert) new answer full t.2 in
-    let p = cert_header r.0 (lines_of t.0) on.0 (is_routing (lines_of t.0)) on.1 (sweep_full r.0 on.0 answer on.2 full) in
+    let p = cert_read r.0 t.0 on.0 on.1 (sweep_full r.0 on.0 answer on.2 full) in
     (r.0, r.1, p.net, p.proof, record { text = t.0; given = t.1; head = p.head; head_read = p.head_read; scaled = p.scaled; rest_read = p.rest_read })
 
 -- ---- sweepsolve

@@ -32,9 +32,9 @@ use Rattle.net_solve.specs.declared.asked.Asked.{Asked}
 use Rattle.net_solve.specs.declared.solving.Solving.{Solving}
 use Rattle.net_solve.specs.declared.solving.Solving.TheVariants as solvings
 use Rattle.net_solve.specs.Solving.{IsDone, IsSolving}
-use Rattle.net_whatif.specs.declared.certifying.Certified.{Certified}
-use Rattle.net_whatif.specs.declared.certifying.Certified.TheVariants as certs
-use Rattle.net_whatif.specs.Certified.{IsCertificate, OnCertificate as CertOnCertificate, is_routing}
+use Rattle.cert_judge.specs.declared.certifying.Certified.{Certified}
+use Rattle.cert_judge.specs.declared.certifying.Certified.TheVariants as certs
+use Rattle.cert_judge.specs.Certified.{IsCertificate, OnCertificate as CertOnCertificate}
 use Rattle.mcf_words.specs.declared.request.Command.{Command}
 use Rattle.mcf_words.specs.declared.request.Command.TheVariants as commands
 use Rattle.mcf_words.specs.declared.request.Request.{Request}
@@ -50,7 +50,7 @@ use Rattle.run_certs.specs.Upgrade.{upgrade_answer, OnUpgrade, OfUpgraded}
 use Rattle.mcf_cli.specs.Run.{file_at, OfCommand, OfRequest, IsAnswer}
 use Rattle.run_laws.specs.Accepted.{IsNetFile}
 use Rattle.run_laws.specs.Checked.{IsRunOf, IsSolvedRun, IsUpgradedRun, IsCheckedRun, IsToldValid, ChecksAs, ChecksAlike, Upgrades}
-use Rattle.run_laws.proofs.Asked.{cert_header, upgrade_full}
+use Rattle.run_laws.proofs.Asked.{cert_read, upgrade_full}
 use Rattle.run_laws.proofs.Given.{Memories, ends_full, not_full, of_rows, of_text, rows_of_file, text_of_file}
 
 -- the law of what is solved: its text is judged valid, and nothing else is said of it
@@ -198,7 +198,7 @@ upgraded_by files request text ended run =
     let r = rows_of_file files first (λ rows. OfUpgraded rows cert) a.old a.new a.answer a.tells low a.of in
     let t = text_of_file MAX_CERT_BYTES kinds.Certificate files cert (λ text. Ends (OnUpgrade r.0 text)) (with_file a.old first) a.new a.answer a.tells low r.2 in
     let on : OnUpgrade r.0 t.0 a.answer = ends_full (OnUpgrade r.0 t.0) (with_file (with_file a.old first) cert) a.new a.answer low t.2 in
-    let p = cert_header r.0 (lines_of t.0) on.0 (is_routing (lines_of t.0)) on.1 (upgrade_full r.0 on.0 a.answer on.2 low) in
+    let p = cert_read r.0 t.0 on.0 on.1 (upgrade_full r.0 on.0 a.answer on.2 low) in
     let u = upgraded_is r.0 p.net p.proof on.0 a.answer a.low p.on on.2 in
     record {
       rows = r.0;

@@ -1,6 +1,5 @@
 pub mod Named
 pub mod Given
-pub mod Forms
 pub mod Answered
 pub mod Asked
 pub mod Starting

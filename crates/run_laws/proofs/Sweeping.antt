@@ -2,7 +2,6 @@
 use Rattle.std.proofs.Common.{◌≡◌, ℕ, ◌≤◌, List, ap, ◌∙◌, arith}
 use Rattle.mcf_limits.specs.declared.TheConstants.{MAX_CERT_BYTES}
 use Rattle.mcf_base.specs.Shelf.{Holding, with_file}
-use Rattle.text_lines.specs.Lines.{lines_of}
 use Rattle.flow_paths.specs.declared.certificate.Proof.{Proof}
 use Rattle.sndlib_grammar.specs.Rows.{NetRows, names_of_links}
 use Rattle.unit_scale.specs.Closed.{caps_of, closed}
@@ -14,9 +13,9 @@ use Rattle.whatif.proofs.Keeping.{planned_link}
 use Rattle.whatif.proofs.Sound.{are_bounds}
 use Rattle.sweep.specs.Sweep.{sweep_evaluation}
 use Rattle.sweep.specs.Lines.{sweep_text}
-use Rattle.net_whatif.specs.declared.certifying.Certified.{Certified}
-use Rattle.net_whatif.specs.declared.certifying.Certified.TheVariants as certs
-use Rattle.net_whatif.specs.Certified.{is_routing, IsCertificate, OnCertificate as CertOnCertificate}
+use Rattle.cert_judge.specs.declared.certifying.Certified.{Certified}
+use Rattle.cert_judge.specs.declared.certifying.Certified.TheVariants as certs
+use Rattle.cert_judge.specs.Certified.{IsCertificate, OnCertificate as CertOnCertificate}
 use Rattle.net_whatif.specs.Scripted.{start_of}
 use Rattle.net_whatif.proofs.SoundLines.{planned_at_start}
 use Rattle.mcf_words.specs.declared.request.Command.TheVariants as commands
@@ -29,7 +28,7 @@ use Rattle.run_sweeps.specs.Sweep.{sweep_answer, worth_without, OnSweep, OfSwept
 use Rattle.mcf_cli.specs.Run.{file_at}
 use Rattle.run_laws.specs.Swept.{IsSweptRun, Sweeps}
 use Rattle.run_laws.proofs.Given.{text_of_file, rows_of_file, ends_full}
-use Rattle.run_laws.proofs.Asked.{cert_header, sweep_full}
+use Rattle.run_laws.proofs.Asked.{cert_read, sweep_full}
 use Rattle.run_laws.proofs.Checking.{run_answered}
 
 -- the answer has a line for each link
@@ -61,7 +60,7 @@ sweeps files request text ended run =
     let r = rows_of_file files first (λ rows. OfSwept rows cert) a.old a.new a.answer a.tells low a.of in
     let t = text_of_file MAX_CERT_BYTES kinds.Certificate files cert (λ text. Ends (OnSweep r.0 text)) (with_file a.old first) a.new a.answer a.tells low r.2 in
     let on : OnSweep r.0 t.0 a.answer = ends_full (OnSweep r.0 t.0) (with_file (with_file a.old first) cert) a.new a.answer low t.2 in
-    let p = cert_header r.0 (lines_of t.0) on.0 (is_routing (lines_of t.0)) on.1 (sweep_full r.0 on.0 a.answer on.2 low) in
+    let p = cert_read r.0 t.0 on.0 on.1 (sweep_full r.0 on.0 a.answer on.2 low) in
     let s = swept_is r.0 p.net p.proof on.0 a.answer a.low p.on on.2 in
     record {
       rows = r.0;

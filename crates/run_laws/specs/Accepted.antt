@@ -13,7 +13,7 @@ use Rattle.cert_text.specs.declared.opening.CertHead.{CertHead}
 use Rattle.cert_text.specs.declared.papers.Paper.{Paper}
 use Rattle.cert_text.specs.declared.papers.Paper.TheVariants.{Full}
 use Rattle.cert_text.specs.Whole.{head_in, paper_in}
-use Rattle.cert_judge.specs.Judgement.{options_of}
+use Rattle.cert_judge.specs.Papers.{options_of}
 use Rattle.net_solve.specs.Asked.{IsTooMuch}
 use Rattle.sweep_solver.specs.Asked.{IsSweepTooMuch}
 use Rattle.script.specs.declared.step.Step.{Step}

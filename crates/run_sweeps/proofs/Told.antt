@@ -7,8 +7,8 @@ use Rattle.mcf_base.specs.Sink.{SinkView}
 use Rattle.flow_paths.specs.declared.certificate.Proof.{Proof}
 use Rattle.sndlib_grammar.specs.Rows.{NetRows}
 use Rattle.unit_scale.specs.Scaling.{ScaledNet}
-use Rattle.net_whatif.specs.declared.certifying.Certified.TheVariants.{Valid}
-use Rattle.net_whatif.specs.Certified.{IsCertifiedText}
+use Rattle.cert_judge.specs.declared.certifying.Certified.TheVariants.{Valid}
+use Rattle.cert_judge.specs.Certified.{IsCertifiedText}
 use Rattle.run_base.specs.declared.outcome.Paper.TheVariants.{Certificate}
 use Rattle.run_base.specs.declared.ended.Ended.{Ended}
 use Rattle.run_base.specs.Answer.{Answer, IsTold, OrWant}

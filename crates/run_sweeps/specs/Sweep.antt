@@ -9,9 +9,9 @@ use Rattle.unit_scale.specs.Closed.{caps_of}
 use Rattle.unit_scale.specs.Scaling.{ScaledNet}
 use Rattle.sweep.specs.Sweep.{sweep_evaluations}
 use Rattle.sweep.specs.Lines.{sweep_text}
-use Rattle.net_whatif.specs.declared.certifying.Certified.{Certified}
-use Rattle.net_whatif.specs.declared.certifying.Certified.TheVariants.{Valid, Said}
-use Rattle.net_whatif.specs.Certified.{IsCertifiedText}
+use Rattle.cert_judge.specs.declared.certifying.Certified.{Certified}
+use Rattle.cert_judge.specs.declared.certifying.Certified.TheVariants.{Valid, Said}
+use Rattle.cert_judge.specs.Certified.{IsCertifiedText}
 use Rattle.run_base.specs.declared.outcome.Paper.TheVariants.{Certificate}
 use Rattle.run_base.specs.declared.outcome.Outcome.TheVariants.{Judged}
 use Rattle.run_base.specs.Answer.{Answer, answer_of, text_answer}

@@ -3,7 +3,7 @@
 ghost use Rattle.std.specs.Prelude.{◌≡◌, IfOk, map};
 ghost use Rattle.sndlib_grammar.specs.Rows.{AreNetRows};
 ghost use Rattle.whatif.specs.Planned.{evaluation_of};
-ghost use Rattle.net_whatif.specs.Certified.{IsCertificate};
+ghost use Rattle.cert_judge.specs.Certified.{IsCertificate};
 ghost use Rattle.run_base.specs.Answer.{IsTold, OrWant};
 ghost use Rattle.run_sweeps.specs.Sweep.{OfSweep, OfSwept, swept, worth_without};
 
@@ -11,7 +11,7 @@ use crate::ids::link_ids;
 use flow_paths::Proof;
 use mcf_base::{Shelf, Sink};
 use mcf_limits::{MAX_CERT_BYTES, MAX_NET_BYTES};
-use net_whatif::{Certified, read_certificate};
+use cert_judge::{Certified, read_certificate};
 use run_base::{Ended, Outcome, Paper, file_text, net_rows, tell};
 use sndlib_read::RawNet;
 use std::alloc::{AllocError, Global};

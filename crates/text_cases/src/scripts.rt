@@ -3,14 +3,15 @@
 ghost use Rattle.std.specs.Prelude.{◌≤◌, length};
 ghost use Rattle.mcf_limits.specs.declared.TheConstants.{MAX_CERT_BYTES, MAX_SCRIPT_BYTES};
 ghost use Rattle.sndlib_grammar.specs.Rows.{AreNetRows};
-ghost use Rattle.net_whatif.specs.Certified.{IsCertificate};
+ghost use Rattle.cert_judge.specs.Certified.{IsCertificate};
 
 use crate::files::net_text;
 use anyhow::{Result, bail, ensure};
+use cert_judge::{Certified, read_certificate};
 use flow_paths::Proof;
 use mcf_base::OutSink;
 use mcf_limits::{MAX_CERT_BYTES, MAX_SCRIPT_BYTES};
-use net_whatif::{Certified, Scripted, read_certificate, read_script, write_shown};
+use net_whatif::{Scripted, read_script, write_shown};
 use sndlib_grammar::rows_are_sound;
 use sndlib_read::{RawNet, read_net};
 use std::{fs, io};

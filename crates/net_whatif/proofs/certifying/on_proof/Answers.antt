@@ -1,9 +1,0 @@
-use Rattle.std.proofs.Common.{rules, subst}
-use Rattle.flow_model.specs.Network.{Network}
-use Rattle.cert_check.specs.Verdict.{IsFirstFault}
-use Rattle.net_whatif.proofs.certifying.on_proof.Goals as goal
-
-pub returns-in-Invalid-clause-certificate : goal.returns-in-Invalid-clause-certificate
-returns-in-Invalid-clause-certificate c =
-    let first : IsFirstFault c.net-3.result.now c.args.proof c.in-Invalid.fault = search rules in
-    λ rows names. subst (λ (n : Network). IsFirstFault n c.args.proof c.in-Invalid.fault) c.net-3.ensures.value first
