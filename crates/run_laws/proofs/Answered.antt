@@ -20,7 +20,7 @@ use Rattle.cert_text.specs.declared.opening.Known.TheVariants.{Both}
 use Rattle.cert_judge.specs.Papers.{IsReadOf}
 use Rattle.cert_judge.specs.Judgement.{IsSaidOf}
 use Rattle.cert_judge.proofs.Judgements.{certified_of, judged_of}
-use Rattle.cert_judge.proofs.Kinds.{certificate_either}
+use Rattle.cert_judge.proofs.KnownHeaders.{certificate_either}
 use Rattle.net_solve.specs.declared.solving.Solving.{Solving}
 use Rattle.net_solve.specs.declared.solving.Solving.TheVariants as solvings
 use Rattle.net_solve.specs.Solving.{IsSolving}
