@@ -227,7 +227,8 @@ fn head_of_links_of_two_cells(rt: HostRuntime) {
     let text = b"mcf-routing 2\nlinks bidirected\nmodules sum\n";
     let opened = open(Known::Both, text);
     assert!(rt;
-        opened.is_ok_and(|o| o.head.links == LinkMode::Bidirected && o.head.modules == ModuleMode::Sum)
+        opened.is_ok_and(|o| o.head.links == LinkMode::Bidirected
+            && o.head.modules == ModuleMode::Sum)
     );
 }
 
@@ -270,7 +271,8 @@ fn routings_that_are_not_known(rt: HostRuntime) {
     ] {
         assert!(rt; text.len() <= MAX_CERT_BYTES);
         assert!(rt;
-            open(Known::Certificates, text).is_err_and(|r| r.line == 1 && r.kind == CertKind::NoHeader)
+            open(Known::Certificates, text).is_err_and(|r| r.line == 1
+                && r.kind == CertKind::NoHeader)
         );
     }
     assert!(rt; CERTIFICATE.len() <= MAX_CERT_BYTES);

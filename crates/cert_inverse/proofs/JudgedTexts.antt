@@ -1,5 +1,5 @@
 -- What is said of texts, from what they are read as.
-use Rattle.std.proofs.Common.{◌≡◌, ◌≢◌, ℕ, ◌≤◌, Bool, List, Result, Ok, Err, refl, ap, subst}
+use Rattle.std.proofs.Common.{◌≡◌, ◌≢◌, ℕ, ◌≤◌, Bool, List, Ok, refl, ap, subst}
 use Rattle.text_lines.specs.Lines.{lines_of}
 use Rattle.gap_fraction.specs.Fraction.{Fraction}
 use Rattle.unit_scale.specs.declared.modes.LinkMode.TheVariants.{Bidirected}
@@ -10,14 +10,12 @@ use Rattle.flow_paths.specs.declared.certificate.Proof.{Proof}
 use Rattle.flow_model.specs.Routing.{IsFeasible}
 use Rattle.flow_paths.specs.Certificate.{routing_of, IsValid, IsValidRouting}
 use Rattle.sndlib_grammar.specs.Rows.{NetRows}
-use Rattle.sndlib_grammar.specs.declared.refusal.NetRefusal.{NetRefusal}
 use Rattle.unit_scale.specs.Sizes.{decimals_of, sizes}
 use Rattle.unit_scale.specs.Scaling.{ScaledNet, scaled_of, scaled_with, refusal}
 use Rattle.cert_lines.specs.Sheet.{IsOf, old_sheet_of, sheet_of, sheets_of, sheet_for}
 use Rattle.cert_lines.specs.declared.form.Form.{Form}
 use Rattle.cert_lines.specs.declared.form.Form.TheVariants.{First, Second}
 use Rattle.cert_lines.specs.declared.net_line.TheConstants.{MAX_COUNT}
-use Rattle.cert_lines.specs.declared.refusal.CertRefusal.{CertRefusal}
 use Rattle.cert_text.specs.declared.papers.Paper.{Paper}
 use Rattle.cert_text.specs.declared.papers.Paper.TheVariants as papers
 use Rattle.cert_text.specs.declared.opening.Known.TheVariants.{Both}

@@ -1,6 +1,6 @@
 pub mod Fitting
 pub mod Judgements
-pub mod Kinds
+pub mod KnownHeaders
 pub mod LineFits
 pub mod NewFits
 pub mod PaperFacts

@@ -1,5 +1,5 @@
 -- What was read of a text on a network.
-use Rattle.std.proofs.Common.{◌≡◌, ◌≤◌, ℕ, List, Result, Ok, Err, ap, sym}
+use Rattle.std.proofs.Common.{◌≡◌, ◌≤◌, ℕ, Bool, List, Option, Result, Ok, Err, refl, ap, sym}
 use Rattle.std.specs.Prelude.{IfOk}
 use Rattle.text_lines.specs.Lines.{lines_of}
 use Rattle.unit_scale.specs.declared.options.NetOptions.{NetOptions}
@@ -11,10 +11,17 @@ use Rattle.cert_lines.specs.Sheet.{sheet_of, sheets_of}
 use Rattle.cert_lines.specs.declared.net_line.TheConstants.{MAX_COUNT}
 use Rattle.cert_text.specs.declared.papers.Paper.{Paper}
 use Rattle.cert_text.specs.declared.papers.Paper.TheVariants.{Routing, Full}
-use Rattle.cert_text.specs.Whole.{SaysModes, paper_in}
+use Rattle.cert_text.specs.Reading.{Place}
+use Rattle.cert_text.specs.declared.opening.Known.{Known}
+use Rattle.cert_text.specs.Whole.{SaysModes, head_by, opened_by, paper_in}
 use Rattle.cert_text.specs.declared.opening.CertHead.{CertHead}
 use Rattle.cert_judge.specs.Fits.{FitsPaper}
-use Rattle.cert_judge.specs.Papers.{IsOfNet, IsPaperOf, options_of}
+use Rattle.sndlib_grammar.specs.declared.refusal.NetRefusal.{NetRefusal}
+use Rattle.cert_lines.specs.declared.refusal.CertRefusal.{CertRefusal}
+use Rattle.cert_judge.specs.declared.refusal.Refusal.TheVariants.{Net, Cert}
+use Rattle.cert_judge.specs.declared.certifying.Certified.{Certified}
+use Rattle.cert_judge.specs.Chain.{read_on}
+use Rattle.cert_judge.specs.Papers.{IsOfNet, IsPaperOf, options_of, paper_on}
 use Rattle.cert_judge.proofs.Fitting.{IsSized, is_scaled, proof_fits, routing_fits, sized}
 use Rattle.cert_judge.proofs.NewFits.{new_fits}
 
@@ -43,3 +50,29 @@ paper_of rows o net text paper well e facts network few read =
       fits = fits;
       counted = few;
     }
+
+-- ---- the chain, stage by stage
+
+module _ (known : Known) (rows : NetRows) (text : List ℕ) where
+  pub head_refused : (r : CertRefusal) → Err r ≡ opened_by known (lines_of text) → paper_on known rows text ≡ Err (Cert r)
+  unfolding read_on head_by
+  head_refused r e = rw (sym e) refl
+
+  module _ (o : (CertHead × Option Bool) × Place) (opens : Ok o ≡ opened_by known (lines_of text)) where
+    pub net_refused : (r : NetRefusal) → scaled_of rows (options_of o.0.0) ≡ Err r → paper_on known rows text ≡ Err (Net r)
+    unfolding read_on head_by
+    net_refused r s = rw (sym opens, s) refl
+
+    pub rest_refused : (net : ScaledNet) (r : CertRefusal) → scaled_of rows (options_of o.0.0) ≡ Ok net → paper_in (sheets_of rows net) (lines_of text) ≡ Err r → paper_on known rows text ≡ Err (Cert r)
+    unfolding read_on head_by
+    rest_refused net r s p = rw (sym opens, s, p) refl
+
+    pub paper_read : (net : ScaledNet) (paper : Paper) → scaled_of rows (options_of o.0.0) ≡ Ok net → paper_in (sheets_of rows net) (lines_of text) ≡ Ok paper → paper_on known rows text ≡ Ok (net, paper)
+    unfolding read_on head_by
+    paper_read net paper s p = rw (sym opens, s, p) refl
+
+-- what holds on all rows of a paper holds on these
+pub on_rows : {E : Type 0} (P : NetRows → Certified → Type 0) (rows : NetRows) (net : ScaledNet) (paper : Paper) (result : Result Certified E) → IsPaperOf rows net paper
+    → IfOk result (λ c. (r : NetRows) → IsPaperOf r net paper → P r c) → IfOk result (P rows)
+on_rows P rows net paper (Ok c) own h = h rows own
+on_rows P rows net paper (Err x) own h = tt

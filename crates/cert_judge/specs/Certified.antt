@@ -20,7 +20,8 @@ use Rattle.cert_judge.specs.Chain.{IsSaid}
 use Rattle.cert_judge.specs.Papers.{paper_on}
 use Rattle.cert_judge.specs.Judgement.{refused}
 
--- the network in units is that of the rows, and the certificate is of it, valid, and what it is for; and it can be written
+-- the network in units is that of the rows, and the certificate is of it, valid, and what it is for; and it
+-- can be written
 pub record IsCertificate (rows : NetRows) (net : ScaledNet) (proof : Proof) : Type 0 where
   pub names : IsOf rows net
   pub network : IsNetwork net.net

@@ -1,5 +1,5 @@
--- A chain of judging: the head of a text, the network in units under its options, what a command refuses of the network, the rest
--- of the text. It stops at the first refusal; of what was read to its end something is said.
+-- A chain of judging: the head of a text, the network in units under its options, what a command refuses of
+-- the network, the rest of the text. It stops at the first refusal; of what was read something is said.
 use Rattle.std.specs.Prelude.{◌≡◌, Option, Some, None, Result, Ok, Err}
 use Rattle.unit_scale.specs.declared.options.NetOptions.{NetOptions}
 use Rattle.unit_scale.specs.Scaling.{ScaledNet, scaled_of}
@@ -38,13 +38,15 @@ read_on rows under more rest head = do
   Ok (net, value)
 
 -- a refusal is said as it is, and this of a network and a value
-abbrev pub IsSaid : {A F : Type 0} → (Refusal → F) → (ScaledNet → A → F → Type 0) → Result (ScaledNet × A) Refusal → F → Type 0
+abbrev pub IsSaid : {A F : Type 0} → (Refusal → F) → (ScaledNet → A → F → Type 0)
+    → Result (ScaledNet × A) Refusal → F → Type 0
 IsSaid refused Of (Err r) found = found ≡ refused r
 IsSaid refused Of (Ok x) found = Of x.0 x.1 found
 
 -- each stage accepts, and these are the network and the value
-pub record AreStages {H A : Type 0} (rows : NetRows) (under : H → NetOptions) (more : ScaledNet → Option NetRefusal)
-    (rest : ScaledNet → Result A CertRefusal) (head : Result H CertRefusal) (net : ScaledNet) (value : A) : Type 0 where
+pub record AreStages {H A : Type 0} (rows : NetRows) (under : H → NetOptions)
+    (more : ScaledNet → Option NetRefusal) (rest : ScaledNet → Result A CertRefusal)
+    (head : Result H CertRefusal) (net : ScaledNet) (value : A) : Type 0 where
   pub head_of : H
   pub head_read : head ≡ Ok head_of
   pub scaled : scaled_of rows (under head_of) ≡ Ok net

@@ -8,6 +8,7 @@ use Rattle.flow_paths.specs.Certificate.{IsProofOf, IsRoutingOf}
 use Rattle.sndlib_grammar.specs.Rows.{NetRows}
 use Rattle.sndlib_grammar.specs.declared.refusal.NetRefusal.{NetRefusal}
 use Rattle.cert_lines.specs.Sheet.{IsOf, sheet_of, sheets_of}
+use Rattle.cert_lines.specs.declared.refusal.CertRefusal.{CertRefusal}
 use Rattle.cert_lines.specs.declared.net_line.TheConstants.{MAX_COUNT}
 use Rattle.cert_text.specs.declared.opening.CertHead.{CertHead}
 use Rattle.cert_text.specs.declared.opening.Known.{Known}
@@ -25,16 +26,20 @@ options_of head = record { links = head.links; modules = head.modules }
 abbrev pub nothing_more : ScaledNet → Option NetRefusal
 nothing_more net = None
 
--- the certificate or routing that the text spells with the names of these rows and of their network under the options that it says,
--- in either form, where these headers are known
+-- the lines behind the head, with the names of the rows and of their network
+abbrev pub rest_on : NetRows → List ℕ → ScaledNet → Result Paper CertRefusal
+rest_on rows text net = paper_in (sheets_of rows net) (lines_of text)
+
+-- the network under the options that the text says, and the certificate or routing that it spells with the
+-- names of the rows and of that network, in either form, where these headers are known
 abbrev pub paper_on : Known → NetRows → List ℕ → Result (ScaledNet × Paper) Refusal
 paper_on known rows text =
-    read_on rows options_of nothing_more (λ net. paper_in (sheets_of rows net) (lines_of text)) (head_by known (lines_of text))
+    read_on rows options_of nothing_more (rest_on rows text) (head_by known (lines_of text))
 
 -- each stage of this accepts: the head, the network under its options, the rest of the text
 abbrev pub IsReadOf : Known → NetRows → List ℕ → ScaledNet → Paper → Type 0
 IsReadOf known rows text net paper =
-    AreStages rows options_of nothing_more (λ n. paper_in (sheets_of rows n) (lines_of text)) (head_by known (lines_of text)) net paper
+    AreStages rows options_of nothing_more (rest_on rows text) (head_by known (lines_of text)) net paper
 
 -- its rows name what the network has
 abbrev pub IsOfNet : Network → Paper → Type 0

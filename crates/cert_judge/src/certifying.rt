@@ -5,7 +5,7 @@ ghost use Rattle.mcf_limits.specs.declared.TheConstants.{MAX_CERT_BYTES};
 ghost use Rattle.sndlib_grammar.specs.Rows.{AreNetRows};
 ghost use Rattle.cert_text.specs.declared.papers.Paper.TheVariants as PaperIs;
 ghost use Rattle.cert_judge.specs.Papers.{IsOfNet, IsPaperOf};
-ghost use Rattle.cert_judge.specs.Certified.{IsCertifiedText, IsSound, OnCertificate};
+ghost use Rattle.cert_judge.specs.Certified.{IsCertifiedText, IsSound, OnCertificate, OnRead};
 
 use crate::judged::Judged;
 use crate::judging::refused;
@@ -40,9 +40,24 @@ fn on_proof(alloc: Global, net: Scaled, proof: Proof) -> Result<Certified, Alloc
     }
 }
 
-/// The valid certificate of the text, with the network in units that the rows stand for under its options; or what else is
-/// said of it: the first refusal, or the first condition that fails. A routing is no certificate: where line 1 is the header
-/// of one, in either form, that line is refused, whatever the later lines are.
+// The same of what was read, which is no routing.
+fn on_paper(alloc: Global, net: Scaled, paper: Paper) -> Result<Certified, AllocError>
+    requires of { IsOfNet net.net paper }
+    requires full { (routing : _) → ¬ (paper ≡ PaperIs.Routing routing) }
+    ensures certificate { IfOk result (λ c. (rows : _) → IsPaperOf rows net paper
+        → OnRead rows net paper c) }
+    ensures sound { IfOk result (λ c. (rows : _) → IsPaperOf rows net paper → IsSound rows c) }
+{
+    match paper {
+        Paper::Full(proof) => on_proof(alloc, net, proof),
+        Paper::Routing(_) => unreachable!(),
+    }
+}
+
+/// The valid certificate of the text, with the network in units that the rows stand for under its options;
+/// or what else is said of it: the first refusal, or the first condition that fails. A routing is no
+/// certificate: where line 1 is the header of one, in either form, that line is refused, whatever the later
+/// lines are.
 pub fn read_certificate(
     alloc: Global,
     rows: &RawNet<'_>,
@@ -54,8 +69,7 @@ pub fn read_certificate(
     ensures sound { IfOk result (IsSound rows.now) }
 {
     match read_paper(alloc, rows, Known::Certificates, text) {
-        Ok((net, Paper::Full(proof))) => on_proof(alloc, net, proof),
-        Ok((_, Paper::Routing(_))) => unreachable!(),
+        Ok((net, paper)) => on_paper(alloc, net, paper),
         Err(ReadEnd::Refused(refusal)) => Ok(Certified::Said(refused(refusal))),
         Err(ReadEnd::Memory) => Err(AllocError),
     }

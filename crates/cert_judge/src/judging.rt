@@ -59,7 +59,8 @@ fn on_proof(
     }
 }
 
-/// What is said of a certificate or a routing on its network: the first condition that fails, or that it stands.
+/// What is said of a certificate or a routing on its network: the first condition that fails, or that it
+/// stands.
 pub fn judge_paper(alloc: Global, net: &Scaled, paper: &Paper) -> Result<Judged, AllocError>
     requires { IsOfNet net.now.net paper.now }
     ensures { IfOk result (OnPaper net.now paper.now) }

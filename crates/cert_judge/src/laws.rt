@@ -25,8 +25,8 @@ pub fn papers_fit()
         → paper_in (sheets_of rows net) lines ≡ read paper → FitsPaper (sheet_of rows net) paper }
 {}
 
-/// A text stands for a network and for a certificate or a routing exactly where each stage accepts. Where the headers of
-/// certificates alone are known it is so for the same certificates, and for no routing.
+/// A text stands for a network and for a certificate or a routing exactly where each stage accepts. Where
+/// the headers of certificates alone are known it is so for the same certificates, and for no routing.
 pub fn read_by_stages()
     ensures stages { (known : Known) (rows : NetRows) (text : List ℕ) (net : ScaledNet) (paper : Paper)
         → (paper_on known rows text ≡ Ok (net, paper)) ↔ IsReadOf known rows text net paper }

@@ -1,5 +1,5 @@
-//! What is said of the text of a certificate or a routing on the rows of a network: the chain of judging, from the head of the
-//! text to the verdict, and laws of these texts over their definitions.
+//! What is said of the text of a certificate or a routing on the rows of a network: the chain of judging,
+//! from the head of the text to the verdict; and laws of these texts over their definitions.
 #![tactic(auto)]
 
 mod certifying;

@@ -8,3 +8,6 @@ pub mod Leaving
 pub mod Levelling
 pub mod Making
 pub mod Owning
+pub mod Tightening
+pub mod Unique
+pub mod Staying

@@ -35,7 +35,7 @@ leaves-same side other nodes cell same fits =
     ap (λ (x : Bool). (x && not (side cell.head)) || (cell.both && (side cell.head && not x))) (same cell.tail fits.tail)
     ∙ ap (λ (y : Bool). (other cell.tail && not y) || (cell.both && (y && not (other cell.tail)))) (same cell.head fits.head)
 
-range-below : (n : ℕ) → All (λ v. v < n) (range_with_len 0 n)
+pub range-below : (n : ℕ) → All (λ v. v < n) (range_with_len 0 n)
 range-below n = λ i d l. let is = get_or-range_with_len 0 n i d (omega (arith, length-range_with_len 0 n)) in omega (arith, length-range_with_len 0 n)
 
 row-same : (net : Network) (both : Bool) (side other : Side) (source : ℕ) → ((v : ℕ) → v < net.nodes → side v ≡ other v) → source < net.nodes → side_row net both side source ≡ side_row net both other source

@@ -1,13 +1,15 @@
 -- What a cut, and the best of several bounds, promise.
-use Rattle.std.specs.Prelude.{◌≡◌, ◌≢◌, ℕ, ◌*◌, ◌≤◌, Bool, true, IsTrue, List, All}
+use Rattle.std.specs.Prelude.{◌≡◌, ◌≢◌, ℕ, ◌*◌, ◌≤◌, Bool, true, IsTrue, List, [], ◌∷◌, All}
 use Rattle.flow_model.specs.declared.net.Cell.{Cell}
 use Rattle.flow_model.specs.Network.{Network, IsNetwork}
 use Rattle.flow_model.specs.Routing.{Row, IsFeasible}
 use Rattle.gap_fraction.specs.Fraction.{FractionLe}
 use Rattle.flow_paths.specs.DualRows.{DualRows}
-use Rattle.flow_paths.specs.Certificate.{upper_of, CellsHaveLengths, SourcesHaveRows, RowsArePotentials, DistanceDivides}
+use Rattle.flow_paths.specs.declared.certificate.Proof.{Proof}
+use Rattle.flow_paths.specs.Certificate.{lower_of, upper_of, CellsHaveLengths, SourcesHaveRows, RowsArePotentials, DistanceDivides}
 use Rattle.cut_bound.specs.Cuts.{Side, cut_value, cut_dual}
 use Rattle.cut_bound.specs.Candidates.{IsBestDual}
+use Rattle.cut_bound.specs.Tightened.{IsGiven, IsTightened}
 
 -- where cells are said to go both ways, all of them do
 abbrev pub GoBothWays : Network → Bool → Type 0
@@ -41,3 +43,29 @@ abbrev pub BestIsNotAbove : Type 0
 BestIsNotAbove = (net : Network) (both : Bool) (own : List DualRows) (best : DualRows) → IsNetwork net
     → All (λ d. DistanceDivides net d) own → IsBestDual net both own best
     → All (λ d. FractionLe (upper_of net best) (upper_of net d)) own
+
+-- the lower fraction of the first is not below that of the second, and its upper one not above
+pub record IsNoWorse (net : Network) (best p : Proof) : Type 0 where
+  pub lower : FractionLe (lower_of p.routing) (lower_of best.routing)
+  pub upper : FractionLe (upper_of net best.dual) (upper_of net p.dual)
+
+-- of valid certificates comes a valid one that is no worse than any of them
+pub record IsBetter (net : Network) (first : Proof) (others : List Proof) (best : Proof) : Type 0 where
+  pub given : IsGiven net best
+  pub no_worse : All (IsNoWorse net best) (first ∷ others)
+
+abbrev pub TightenedIsBest : Type 0
+TightenedIsBest = (net : Network) (both : Bool) (first : Proof) (others : List Proof) (best : Proof) → IsNetwork net
+    → GoBothWays net both → All (IsGiven net) (first ∷ others) → IsTightened net both first others best
+    → IsBetter net first others best
+
+-- there is one such certificate
+abbrev pub TightenedIsUnique : Type 0
+TightenedIsUnique = (net : Network) (both : Bool) (first : Proof) (others : List Proof) (best other : Proof)
+    → IsTightened net both first others best → IsTightened net both first others other → best ≡ other
+
+-- tightened again it stays as it is
+abbrev pub TightenedStays : Type 0
+TightenedStays = (net : Network) (both : Bool) (first : Proof) (others : List Proof) (best again : Proof)
+    → IsNetwork net → GoBothWays net both → All (IsGiven net) (first ∷ others)
+    → IsTightened net both first others best → IsTightened net both best [] again → again ≡ best

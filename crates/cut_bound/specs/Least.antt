@@ -1,5 +1,5 @@
 -- Of several the first of the least value.
-use Rattle.std.specs.Prelude.{ℕ, ◌≤◌, List, All, length}
+use Rattle.std.specs.Prelude.{◌≤◌, List, All, length}
 use Rattle.gap_fraction.specs.Fraction.{Fraction}
 use Rattle.flow_paths.specs.Least.{least_by, IsFirstLeast}
 

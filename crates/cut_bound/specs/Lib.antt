@@ -4,3 +4,4 @@ pub mod Laws
 pub mod Least
 pub mod Search
 pub mod Sums
+pub mod Tightened

@@ -2,7 +2,7 @@
 
 ghost use Rattle.flow_paths.specs.DualRows.{DualRows};
 ghost use Rattle.cut_bound.specs.Least.{LeastIsFirst};
-ghost use Rattle.cut_bound.specs.Laws.{BestIsNotAbove, CutDualIsItsValue, CutDualsAreValid, CutsBoundRoutings};
+ghost use Rattle.cut_bound.specs.Laws.{BestIsNotAbove, CutDualIsItsValue, CutDualsAreValid, CutsBoundRoutings, TightenedIsBest, TightenedIsUnique, TightenedStays};
 
 /// The dual of a cut that some commodity crosses meets the conditions of a certificate on lengths and potentials.
 pub fn cut_duals_are_valid()
@@ -28,4 +28,20 @@ pub fn best_is_not_above()
 /// it.
 pub fn least_is_first()
     ensures { LeastIsFirst DualRows }
+{}
+
+/// What is tightened of valid certificates is valid, and no worse than any of them: its lower fraction is not below, and its
+/// upper one not above.
+pub fn tightened_is_best()
+    ensures { TightenedIsBest }
+{}
+
+/// There is one certificate that is tightened of others.
+pub fn tightened_is_unique()
+    ensures { TightenedIsUnique }
+{}
+
+/// What is tightened stays as it is when it is tightened again.
+pub fn tightened_stays()
+    ensures { TightenedStays }
 {}

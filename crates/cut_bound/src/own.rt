@@ -28,7 +28,7 @@ fn distance(alloc: Global, net: &Net, dual: &Dual) -> Result<u128, AllocError>
 }
 
 /// The bound of a dual: volume over weighted distance.
-fn own_value(alloc: Global, net: &Net, dual: &Dual) -> Result<Frac, AllocError>
+pub fn own_value(alloc: Global, net: &Net, dual: &Dual) -> Result<Frac, AllocError>
     requires { IsDualOf net.now dual.now }
     ensures { IfOk result (λ f. f ≡ upper_of net.now dual.now) }
 {

@@ -1,4 +1,4 @@
-use Rattle.cert_judge.proofs.Kinds.{certificate_both, certificate_either, read_by, reads, reads_no_routing}
+use Rattle.cert_judge.proofs.KnownHeaders.{certificate_both, certificate_either, read_by, reads, reads_no_routing}
 use Rattle.cert_judge.proofs.laws.read_by_stages.Goals as goal
 
 pub returns : goal.returns

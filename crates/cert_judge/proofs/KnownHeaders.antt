@@ -20,7 +20,7 @@ use Rattle.cert_text.specs.Papers.{header, header_by, proof_at, routing_at}
 use Rattle.cert_text.specs.Whole.{head_by, head_in, paper_at, paper_in}
 use Rattle.cert_text.proofs.FirstLines.{certificate_known, head_header, known_header, known_kind, same_head}
 use Rattle.cert_judge.specs.Chain.{AreStages}
-use Rattle.cert_judge.specs.Papers.{options_of, nothing_more, paper_on, IsReadOf}
+use Rattle.cert_judge.specs.Papers.{options_of, nothing_more, rest_on, paper_on, IsReadOf}
 use Rattle.cert_judge.proofs.Stages.{read_stages, stages_read}
 use Rattle.cert_judge.proofs.Steps.{bind_ok, done, ok_is}
 
@@ -66,10 +66,10 @@ no_routing sheets lines head r h e =
     clash (sym own ∙ ap (λ (q : Opening × Place). q.0.kind) same ∙ routing_kind (sheet_for sheets a.0.0.form) a.0.0.kind a.0.1 r a.2)
 
 pub read_by : (known : Known) (rows : NetRows) (text : List ℕ) (net : ScaledNet) (paper : Paper) → paper_on known rows text ≡ Ok (net, paper) → IsReadOf known rows text net paper
-read_by known rows text net paper e = read_stages rows options_of nothing_more (λ n. paper_in (sheets_of rows n) (lines_of text)) (head_by known (lines_of text)) net paper e
+read_by known rows text net paper e = read_stages rows options_of nothing_more (rest_on rows text) (head_by known (lines_of text)) net paper e
 
 pub reads : (known : Known) (rows : NetRows) (text : List ℕ) (net : ScaledNet) (paper : Paper) → IsReadOf known rows text net paper → paper_on known rows text ≡ Ok (net, paper)
-reads known rows text net paper s = stages_read rows options_of nothing_more (λ n. paper_in (sheets_of rows n) (lines_of text)) (head_by known (lines_of text)) net paper s
+reads known rows text net paper s = stages_read rows options_of nothing_more (rest_on rows text) (head_by known (lines_of text)) net paper s
 
 pub reads_no_routing : (rows : NetRows) (text : List ℕ) (net : ScaledNet) (r : RoutingIs) → paper_on Certificates rows text ≡ Ok (net, Routing r) → ⊥
 reads_no_routing rows text net r e =
