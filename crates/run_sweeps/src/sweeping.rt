@@ -1,17 +1,18 @@
 //! The command `sweep`: what a valid certificate is worth without each single link.
 
-ghost use Rattle.std.specs.Prelude.{◌≡◌, IfOk, map};
+ghost use Rattle.std.specs.Prelude.{◌≡◌, IfOk, length, map};
 ghost use Rattle.sndlib_grammar.specs.Rows.{AreNetRows};
 ghost use Rattle.whatif.specs.Planned.{evaluation_of};
 ghost use Rattle.cert_judge.specs.Certified.{IsCertificate};
-ghost use Rattle.run_base.specs.Answer.{IsTold, OrWant};
+ghost use Rattle.sweep.specs.Lines.{sweep_text};
+ghost use Rattle.run_base.specs.Answer.{IsTold, OrWant, Writes, text_answer};
 ghost use Rattle.run_sweeps.specs.Sweep.{OfSweep, OfSwept, swept, worth_without};
 
 use crate::ids::link_ids;
+use cert_judge::{Certified, read_certificate};
 use flow_paths::Proof;
 use mcf_base::{Shelf, Sink};
 use mcf_limits::{MAX_CERT_BYTES, MAX_NET_BYTES};
-use cert_judge::{Certified, read_certificate};
 use run_base::{Ended, Outcome, Paper, file_text, net_rows, tell};
 use sndlib_read::RawNet;
 use std::alloc::{AllocError, Global};
@@ -35,6 +36,18 @@ fn bounds_without<R: Threads + Sync>(
     sweep_plan(rt, alloc, &plan, net.options().links, rows.links())
 }
 
+// Writes a line for each of the links of these ids, and ends with status 0.
+fn write_lines<K: Sink>(out: &mut K, ids: &[&[u8]], bounds: &[Bounds]) -> Ended
+    requires { length ids.now ≡ length bounds.now }
+    ensures { Writes (K.seen out.old) (K.seen out.new) result
+        (text_answer (sweep_text (map (λ id. id.now) ids.now) (map evaluation_of bounds.now))) }
+{
+    match write_sweep(out, ids, bounds) {
+        Ok(()) => Ended::told(0),
+        Err(_) => Ended::told(5),
+    }
+}
+
 // Writes a line for each link, once all that it takes memory for is done.
 fn tell_swept<K: Sink, R: Threads + Sync>(
     rt: &R,
@@ -52,13 +65,9 @@ fn tell_swept<K: Sink, R: Threads + Sync>(
         Ok(ids) => ids,
         Err(_) => return tell(out, Outcome::Memory),
     };
-    let bounds = match bounds_without(rt, alloc, rows, net, proof) {
-        Ok(bounds) => bounds,
-        Err(_) => return tell(out, Outcome::Memory),
-    };
-    match write_sweep(out, &ids, &bounds) {
-        Ok(()) => Ended::told(0),
-        Err(_) => Ended::told(5),
+    match bounds_without(rt, alloc, rows, net, proof) {
+        Ok(bounds) => write_lines(out, &ids, &bounds),
+        Err(_) => tell(out, Outcome::Memory),
     }
 }
 
