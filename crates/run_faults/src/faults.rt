@@ -2,8 +2,8 @@
 
 use cert_cases::{CERTIFICATE, ONE_LINK, ROUTING, SIGNED, VALID};
 use run_given::{
-    AMPLE, FREE_LAYOUT, FREE_LAYOUT_PRINTED, File, OPEN, OPEN_SWEPT, Outside, TWO_LINKS, ample_answer,
-    answer_to, expect,
+    AMPLE, FREE_LAYOUT, FREE_LAYOUT_PRINTED, File, OPEN, OPEN_SWEPT, Outside, TWO_LINKS,
+    ample_answer, answer_to, expect,
 };
 use std::alloc::Global;
 use std::process::Abort;

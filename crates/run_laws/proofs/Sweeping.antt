@@ -34,9 +34,11 @@ use Rattle.run_laws.proofs.Checking.{run_answered}
 -- the answer has a line for each link
 swept_is : (rows : NetRows) (net : ScaledNet) (proof : Proof) (certified : Certified) (answer : Answer) → answer.status ≤ 0 → CertOnCertificate rows net proof certified
     → answer ≡ sweep_answer rows certified → IsCertificate rows net proof × (answer.text ≡ sweep_text (names_of_links rows) (worth_without rows net proof))
-swept_is rows net proof (certs.Valid n p) answer low is same =
-    (is.2, ap (λ (a : Answer). a.text) same ∙ ap (λ (m : ScaledNet). sweep_text (names_of_links rows) (worth_without rows m p)) is.0
-    ∙ ap (λ (q : Proof). sweep_text (names_of_links rows) (worth_without rows net q)) is.1)
+swept_is rows net proof (certs.Valid n p) answer low is same = (
+  is.2,
+  ap (λ (a : Answer). a.text) same ∙ ap (λ (m : ScaledNet). sweep_text (names_of_links rows) (worth_without rows m p)) is.0
+      ∙ ap (λ (q : Proof). sweep_text (names_of_links rows) (worth_without rows net q)) is.1,
+)
 swept_is rows net proof (certs.Said (judges.Invalid fault)) answer low is same =
     let one : answer.status ≡ 1 = ap (λ (a : Answer). a.status) same in
     absurd (omega arith)
