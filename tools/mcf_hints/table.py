@@ -47,6 +47,9 @@ TABLE = (
          "no demand is left, since each has amount 0 or ends in its own node, mostly in a file that has links alone"),
     _row("refused net TooLong", "the network file is over 64 MiB, mostly by sections that are skipped anyway: take them out"),
     _row("refused work W",
+         "links times demands times phases are over 2,097,152, so --phases has to be less, or left out; where it is, the network is "
+         "too large to be solved once for each link, and sweep tells what a certificate is worth without each", 4, "sweepsolve"),
+    _row("refused work W",
          "demands times phases are over 2,097,152, so with so many demands --phases has to be less, or left out", 5),
     _row("refused cert K1 line 1",
          "this is no certificate: another file, a routing, which whatif does not take, or line ends as on Windows, which sed "
@@ -54,6 +57,9 @@ TABLE = (
     _row("refused cert K1 line 1",
          "this is no certificate: another file, a routing, which upgrade does not take, or line ends as on Windows, which sed "
          "'s/\\r$//' mends", of="upgrade"),
+    _row("refused cert K1 line 1",
+         "this is no certificate: another file, a routing, which sweep does not take, or line ends as on Windows, which sed "
+         "'s/\\r$//' mends", of="sweep"),
     _row("refused cert K1 line 1",
          "this is no certificate and no routing: mostly another file, or line ends as on Windows, which sed 's/\\r$//' mends"),
     _row("refused cert K2 line N", f"the line has not the form that is due there, {_EDITED}"),
@@ -98,6 +104,9 @@ TABLE = (
     _row("verdict open",
          "the phases were spent before both fractions came within the gap; both hold, and more --phases, a smaller --step or a "
          "greater --gap may close it", 5),
+    _row("some link open",
+         "without some link the phases were spent before both fractions came within the gap; all of them hold, and more --phases, "
+         "another --step or a greater --gap may close it", 4),
     _row("status 1", "a condition of the certificate fails; the line on standard output names the first one"),
     _row("status 3", "a file is refused; the line on standard output names the kind of the fault and its line"),
 )

@@ -17,6 +17,8 @@ def line_of(status: int, program: str, words: list[str], request: Request, outpu
     """The line, or `status S` where it cannot be known. Output is a descriptor of the program's standard output."""
     if status == 1 and request.command in ("solve", "trial"):
         return "verdict open"
+    if status == 1 and request.command == "sweepsolve":
+        return "some link open"
     line = _last_line(output) or _asked_again(status, program, words, request)
     return line if line and _LINES[status].fullmatch(line) else f"status {status}"
 

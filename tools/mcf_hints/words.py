@@ -11,6 +11,7 @@ from fractions import Fraction
 MODES = {"--links": ("directed", "undirected", "bidirected"), "--modules": ("none", "largest", "sum")}
 RANGES = {"--phases": (1, 65_536), "--workers": (1, 16), "--step": (1, 1_048_576)}
 OPTIONS = ("--links", "--modules", "--gap", "--phases", "--workers", "--step")
+ONE_WORKER_OPTIONS = tuple(option for option in OPTIONS if option != "--workers")
 FILES = ("NET", "CERT", "SCRIPT")
 DRAWN = {"SEED": (0, 2**64 - 1), "NODES": (2, 512), "LINKS": (2, 4096), "DEMANDS": (1, 32_768)}
 
@@ -31,6 +32,8 @@ COMMANDS = {
     "check": Command(FILES[:2]),
     "whatif": Command(FILES),
     "upgrade": Command(FILES[:2]),
+    "sweep": Command(FILES[:2]),
+    "sweepsolve": Command(FILES[:1], ONE_WORKER_OPTIONS),
     "print": Command(FILES[:1]),
     "gen": Command(tuple(DRAWN)),
     "trial": Command(tuple(DRAWN), OPTIONS),
@@ -106,7 +109,7 @@ def _take_option(name: str, command: Command, seen: set[str], word: str, rest: I
     """One more option, with its value."""
     option, equals, value = word.partition("=")
     if option not in command.options:
-        none = ", which takes none; they are those of solve and trial" if not command.options else _nearest(option, command.options)
+        none = ", which takes none; they are those of solve, sweepsolve and trial" if not command.options else _nearest(option, command.options)
         raise Misfit(f"{shown(option)} is no option of {name}{none}")
     if option in seen:
         raise Misfit(f"{option} stands twice")

@@ -14,7 +14,7 @@ import pytest
 from mcf_hints.hint import USAGE, hint
 from mcf_hints.netfile import kind_of
 from mcf_hints.table import TABLE
-from mcf_hints.words import COMMANDS, OPTIONS, Misfit, read, shown
+from mcf_hints.words import COMMANDS, ONE_WORKER_OPTIONS, OPTIONS, Command, Misfit, read, shown
 from mcf_texts import Program
 
 HEADER = b"?SNDlib native format; type: network; version: 1.0\n"
@@ -35,7 +35,7 @@ DEMANDS (
 # -- words
 
 MISFITS = [
-    ("", "a command has to stand there: solve, check, whatif, upgrade, print, gen or trial"),
+    ("", "a command has to stand there: solve, check, whatif, upgrade, sweep, sweepsolve, print, gen or trial"),
     ("slove n", "`slove` is no command; perhaps solve"),
     ("Solve n", "`Solve` is no command; perhaps solve"),
     ("help slove", "`slove` is no command; perhaps solve"),
@@ -45,6 +45,11 @@ MISFITS = [
     ("whatif n", "CERT and SCRIPT is missing"),
     ("upgrade n", "CERT is missing at the end: upgrade takes NET CERT"),
     ("upgrade a b --links=bidirected", "`--links` is no option of upgrade, which takes none"),
+    ("sweep n", "CERT is missing at the end: sweep takes NET CERT"),
+    ("sweep a b --gap 0.1", "`--gap` is no option of sweep, which takes none"),
+    ("sweepsolve", "NET is missing at the end: sweepsolve takes NET"),
+    ("sweepsolve a b", "`b` is one word too many: sweepsolve takes NET"),
+    ("sweepsolve a --workers 1", "`--workers` is no option of sweepsolve"),
     ("gen 1 2 2", "DEMANDS is missing at the end"),
     ("solve a b", "`b` is one word too many"),
     ("print a --links directed", "`--links` is no option of print, which takes none"),
@@ -78,6 +83,7 @@ FITS = [
     "solve n", "solve -", "solve -- --gap", "solve -- -- ", "solve --gap 0.05 n", "solve n --gap=1e3 --phases=0001 --workers 16",
     "solve n --gap 5e-6", "print x", "whatif a b c", "gen 18446744073709551615 2 2 1", "gen 007 512 4096 32768",
     "trial 1 2 2 1 --step 1048576 --links=directed --modules sum", "solve n --links bidirected", "upgrade a b",
+    "sweep a b", "sweep -- -- -", "sweepsolve n --phases=7 --links bidirected", "sweepsolve --gap 0.1 --step 65536 --modules sum n",
 ]
 
 
@@ -112,7 +118,7 @@ def words_drawn(draw: random.Random) -> list[str]:
     """Words of a command line that is right or nearly so; every file in them is missing."""
     name = draw.choice([*COMMANDS] * 4 + ["help", "--help", ""])
     words = ["no.file"] * len(COMMANDS[name].words if name in COMMANDS and draw.random() < 0.9 else "x" * draw.randrange(5))
-    for option in draw.sample(OPTIONS, draw.randrange(4) if name in ("solve", "trial") else draw.randrange(10) // 9):
+    for option in draw.sample(OPTIONS, draw.randrange(4) if name in ("solve", "sweepsolve", "trial") else draw.randrange(10) // 9):
         value = draw.choice(GOOD[option] if draw.random() < 0.85 else ODD)
         place = draw.randrange(len(words) + 1)
         words[place:place] = draw.choice([[option, value], [f"{option}={value}"]])
@@ -140,9 +146,9 @@ def test_words_are_judged_as_by_the_program(program: Program, tmp_path: Path) ->
 def test_commands_and_options_are_those_of_the_formats(root: Path) -> None:
     text = (root / "docs/formats.md").read_text()
     part = text[text.index("## Words of the command line"):text.index("## Answers")]
-    rows = re.findall(r"^\| `(\w+)` \| ([A-Z ]+) \| (none|those below) \|$", part, re.M)
-    assert {name: (tuple(words.split()), options == "those below") for name, words, options in rows} == {
-        name: (command.words, bool(command.options)) for name, command in COMMANDS.items()}
+    options = {"none": (), "those below": OPTIONS, "those below but `--workers`": ONE_WORKER_OPTIONS}
+    rows = re.findall(r"^\| `(\w+)` \| ([A-Z ]+) \| (none|those below.*) \|$", part, re.M)
+    assert {name: Command(tuple(words.split()), options[said]) for name, words, said in rows} == COMMANDS
     assert tuple(re.findall(r"^\| `(--\w+)` \|", part, re.M)) == OPTIONS
 
 
@@ -221,6 +227,8 @@ trial 1 2 2 1     | 3 | refused work 2129920    | 2,097,152
 check net cert    | 3 | refused cert K1 line 1  | no certificate and no routing
 whatif net cert s | 3 | refused cert K1 line 1  | whatif does not take
 upgrade net cert  | 3 | refused cert K1 line 1  | upgrade does not take
+sweep net cert    | 3 | refused cert K1 line 1  | sweep does not take
+sweepsolve net    | 3 | refused work 2129920    | links times demands
 check net cert    | 3 | refused cert K2 line 4  | form that is due
 check net cert    | 3 | refused cert K3 line 11 | another network
 upgrade net cert  | 3 | refused cert K3 line 11 | a sign stands
@@ -252,6 +260,7 @@ check net cert    | 1 | invalid C9              | lines 9 and 10
 check net cert    | 1 | invalid C10             | verdict
 solve net         | 1 | mcf-certificate 2       | more --phases
 trial 1 2 2 1     | 1 | trial nodes             | more --phases
+sweepsolve net    | 1 | sweep L1 open           | without some link
 check net cert    | 3 | refused cert X9 line 1  | docs/formats.md tells
 check net cert    | 1 | something else          | names the first one
 check net cert    | 3 | something else          | names the kind

@@ -3,7 +3,7 @@ use Rattle.std.specs.Prelude.{◌≡◌, ℕ, List, [], Option, Some, None, slic
 use Rattle.mcf_base.specs.Shelf.{ShelfView}
 use Rattle.mcf_base.specs.Sink.{SinkView}
 use Rattle.mcf_words.specs.declared.request.Command.{Command}
-use Rattle.mcf_words.specs.declared.request.Command.TheVariants.{Solve, Check, WhatIf, Upgrade, Print, Gen, Trial}
+use Rattle.mcf_words.specs.declared.request.Command.TheVariants.{Solve, Check, WhatIf, Upgrade, Sweep, SweepSolve, Print, Gen, Trial}
 use Rattle.mcf_words.specs.declared.request.Request.{Request}
 use Rattle.mcf_words.specs.Request.{request_of}
 use Rattle.run_base.specs.declared.ended.Ended.{Ended}
@@ -16,6 +16,8 @@ use Rattle.run_solves.specs.Drawn.{gen_answer, OfTrial}
 use Rattle.run_certs.specs.Check.{OfCheck}
 use Rattle.run_certs.specs.Upgrade.{OfUpgrade}
 use Rattle.run_certs.specs.WhatIf.{OfWhatIf}
+use Rattle.run_sweeps.specs.Sweep.{OfSweep}
+use Rattle.run_sweeps.specs.SweepSolve.{OfSweepSolve}
 
 -- the file of that place among the words
 abbrev pub file_at : Request → ℕ → List ℕ
@@ -30,6 +32,8 @@ OfCommand Check request old new answer = OfCheck (file_at request 0) (file_at re
 OfCommand Gen request old new answer = Ends (λ given. given ≡ gen_answer request.numbers) old new answer
 OfCommand Trial request old new answer = Ends (OfTrial request) old new answer
 OfCommand Upgrade request old new answer = OfUpgrade (file_at request 0) (file_at request 1) old new answer
+OfCommand Sweep request old new answer = OfSweep (file_at request 0) (file_at request 1) old new answer
+OfCommand SweepSolve request old new answer = OfSweepSolve (file_at request 0) request old new answer
 OfCommand WhatIf request old new answer =
     OfWhatIf (file_at request 0) (file_at request 1) (file_at request 2) old new answer
 

@@ -10,6 +10,7 @@ use mcf_words::{Command, Request, WordsEnd, read_words};
 use run_base::{Ended, Outcome, tell};
 use run_certs::{check, upgrade, whatif_files};
 use run_solves::{gen_net, print, solve_file, trial};
+use run_sweeps::{sweep, sweepsolve};
 use std::alloc::Global;
 use std::thread::Threads;
 
@@ -44,6 +45,17 @@ fn run_command<F: Shelf, K: Sink, G: Gate, R: Threads + Sync>(
             request.names.name(0),
             request.names.name(1),
         ),
+        Command::Sweep => sweep(
+            rt,
+            alloc,
+            shelf,
+            out,
+            request.names.name(0),
+            request.names.name(1),
+        ),
+        Command::SweepSolve => {
+            sweepsolve(rt, alloc, shelf, out, request.names.name(0), request, gate)
+        }
         Command::Print => print(alloc, shelf, out, request.names.name(0)),
         Command::Gen => gen_net(alloc, out, request),
         Command::Trial => trial(rt, alloc, out, request, gate),

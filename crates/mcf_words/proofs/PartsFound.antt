@@ -1,6 +1,6 @@
 -- Items that are read are those of parts.
-use Rattle.std.proofs.Common.{◌≡◌, ◌∙◌, ◌+◌, ◌<◌, ℕ, suc, Bool, cond, true, false, refl, sym, ap, ap₂, subst, arith, List, [], ◌∷◌, ◌++◌, length, take, drop, get_or, Option, Some, None, option_map, All, Contains, codes, take-append-drop, drop-cons}
-use Rattle.std.specs.Prelude.{◌==◌, position, unwrap_or}
+use Rattle.std.proofs.Common.{◌≡◌, ◌∙◌, ◌+◌, ℕ, suc, Bool, true, false, refl, sym, ap, ap₂, subst, arith, List, [], ◌∷◌, ◌++◌, take, drop, get_or, Option, Some, None, All, codes, take-append-drop, drop-cons}
+use Rattle.std.specs.Prelude.{position, unwrap_or}
 use Rattle.std.specs.List.{flat_map, list_any}
 use Rattle.std.specs.Str.{bytes_eq}
 use Rattle.std.proofs.lemmas.Bool.{eqb-true}
@@ -14,7 +14,7 @@ use Rattle.mcf_words.specs.Request.{are_known, options_of}
 use Rattle.mcf_words.proofs.Rows.{text_is}
 use Rattle.mcf_words.specs.Parts.{Part, Plain, Apart, Joined, MayStand, AreParts, ending, words_of, plain_of, settings_of}
 use Rattle.mcf_words.proofs.Basics.{mapped, some_is, none_is}
-use Rattle.mcf_words.proofs.PartsRead.{Text, IsKnown, after, end_step, option_step, plain_step, plain_not_end}
+use Rattle.mcf_words.proofs.PartsRead.{Text, IsKnown, after, end_step, option_step, plain_step}
 
 abbrev IsOrdinary : Part → Type 0
 IsOrdinary (Plain word) = is_option word ≡ false

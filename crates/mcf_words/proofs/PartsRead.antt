@@ -1,14 +1,14 @@
 -- Parts are read as their items.
-use Rattle.std.proofs.Common.{◌≡◌, ◌∙◌, ◌&&◌, ◌+◌, ◌<◌, ◌≤◌, ℕ, suc, Bool, cond, true, false, not, refl, sym, ap, ap₂, arith, List, [], ◌∷◌, ◌++◌, length, take, drop, Option, Some, None, option_map, All, Contains, length-append, codes}
+use Rattle.std.proofs.Common.{◌≡◌, ◌∙◌, ◌&&◌, ◌+◌, ◌<◌, ◌≤◌, ℕ, Bool, cond, true, false, not, refl, sym, ap, ap₂, arith, List, [], ◌∷◌, ◌++◌, length, Option, Some, None, option_map, All, Contains, length-append, codes}
 use Rattle.std.specs.Prelude.{◌==◌, nat_lt, position, unwrap_or}
 use Rattle.std.specs.List.{flat_map, list_all, list_any, position_or_len}
 use Rattle.std.specs.Str.{bytes_eq}
 use Rattle.std.proofs.Math.Seq.{take-append_seam, drop-append-add}
-use Rattle.std.proofs.lemmas.Bool.{and_from, and_parts, false≢true, false_from_ne_true, le-ltb, lt-ltb, ltb-true, not-true, or_parts}
-use Rattle.std.proofs.lemmas.List.Elements.{All-contains, All-head, All-tail, All-nil, All-cons, All-weaker, All-append}
+use Rattle.std.proofs.lemmas.Bool.{and_from, and_parts, false≢true, false_from_ne_true, le-ltb, lt-ltb, not-true, or_parts}
+use Rattle.std.proofs.lemmas.List.Elements.{All-contains, All-head, All-tail, All-nil, All-cons, All-weaker}
 use Rattle.std.proofs.lemmas.List.Sums.{AllPass-from_list_all, list_all-from_AllPass}
 use Rattle.mcf_words.specs.declared.request.Command.{Command}
-use Rattle.mcf_words.specs.declared.request.Command.TheVariants.{Solve, Check, WhatIf, Upgrade, Print, Gen, Trial}
+use Rattle.mcf_words.specs.declared.request.Command.TheVariants.{Solve, Check, WhatIf, Upgrade, Sweep, SweepSolve, Print, Gen, Trial}
 use Rattle.mcf_words.specs.Items.{Items, Open, Waiting, Closed, Setting, Step, no_items, joined, setting_item, word_item, is_end, is_equals, is_option, step_at, step_of, items_from}
 use Rattle.mcf_words.specs.Request.{are_known, options_of}
 use Rattle.mcf_words.proofs.Rows.{text_is}
@@ -32,6 +32,8 @@ all_names Solve = refl
 all_names Check = refl
 all_names WhatIf = refl
 all_names Upgrade = refl
+all_names Sweep = refl
+all_names SweepSolve = refl
 all_names Print = refl
 all_names Gen = refl
 all_names Trial = refl

@@ -1,5 +1,5 @@
 -- Items that do not fit ask for nothing.
-use Rattle.std.proofs.Common.{◌≡◌, ◌∙◌, ◌&&◌, ◌⊎◌, inl, inr, ℕ, Bool, cond, true, false, refl, sym, ap, subst, List, [], ◌∷◌, length, Option, Some, None, option_map, is_some, true≢false}
+use Rattle.std.proofs.Common.{◌≡◌, ◌∙◌, ◌&&◌, ◌||◌, ◌⊎◌, inl, inr, ℕ, Bool, cond, true, false, refl, sym, ap, subst, List, [], ◌∷◌, length, Option, Some, None, option_map, is_some, true≢false}
 use Rattle.std.specs.Prelude.{◌==◌, codes, nat_le, nat_lt}
 use Rattle.std.specs.Char.{is_ascii_digit}
 use Rattle.std.specs.List.{cons_option, list_all, list_any}
@@ -12,11 +12,11 @@ use Rattle.unit_scale.specs.declared.modes.LinkMode.TheVariants.{Undirected}
 use Rattle.unit_scale.specs.declared.modes.ModuleMode.{ModuleMode}
 use Rattle.unit_scale.specs.declared.modes.ModuleMode.TheVariants.{Largest}
 use Rattle.mcf_words.specs.declared.request.Command.{Command}
-use Rattle.mcf_words.specs.declared.request.Command.TheVariants.{Solve, Check, WhatIf, Upgrade, Print, Gen, Trial}
+use Rattle.mcf_words.specs.declared.request.Command.TheVariants.{Solve, Check, WhatIf, Upgrade, Sweep, SweepSolve, Print, Gen, Trial}
 use Rattle.mcf_words.specs.declared.request.Request.{Request}
 use Rattle.mcf_words.specs.Items.{Setting, Items, is_option}
 use Rattle.mcf_words.specs.Values.{choice, gap_of, is_whole, number_in, values_of}
-use Rattle.mcf_words.specs.Request.{◌>>=◌, are_known, choices_of, files_of, numbers_of, options_of, request_from, solver_options}
+use Rattle.mcf_words.specs.Request.{◌>>=◌, are_known, choices_of, files_of, numbers_of, options_of, request_from, one_worker_options, solver_options}
 use Rattle.mcf_words.proofs.Rows.{text_is}
 use Rattle.mcf_words.proofs.Fitting.{Misfits, are_of, is_one_value}
 
@@ -174,6 +174,18 @@ choices_refused command items e = ap (λ o. cond (are_known command items.settin
 no_option : (name : List ℕ) → list_any (bytes_eq name) [] ≡ true → ⊥
 no_option name e = false≢true e
 
+one_more : (a b c d e f : Bool) → (a || (b || (c || (d || (f || false))))) ≡ true → (a || (b || (c || (d || (e || (f || false)))))) ≡ true
+one_more true b c d e f is = refl
+one_more false true c d e f is = refl
+one_more false false true d e f is = refl
+one_more false false false true e f is = refl
+one_more false false false false true f is = refl
+one_more false false false false false f is = is
+
+-- the options of a solve with one worker are among those of a solve
+among_solvers : (name : List ℕ) → list_any (bytes_eq name) one_worker_options ≡ true → list_any (bytes_eq name) solver_options ≡ true
+among_solvers name = one_more (bytes_eq name (codes "--links")) (bytes_eq name (codes "--modules")) (bytes_eq name (codes "--gap")) (bytes_eq name (codes "--phases")) (bytes_eq name (codes "--workers")) (bytes_eq name (codes "--step"))
+
 option_refused : (command : Command) (items : Items) (name : List ℕ) → is_one_value (values_of name items.settings) ≡ false → list_any (bytes_eq name) (options_of command) ≡ true
     → request_from command items ≡ None
 option_refused Solve items name f known = choices_refused Solve items (no_choices items.settings (any_fails items.settings name f known))
@@ -181,6 +193,8 @@ option_refused Trial items name f known = choices_refused Trial items (no_choice
 option_refused Check items name f known = absurd (no_option name known)
 option_refused WhatIf items name f known = absurd (no_option name known)
 option_refused Upgrade items name f known = absurd (no_option name known)
+option_refused Sweep items name f known = absurd (no_option name known)
+option_refused SweepSolve items name f known = choices_refused SweepSolve items (no_choices items.settings (any_fails items.settings name f (among_solvers name known)))
 option_refused Print items name f known = absurd (no_option name known)
 option_refused Gen items name f known = absurd (no_option name known)
 

@@ -20,10 +20,10 @@ use Rattle.unit_scale.specs.Modes.{link_mode_of, module_mode_of}
 use Rattle.unit_scale.specs.declared.modes.LinkMode.TheVariants.{Undirected}
 use Rattle.unit_scale.specs.declared.modes.ModuleMode.TheVariants.{Largest}
 use Rattle.mcf_words.specs.declared.request.Command.{Command}
-use Rattle.mcf_words.specs.declared.request.Command.TheVariants.{Solve, Check, WhatIf, Upgrade, Print, Gen, Trial}
+use Rattle.mcf_words.specs.declared.request.Command.TheVariants.{Solve, Check, WhatIf, Upgrade, Sweep, SweepSolve, Print, Gen, Trial}
 use Rattle.mcf_words.specs.Items.{Items, items_of}
 use Rattle.mcf_words.specs.Parse.{Tells, app_of_names, choices_in, names_of, read_in, request_after, request_in, words_id}
-use Rattle.mcf_words.specs.Request.{◌>>=◌, choices_of, command_of, files_of, numbers_of, options_of, request_from, request_of, solver_options}
+use Rattle.mcf_words.specs.Request.{◌>>=◌, choices_of, command_of, files_of, numbers_of, options_of, request_from, request_of, one_worker_options, solver_options}
 use Rattle.mcf_words.specs.Values.{choice, gap_of, number_in, read_or, single, values_of}
 use Rattle.mcf_words.proofs.Fitting.{HasItems, Suits, at_most_one, dashed, some_values}
 use Rattle.mcf_words.proofs.Table.{has_name, shape}
@@ -33,30 +33,32 @@ use Rattle.mcf_words.proofs.Refusing.{misfits_refused}
 
 -- ---- the command
 
--- what holds of both lists of options holds of each command's
-each : (P : List Text → Type 0) → P solver_options → P [] → (command : Command) → P (options_of command)
-each P solver none Solve = solver
-each P solver none Check = none
-each P solver none WhatIf = none
-each P solver none Upgrade = none
-each P solver none Print = none
-each P solver none Gen = none
-each P solver none Trial = solver
+-- what holds of each list of options holds of each command's
+each : (P : List Text → Type 0) → P solver_options → P one_worker_options → P [] → (command : Command) → P (options_of command)
+each P solver alone none Solve = solver
+each P solver alone none Check = none
+each P solver alone none WhatIf = none
+each P solver alone none Upgrade = none
+each P solver alone none Sweep = none
+each P solver alone none SweepSolve = alone
+each P solver alone none Print = none
+each P solver alone none Gen = none
+each P solver alone none Trial = solver
 
 app_is : (command : Command) → built (app_of_names (names_of command)) ≡ record { top = shape (names_of command); subs = [] }
-app_is = each (λ os. built (app_of_names (map (drop 2) os)) ≡ record { top = shape (map (drop 2) os); subs = [] }) refl refl
+app_is = each (λ os. built (app_of_names (map (drop 2) os)) ≡ record { top = shape (map (drop 2) os); subs = [] }) refl refl refl
 
 free : (command : Command) → is_simple_and_free (app_of_names (names_of command)) ≡ true
-free = each (λ os. is_simple_and_free (app_of_names (map (drop 2) os)) ≡ true) refl refl
+free = each (λ os. is_simple_and_free (app_of_names (map (drop 2) os)) ≡ true) refl refl refl
 
 simple : (command : Command) → is_simple (app_of_names (names_of command)) ≡ true
-simple = each (λ os. is_simple (app_of_names (map (drop 2) os)) ≡ true) refl refl
+simple = each (λ os. is_simple (app_of_names (map (drop 2) os)) ≡ true) refl refl refl
 
 no_words : (command : Command) → has_name (names_of command) words_id ≡ false
-no_words = each (λ os. has_name (map (drop 2) os) words_id ≡ false) refl refl
+no_words = each (λ os. has_name (map (drop 2) os) words_id ≡ false) refl refl refl
 
 options_are : (command : Command) → map dashed (names_of command) ≡ options_of command
-options_are = each (λ os. map dashed (map (drop 2) os) ≡ os) refl refl
+options_are = each (λ os. map dashed (map (drop 2) os) ≡ os) refl refl refl
 
 -- the law, for the command
 agrees : (command : Command) (words : List Text) → AreUtf8 words

@@ -1,6 +1,6 @@
 -- The words for a request spell it.
-use Rattle.std.proofs.Common.{◌≡◌, ◌∙◌, ◌&&◌, ◌*◌, ◌+◌, ◌-◌, ◌^◌, ◌≤◌, ◌<◌, ◌⊎◌, inl, inr, ℕ, suc, Bool, cond, true, false, refl, sym, ap, subst, arith, List, [], ◌∷◌, ◌++◌, append-nil, length, map, take, drop, Option, Some, None, All, Contains, codes, decimal, le-leb, eq-eqb, eqb-true}
-use Rattle.std.specs.Prelude.{◌==◌, nat_le, slice_index, slice_index_or}
+use Rattle.std.proofs.Common.{◌≡◌, ◌∙◌, ◌&&◌, ◌*◌, ◌+◌, ◌-◌, ◌^◌, ◌≤◌, ◌<◌, ◌⊎◌, inl, inr, ℕ, Bool, cond, true, false, refl, sym, ap, subst, arith, List, [], ◌∷◌, ◌++◌, append-nil, length, map, take, drop, Option, Some, None, All, Contains, codes, decimal, le-leb, eq-eqb, eqb-true, true≢false}
+use Rattle.std.specs.Prelude.{◌==◌, nat_le, slice_index_or}
 use Rattle.std.specs.Char.{is_ascii_digit}
 use Rattle.std.specs.Int.{IsInRange}
 use Rattle.std.specs.List.{flat_map, list_all, prefix_len}
@@ -11,19 +11,19 @@ use Rattle.std.proofs.lemmas.Bool.Decides.{nat_tests}
 use Rattle.std.proofs.lemmas.Fmt.{decimal_is_IsNumeral, length-decimal-le}
 use Rattle.std.proofs.lemmas.List.Elements.{All-nil, All-from_recursion, All-map}
 use Rattle.std.proofs.lemmas.Str.Parse.{digit_from_value}
-use Rattle.mcf_limits.specs.declared.TheConstants.{MAX_DECIMALS, MAX_GAP, MAX_NODES, MAX_LINKS, MAX_DEMANDS, MAX_PHASES, MAX_WORKERS, MAX_STEP}
-use Rattle.sndlib_grammar.specs.Number.{Number, behind_digits, behind_whole, front_digits, number_of, plain, with_digits}
+use Rattle.mcf_limits.specs.declared.TheConstants.{DEFAULT_WORKERS, MAX_GAP, MAX_NODES, MAX_LINKS, MAX_DEMANDS, MAX_PHASES, MAX_WORKERS, MAX_STEP}
+use Rattle.sndlib_grammar.specs.Number.{Number, behind_digits, behind_whole, front_digits, number_of, plain}
 use Rattle.unit_scale.specs.Modes.{link_word, module_word}
 use Rattle.mcf_words.specs.declared.request.Command.{Command}
-use Rattle.mcf_words.specs.declared.request.Command.TheVariants.{Solve, Check, WhatIf, Upgrade, Print, Gen, Trial}
+use Rattle.mcf_words.specs.declared.request.Command.TheVariants.{Solve, Check, WhatIf, Upgrade, Sweep, SweepSolve, Print, Gen, Trial}
 use Rattle.mcf_words.specs.declared.request.Request.{Request}
 use Rattle.mcf_words.specs.Items.{Setting}
-use Rattle.mcf_words.specs.Values.{is_whole, values_of}
-use Rattle.mcf_words.specs.Request.{IsBudget, IsWithinLimits, file_count, form_of, options_of, solver_options}
-use Rattle.mcf_words.specs.Parts.{Part, Plain, Apart, Joined, AreParts, MayStand, words_of, plain_of, settings_of}
-use Rattle.mcf_words.specs.WordValues.{IsGapWord, IsNumberWord}
+use Rattle.mcf_words.specs.Values.{values_of}
+use Rattle.mcf_words.specs.Request.{IsBudget, IsWithinLimits, file_count, options_of, one_worker_options, solver_options}
+use Rattle.mcf_words.specs.Parts.{Apart, AreParts, MayStand, words_of, plain_of, settings_of}
+use Rattle.mcf_words.specs.WordValues.{IsGapWord, IsNumberWord, IsPhasesWord, Says}
 use Rattle.mcf_words.specs.Spelled.{IsSpelled, NameFiles, NameNumbers, OptionsSay}
-use Rattle.mcf_words.specs.Words.{AreFour, HasDefaults, IsRequest, gap_word, option_words, options_for, phases_words, plain_for, words_for}
+use Rattle.mcf_words.specs.Words.{AreFour, HasDefaults, IsRequest, gap_word, option_words, options_for, phases_words, plain_for, takes_workers, words_for, workers_words}
 use Rattle.mcf_words.proofs.PartsRead.{IsKnown}
 use Rattle.mcf_words.proofs.Saying.{values_absent, values_once}
 
@@ -86,20 +86,26 @@ abbrev phases_settings : Option ℕ → List Setting
 phases_settings None = []
 phases_settings (Some n) = record { name = codes "--phases"; value = decimal n } ∷ []
 
-abbrev settings_with : Request → Option ℕ → List Setting
-settings_with r phases =
+abbrev workers_settings : Bool → Request → List Setting
+workers_settings true r = record { name = codes "--workers"; value = decimal r.workers } ∷ []
+workers_settings false r = []
+
+abbrev settings_with : Bool → Request → Option ℕ → List Setting
+settings_with workers r phases =
     record { name = codes "--links"; value = link_word r.net.links } ∷ record { name = codes "--modules"; value = module_word r.net.modules }
     ∷ record { name = codes "--gap"; value = gap_word r.gap }
-    ∷ (phases_settings phases ++ record { name = codes "--workers"; value = decimal r.workers } ∷ record { name = codes "--step"; value = decimal r.step } ∷ [])
+    ∷ (phases_settings phases ++ workers_settings workers r ++ record { name = codes "--step"; value = decimal r.step } ∷ [])
 
-abbrev words_with : Request → Option ℕ → List (List ℕ)
-words_with r phases =
+abbrev words_with : Bool → Request → Option ℕ → List (List ℕ)
+words_with workers r phases =
     codes "--links" ∷ link_word r.net.links ∷ codes "--modules" ∷ module_word r.net.modules ∷ codes "--gap" ∷ gap_word r.gap
-    ∷ (phases_words phases ++ codes "--workers" ∷ decimal r.workers ∷ codes "--step" ∷ decimal r.step ∷ [])
+    ∷ (phases_words phases ++ workers_words workers r ++ codes "--step" ∷ decimal r.step ∷ [])
 
-words_apart : (r : Request) (phases : Option ℕ) → flat_map words_of (map Apart (settings_with r phases)) ≡ words_with r phases
-words_apart r None = refl
-words_apart r (Some n) = refl
+words_apart : (workers : Bool) (r : Request) (phases : Option ℕ) → flat_map words_of (map Apart (settings_with workers r phases)) ≡ words_with workers r phases
+words_apart true r None = refl
+words_apart true r (Some n) = refl
+words_apart false r None = refl
+words_apart false r (Some n) = refl
 
 none_plain : (ss : List Setting) → flat_map plain_of (map Apart ss) ≡ []
 none_plain [] = refl
@@ -109,67 +115,89 @@ all_settings : (ss : List Setting) → flat_map settings_of (map Apart ss) ≡ s
 all_settings [] = refl
 all_settings (s ∷ ss) = ap (λ t. s ∷ t) (all_settings ss)
 
--- a command with all options
-record HasAll (c : Command) : Type 0 where
+-- a command with all options, that of workers where it takes it
+record HasAll (workers : Bool) (c : Command) : Type 0 where
   links : Contains (options_of c) (codes "--links")
   modules : Contains (options_of c) (codes "--modules")
   gap : Contains (options_of c) (codes "--gap")
   phases : Contains (options_of c) (codes "--phases")
-  workers : Contains (options_of c) (codes "--workers")
+  works : workers ≡ true → Contains (options_of c) (codes "--workers")
   step : Contains (options_of c) (codes "--step")
 
 -- the place of an option
 place_of : (k : ℕ) (name : List ℕ) → k < 6 → slice_index_or solver_options k name ≡ name → Contains solver_options name
 place_of k name below is = (k, below, is)
 
-by_place : (c : Command) → options_of c ≡ solver_options → HasAll c
+place_alone : (k : ℕ) (name : List ℕ) → k < 5 → slice_index_or one_worker_options k name ≡ name → Contains one_worker_options name
+place_alone k name below is = (k, below, is)
+
+by_place_alone : (c : Command) → options_of c ≡ one_worker_options → HasAll false c
+by_place_alone c is = record {
+  links = at (codes "--links") (place_alone 0 (codes "--links") (omega arith) refl);
+  modules = at (codes "--modules") (place_alone 1 (codes "--modules") (omega arith) refl);
+  gap = at (codes "--gap") (place_alone 2 (codes "--gap") (omega arith) refl);
+  phases = at (codes "--phases") (place_alone 3 (codes "--phases") (omega arith) refl);
+  works = λ e. absurd (true≢false (sym e));
+  step = at (codes "--step") (place_alone 4 (codes "--step") (omega arith) refl);
+}
+  where
+    at : (name : List ℕ) → Contains one_worker_options name → Contains (options_of c) name
+    at name has = subst (λ os. Contains os name) (sym is) has
+
+by_place : (c : Command) → options_of c ≡ solver_options → HasAll true c
 by_place c is = record {
   links = at (codes "--links") (place_of 0 (codes "--links") (omega arith) refl);
   modules = at (codes "--modules") (place_of 1 (codes "--modules") (omega arith) refl);
   gap = at (codes "--gap") (place_of 2 (codes "--gap") (omega arith) refl);
   phases = at (codes "--phases") (place_of 3 (codes "--phases") (omega arith) refl);
-  workers = at (codes "--workers") (place_of 4 (codes "--workers") (omega arith) refl);
+  works = λ e. at (codes "--workers") (place_of 4 (codes "--workers") (omega arith) refl);
   step = at (codes "--step") (place_of 5 (codes "--step") (omega arith) refl);
 }
   where
     at : (name : List ℕ) → Contains solver_options name → Contains (options_of c) name
     at name has = subst (λ os. Contains os name) (sym is) has
 
-known_with : (c : Command) (r : Request) → HasAll c → (phases : Option ℕ) → All (IsKnown c) (settings_with r phases)
-known_with c r has None = All-from_recursion (IsKnown c) (settings_with r None) (has.links, (has.modules, (has.gap, (has.workers, (has.step, tt)))))
-known_with c r has (Some n) = All-from_recursion (IsKnown c) (settings_with r (Some n)) (has.links, (has.modules, (has.gap, (has.phases, (has.workers, (has.step, tt))))))
+known_with : (workers : Bool) (c : Command) (r : Request) → HasAll workers c → (phases : Option ℕ) → All (IsKnown c) (settings_with workers r phases)
+known_with true c r has None = All-from_recursion (IsKnown c) (settings_with true r None) (has.links, (has.modules, (has.gap, (has.works refl, (has.step, tt)))))
+known_with true c r has (Some n) = All-from_recursion (IsKnown c) (settings_with true r (Some n)) (has.links, (has.modules, (has.gap, (has.phases, (has.works refl, (has.step, tt))))))
+known_with false c r has None = All-from_recursion (IsKnown c) (settings_with false r None) (has.links, (has.modules, (has.gap, (has.step, tt))))
+known_with false c r has (Some n) = All-from_recursion (IsKnown c) (settings_with false r (Some n)) (has.links, (has.modules, (has.gap, (has.phases, (has.step, tt)))))
 
 -- options apart, and then `--`
-with_options : (c : Command) (r : Request) (plain : List (List ℕ)) → HasAll c → AreParts c (option_words r ++ codes "--" ∷ plain) plain (settings_with r r.phases)
-with_options c r plain has = record {
-  parts = map Apart (settings_with r r.phases);
+with_options : (workers : Bool) (c : Command) (r : Request) (plain : List (List ℕ)) → HasAll workers c → AreParts c (option_words workers r ++ codes "--" ∷ plain) plain (settings_with workers r r.phases)
+with_options workers c r plain has = record {
+  parts = map Apart (settings_with workers r r.phases);
   last = Some plain;
-  spelled = ap (λ t. t ++ codes "--" ∷ plain) (sym (words_apart r r.phases));
-  stand = All-map (MayStand c) Apart (settings_with r r.phases) (known_with c r has r.phases);
-  positional = ap (λ t. t ++ plain) (sym (none_plain (settings_with r r.phases)));
-  options = sym (all_settings (settings_with r r.phases));
+  spelled = ap (λ t. t ++ codes "--" ∷ plain) (sym (words_apart workers r r.phases));
+  stand = All-map (MayStand c) Apart (settings_with workers r r.phases) (known_with workers c r has r.phases);
+  positional = ap (λ t. t ++ plain) (sym (none_plain (settings_with workers r r.phases)));
+  options = sym (all_settings (settings_with workers r r.phases));
 }
 
 without_options : (c : Command) (plain : List (List ℕ)) → AreParts c (codes "--" ∷ plain) plain []
 without_options c plain = record { parts = []; last = Some plain; spelled = refl; stand = All-nil (MayStand c); positional = refl; options = refl }
 
 abbrev settings_for : Command → Request → List Setting
-settings_for Solve r = settings_with r r.phases
+settings_for Solve r = settings_with true r r.phases
 settings_for Check r = []
 settings_for WhatIf r = []
 settings_for Upgrade r = []
+settings_for Sweep r = []
+settings_for SweepSolve r = settings_with false r r.phases
 settings_for Print r = []
 settings_for Gen r = []
-settings_for Trial r = settings_with r r.phases
+settings_for Trial r = settings_with true r r.phases
 
 parts_for : (c : Command) (r : Request) (plain : List (List ℕ)) → AreParts c (options_for c r ++ codes "--" ∷ plain) plain (settings_for c r)
-parts_for Solve r plain = with_options Solve r plain (by_place Solve refl)
+parts_for Solve r plain = with_options true Solve r plain (by_place Solve refl)
 parts_for Check r plain = without_options Check plain
 parts_for WhatIf r plain = without_options WhatIf plain
 parts_for Upgrade r plain = without_options Upgrade plain
+parts_for Sweep r plain = without_options Sweep plain
+parts_for SweepSolve r plain = with_options false SweepSolve r plain (by_place_alone SweepSolve refl)
 parts_for Print r plain = without_options Print plain
 parts_for Gen r plain = without_options Gen plain
-parts_for Trial r plain = with_options Trial r plain (by_place Trial refl)
+parts_for Trial r plain = with_options true Trial r plain (by_place Trial refl)
 
 -- ---- what the options say
 
@@ -189,23 +217,35 @@ module _ (r : Request) (limits : IsWithinLimits r) where
       let limit : n ≤ MAX_PHASES = budget.1 in
       number_word 1 MAX_PHASES n budget.0 limit (omega arith)
 
-  all_said : (phases : Option ℕ) → r.phases ≡ phases → OptionsSay (settings_with r phases) r
-  all_said None is = record {
-    links = inl (link_word r.net.links, values_once (codes "--links") (link_word r.net.links) (settings_with r None) refl, refl);
-    modules = inl (module_word r.net.modules, values_once (codes "--modules") (module_word r.net.modules) (settings_with r None) refl, refl);
-    gap = inl (gap_word r.gap, values_once (codes "--gap") (gap_word r.gap) (settings_with r None) refl, gap_said);
-    phases = inr (values_absent (codes "--phases") (settings_with r None) refl, is);
-    workers = inl (decimal r.workers, values_once (codes "--workers") (decimal r.workers) (settings_with r None) refl, workers_said);
-    step = inl (decimal r.step, values_once (codes "--step") (decimal r.step) (settings_with r None) refl, step_said);
+  said : (ss : List Setting) → values_of (codes "--links") ss ≡ link_word r.net.links ∷ [] → values_of (codes "--modules") ss ≡ module_word r.net.modules ∷ []
+      → values_of (codes "--gap") ss ≡ gap_word r.gap ∷ [] → values_of (codes "--step") ss ≡ decimal r.step ∷ []
+      → Says (codes "--phases") IsPhasesWord None ss r.phases → Says (codes "--workers") (IsNumberWord 1 MAX_WORKERS) DEFAULT_WORKERS ss r.workers → OptionsSay ss r
+  said ss links modules gap step phases workers = record {
+    links = inl (link_word r.net.links, values_once (codes "--links") (link_word r.net.links) ss links, refl);
+    modules = inl (module_word r.net.modules, values_once (codes "--modules") (module_word r.net.modules) ss modules, refl);
+    gap = inl (gap_word r.gap, values_once (codes "--gap") (gap_word r.gap) ss gap, gap_said);
+    phases = phases;
+    workers = workers;
+    step = inl (decimal r.step, values_once (codes "--step") (decimal r.step) ss step, step_said);
   }
-  all_said (Some n) is = record {
-    links = inl (link_word r.net.links, values_once (codes "--links") (link_word r.net.links) (settings_with r (Some n)) refl, refl);
-    modules = inl (module_word r.net.modules, values_once (codes "--modules") (module_word r.net.modules) (settings_with r (Some n)) refl, refl);
-    gap = inl (gap_word r.gap, values_once (codes "--gap") (gap_word r.gap) (settings_with r (Some n)) refl, gap_said);
-    phases = inl (decimal n, values_once (codes "--phases") (decimal n) (settings_with r (Some n)) refl, (n, is, phases_said n is));
-    workers = inl (decimal r.workers, values_once (codes "--workers") (decimal r.workers) (settings_with r (Some n)) refl, workers_said);
-    step = inl (decimal r.step, values_once (codes "--step") (decimal r.step) (settings_with r (Some n)) refl, step_said);
-  }
+
+  no_phases : (ss : List Setting) → r.phases ≡ None → values_of (codes "--phases") ss ≡ [] → Says (codes "--phases") IsPhasesWord None ss r.phases
+  no_phases ss is none = inr (values_absent (codes "--phases") ss none, is)
+
+  so_many : (ss : List Setting) (n : ℕ) → r.phases ≡ Some n → values_of (codes "--phases") ss ≡ decimal n ∷ [] → Says (codes "--phases") IsPhasesWord None ss r.phases
+  so_many ss n is once = inl (decimal n, values_once (codes "--phases") (decimal n) ss once, (n, is, phases_said n is))
+
+  works : (ss : List Setting) → values_of (codes "--workers") ss ≡ decimal r.workers ∷ [] → Says (codes "--workers") (IsNumberWord 1 MAX_WORKERS) DEFAULT_WORKERS ss r.workers
+  works ss once = inl (decimal r.workers, values_once (codes "--workers") (decimal r.workers) ss once, workers_said)
+
+  works_alone : (ss : List Setting) → r.workers ≡ DEFAULT_WORKERS → values_of (codes "--workers") ss ≡ [] → Says (codes "--workers") (IsNumberWord 1 MAX_WORKERS) DEFAULT_WORKERS ss r.workers
+  works_alone ss is none = inr (values_absent (codes "--workers") ss none, is)
+
+  all_said : (workers : Bool) (phases : Option ℕ) → (workers ≡ false → r.workers ≡ DEFAULT_WORKERS) → r.phases ≡ phases → OptionsSay (settings_with workers r phases) r
+  all_said true None default is = said (settings_with true r None) refl refl refl refl (no_phases (settings_with true r None) is refl) (works (settings_with true r None) refl)
+  all_said true (Some n) default is = said (settings_with true r (Some n)) refl refl refl refl (so_many (settings_with true r (Some n)) n is refl) (works (settings_with true r (Some n)) refl)
+  all_said false None default is = said (settings_with false r None) refl refl refl refl (no_phases (settings_with false r None) is refl) (works_alone (settings_with false r None) (default refl) refl)
+  all_said false (Some n) default is = said (settings_with false r (Some n)) refl refl refl refl (so_many (settings_with false r (Some n)) n is refl) (works_alone (settings_with false r (Some n)) (default refl) refl)
 
   none_said : HasDefaults r → OptionsSay [] r
   none_said is = record {
@@ -217,14 +257,16 @@ module _ (r : Request) (limits : IsWithinLimits r) where
     step = inr (All-nil _, is.step);
   }
 
-  options_said : (c : Command) → (options_of c ≡ [] → HasDefaults r) → OptionsSay (settings_for c r) r
-  options_said Solve none = all_said r.phases refl
-  options_said Check none = none_said (none refl)
-  options_said WhatIf none = none_said (none refl)
-  options_said Upgrade none = none_said (none refl)
-  options_said Print none = none_said (none refl)
-  options_said Gen none = none_said (none refl)
-  options_said Trial none = all_said r.phases refl
+  options_said : (c : Command) → (options_of c ≡ [] → HasDefaults r) → (takes_workers c ≡ false → r.workers ≡ DEFAULT_WORKERS) → OptionsSay (settings_for c r) r
+  options_said Solve none alone = all_said true r.phases (λ e. absurd (true≢false e)) refl
+  options_said Check none alone = none_said (none refl)
+  options_said WhatIf none alone = none_said (none refl)
+  options_said Upgrade none alone = none_said (none refl)
+  options_said Sweep none alone = none_said (none refl)
+  options_said SweepSolve none alone = all_said false r.phases (λ e. alone refl) refl
+  options_said Print none alone = none_said (none refl)
+  options_said Gen none alone = none_said (none refl)
+  options_said Trial none alone = all_said true r.phases (λ e. absurd (true≢false e)) refl
 
 -- ---- positional words
 
@@ -331,6 +373,6 @@ module _ (r : Request) (is : IsRequest r) where
     plain = plain_for r;
     settings = settings_for r.command r;
     parts = parts_for r.command r (plain_for r);
-    options = options_said r is.limits r.command is.options;
+    options = options_said r is.limits r.command is.options is.workers;
     positional = positional_said;
   }

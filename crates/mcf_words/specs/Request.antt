@@ -8,7 +8,7 @@ use Rattle.unit_scale.specs.declared.modes.LinkMode.TheVariants.{Undirected}
 use Rattle.unit_scale.specs.declared.modes.ModuleMode.TheVariants.{Largest}
 use Rattle.unit_scale.specs.declared.options.NetOptions.{NetOptions}
 use Rattle.mcf_words.specs.declared.request.Command.{Command}
-use Rattle.mcf_words.specs.declared.request.Command.TheVariants.{Solve, Check, WhatIf, Upgrade, Print, Gen, Trial}
+use Rattle.mcf_words.specs.declared.request.Command.TheVariants.{Solve, Check, WhatIf, Upgrade, Sweep, SweepSolve, Print, Gen, Trial}
 use Rattle.mcf_words.specs.declared.request.Request.{Request}
 use Rattle.mcf_words.specs.Items.{Setting, Items, items_of}
 use Rattle.mcf_words.specs.Values.{number_in, gap_of, values_of, choice}
@@ -40,8 +40,13 @@ IsWithinLimits r = AreWithinLimits r.gap r.phases r.workers r.step
 abbrev pub AreDrawn : List ℕ → Type 0
 AreDrawn numbers = (2 ≤ slice_index numbers 1) × (slice_index numbers 1 ≤ MAX_NODES) × (slice_index numbers 1 ≤ slice_index numbers 2) × (slice_index numbers 2 ≤ MAX_LINKS) × (1 ≤ slice_index numbers 3) × (slice_index numbers 3 ≤ MAX_DEMANDS)
 
+-- the options of a solve
 abbrev pub solver_options : List (List ℕ)
 solver_options = codes "--links" ∷ codes "--modules" ∷ codes "--gap" ∷ codes "--phases" ∷ codes "--workers" ∷ codes "--step" ∷ []
+
+-- and those of a solve with one worker
+abbrev pub one_worker_options : List (List ℕ)
+one_worker_options = codes "--links" ∷ codes "--modules" ∷ codes "--gap" ∷ codes "--phases" ∷ codes "--step" ∷ []
 
 -- a command's word, how many files it reads, none where it takes numbers, and its options
 pub record Form : Type 0 where
@@ -54,13 +59,15 @@ form_of Solve = record { word = codes "solve"; files = 1; options = solver_optio
 form_of Check = record { word = codes "check"; files = 2; options = [] }
 form_of WhatIf = record { word = codes "whatif"; files = 3; options = [] }
 form_of Upgrade = record { word = codes "upgrade"; files = 2; options = [] }
+form_of Sweep = record { word = codes "sweep"; files = 2; options = [] }
+form_of SweepSolve = record { word = codes "sweepsolve"; files = 1; options = one_worker_options }
 form_of Print = record { word = codes "print"; files = 1; options = [] }
 form_of Gen = record { word = codes "gen"; files = 0; options = [] }
 form_of Trial = record { word = codes "trial"; files = 0; options = solver_options }
 
 -- the commands that there are
 abbrev pub commands : List Command
-commands = Solve ∷ Check ∷ WhatIf ∷ Upgrade ∷ Print ∷ Gen ∷ Trial ∷ []
+commands = Solve ∷ Check ∷ WhatIf ∷ Upgrade ∷ Sweep ∷ SweepSolve ∷ Print ∷ Gen ∷ Trial ∷ []
 
 -- the word is that of the command
 abbrev pub has_word : List ℕ → Command → Bool

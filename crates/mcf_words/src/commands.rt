@@ -22,13 +22,18 @@ pub const STEP: &str = "step";
 
 static SOLVER_OPTIONS: [&str; 6] = [LINKS, MODULES, GAP, PHASES, WORKERS, STEP];
 
+// The options of a solve with one worker.
+static ONE_WORKER_OPTIONS: [&str; 5] = [LINKS, MODULES, GAP, PHASES, STEP];
+
 static NO_OPTIONS: [&str; 0] = [];
 
-static COMMANDS: [Command; 7] = [
+static COMMANDS: [Command; 9] = [
     Command::Solve,
     Command::Check,
     Command::WhatIf,
     Command::Upgrade,
+    Command::Sweep,
+    Command::SweepSolve,
     Command::Print,
     Command::Gen,
     Command::Trial,
@@ -67,6 +72,8 @@ pub fn form_of(command: Command) -> Form
         Command::Check => takes(b"check", 2, NO_OPTIONS.as_slice()),
         Command::WhatIf => takes(b"whatif", 3, NO_OPTIONS.as_slice()),
         Command::Upgrade => takes(b"upgrade", 2, NO_OPTIONS.as_slice()),
+        Command::Sweep => takes(b"sweep", 2, NO_OPTIONS.as_slice()),
+        Command::SweepSolve => takes(b"sweepsolve", 1, ONE_WORKER_OPTIONS.as_slice()),
         Command::Print => takes(b"print", 1, NO_OPTIONS.as_slice()),
         Command::Gen => takes(b"gen", 0, NO_OPTIONS.as_slice()),
         Command::Trial => takes(b"trial", 0, SOLVER_OPTIONS.as_slice()),

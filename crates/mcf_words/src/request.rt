@@ -14,6 +14,8 @@ pub enum Command {
     Check,
     WhatIf,
     Upgrade,
+    Sweep,
+    SweepSolve,
     Print,
     Gen,
     Trial,

@@ -2,8 +2,8 @@
 
 use cert_cases::{CERTIFICATE, ONE_LINK, ROUTING, SIGNED, VALID};
 use run_given::{
-    AMPLE, FREE_LAYOUT, FREE_LAYOUT_PRINTED, File, OPEN, Outside, TWO_LINKS, ample_answer,
-    answer_to, expect,
+    AMPLE, FREE_LAYOUT, FREE_LAYOUT_PRINTED, File, OPEN, OPEN_SWEPT, Outside, TWO_LINKS,
+    ample_answer, answer_to, expect,
 };
 use std::alloc::Global;
 use std::process::Abort;
@@ -53,6 +53,13 @@ const UPGRADE: Run = Run {
     files: &[("net", ONE_LINK), ("cert", CERTIFICATE)],
     text: SIGNED,
     reads: 12,
+};
+
+const SWEEP: Run = Run {
+    words: &["sweep", "net", "cert"],
+    files: &[("net", TWO_LINKS), ("cert", OPEN)],
+    text: OPEN_SWEPT,
+    reads: 13,
 };
 
 const WHAT_IF: Run = Run {
@@ -137,6 +144,12 @@ fn upgrade_fails(rt: HostRuntime) -> Result<(), Fail> {
 }
 
 #[test]
+fn sweep_fails(rt: HostRuntime) -> Result<(), Fail> {
+    reads_fail(&rt, rt.alloc(), &SWEEP)?;
+    writes_fail(&rt, rt.alloc(), &SWEEP)
+}
+
+#[test]
 fn whatif_fails(rt: HostRuntime) -> Result<(), Fail> {
     reads_fail(&rt, rt.alloc(), &WHAT_IF)?;
     writes_fail(&rt, rt.alloc(), &WHAT_IF)?;
@@ -166,7 +179,7 @@ fn second_write_fails(rt: HostRuntime) -> Result<(), Fail> {
 // A read fault whose line cannot be written ends as a write that failed.
 #[test]
 fn read_and_write_fail(rt: HostRuntime) -> Result<(), Fail> {
-    for case in [&CHECK, &PRINT, &SOLVE, &UPGRADE, &WHAT_IF] {
+    for case in [&CHECK, &PRINT, &SOLVE, &UPGRADE, &SWEEP, &WHAT_IF] {
         let outside = Outside {
             failing_read: case.reads,
             failing_write: 6,
@@ -250,7 +263,7 @@ fn files_that_do_not_stand(rt: HostRuntime) -> Result<(), Fail> {
 // A program that always answers want of memory meets its contract, and fails here.
 #[test]
 fn always_memory(rt: HostRuntime) -> Result<(), Fail> {
-    for case in [&CHECK, &PRINT, &SOLVE, &UPGRADE, &WHAT_IF] {
+    for case in [&CHECK, &PRINT, &SOLVE, &UPGRADE, &SWEEP, &WHAT_IF] {
         let given = ample_answer(&rt, rt.alloc(), case.words, case.files)?;
         assert!(&rt; given.is(0, case.text));
     }

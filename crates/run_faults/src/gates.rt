@@ -1,7 +1,7 @@
 //! Runs with two workers, of which a gate holds one: the other goes on meanwhile, over the same loads.
 
 use mcf_base::Gate;
-use run_given::{AMPLE, answer_through};
+use run_given::{AMPLE, TWO_LINKS, answer_through};
 use std::process::Abort;
 use std::sync::atomic::{AtomicBool, AtomicU64, Ordering};
 use std::test::Fail;
@@ -119,5 +119,47 @@ fn a_held_worker_reads_the_shared_loads(rt: HostRuntime) -> Result<(), Fail> {
             b"mcf-certificate 2\nverdict open\nlinks undirected\nmodules largest\nnet nodes 2 cells 2 commodities 2 decimals 0 skipped 0 left 0 hops 0\ngap 0.000000\nphases 2\nscale 7 15\nlower 14/15 0.933333\n"
         )
     );
+    Ok(())
+}
+
+/// Holds the first call until a second one has come, whichever workers call.
+#[derive(Drop)]
+struct Pair {
+    calls: AtomicU64,
+    over: AtomicBool,
+    met: AtomicBool,
+}
+
+impl Pair {
+    fn new() -> Self {
+        Pair {
+            calls: AtomicU64::new(0),
+            over: AtomicBool::new(false),
+            met: AtomicBool::new(false),
+        }
+    }
+}
+
+impl Gate for Pair {
+    fn claimed(&self, _worker: u16, _ticket: u64) {
+        if self.calls.fetch_add(1, Ordering::SeqCst) == 0 {
+            hold(&self.met);
+            self.over.store(true, Ordering::SeqCst);
+        } else if !self.over.load(Ordering::SeqCst) {
+            self.met.store(true, Ordering::SeqCst);
+        }
+    }
+}
+
+/// Two links are solved at the same time: each solve has one phase of one claim, and the first claim is held until the other
+/// solve has claimed.
+#[test]
+fn two_solves_of_a_sweep_meet(rt: HostRuntime) -> Result<(), Fail> {
+    let gate = Pair::new();
+    let words = ["sweepsolve", "net", "--links", "directed"];
+    let given = answer_through(&rt, rt.alloc(), &words, &[("net", TWO_LINKS)], AMPLE, &gate)?;
+    assert!(rt; gate.met.load(Ordering::SeqCst));
+    assert!(rt; gate.calls.load(Ordering::SeqCst) == 2);
+    assert!(rt; given.begins(0, b"sweep L1 closed phases 1 lower 7/10 0.700000 "));
     Ok(())
 }

@@ -18,6 +18,9 @@ pub const WHAT_IF: &[&str] = &["whatif", "net", "cert", "script"];
 /// Writes the certificate of the network in form 2.
 pub const UPGRADE: &[&str] = &["upgrade", "net", "cert"];
 
+/// Closes each link for the certificate of the network.
+pub const SWEEP: &[&str] = &["sweep", "net", "cert"];
+
 /// The words are answered so, where these files stand. A failure names what the row shows.
 pub fn expect<R: Threads + Sync>(
     rt: &R,

@@ -8,11 +8,11 @@ mod running;
 
 pub use edits::{Edit, expect_certs, expect_nets, expect_on_nets};
 pub use expected::{
-    CHECK, PRINT, UPGRADE, WHAT_IF, expect, expect_cert, expect_net, expect_script,
+    CHECK, PRINT, SWEEP, UPGRADE, WHAT_IF, expect, expect_cert, expect_net, expect_script,
 };
 pub use networks::{
     BOTH_ROUTED, BOTH_WAYS, BOTH_WAYS_SOLVED, CUT, CUT_SIGNED, EACH_WAY_ROUTED, FREE_LAYOUT,
-    FREE_LAYOUT_PRINTED, INVALID, NO_CAPACITY, OPEN, THERE_AND_BACK, TWO_LINKS,
+    FREE_LAYOUT_PRINTED, INVALID, NO_CAPACITY, OPEN, OPEN_SWEPT, THERE_AND_BACK, TWO_LINKS,
 };
 pub use running::{
     AMPLE, Answer, File, Outside, ample_answer, answer_through, answer_to, judged, owned_words,

@@ -48,6 +48,10 @@ pub const FREE_LAYOUT_PRINTED: &[u8] =
 pub const OPEN: &[u8] =
     b"mcf-certificate 1\nverdict open\nlinks directed\nmodules largest\nnet nodes 2 cells 2 commodities 1 decimals 0 skipped 0 left 0 hops 0\ngap 0.050000\nphases 1\nscale 7 10\nlower 7/10 0.700000\nupper 20266198323167226/19301141260159260 1.050001\npath D1 10 L2\nlength L1 2251799813685248\nlength L2 1930114126015926\npotential A 0 1930114126015926\nend\n";
 
+/// What that certificate is worth without each link.
+pub const OPEN_SWEPT: &[u8] =
+    b"sweep L1 lower 7/10 0.700000 upper 13510798882111482/19301141260159260 0.700000\nsweep L2 lower 0/10 0.000000 upper 6755399441055744/19301141260159260 0.350001\n";
+
 /// A certificate that says open and is closed.
 pub const INVALID: &[u8] =
     b"mcf-certificate 1\nverdict open\nlinks directed\nmodules largest\nnet nodes 2 cells 1 commodities 1 decimals 0 skipped 0 left 0 hops 0\ngap 0.050000\nphases 1\nscale 10 4\nlower 10/4 2.500000\nupper 45035996273704960/18014398509481984 2.500000\npath D1 4 L1\nlength L1 4503599627370496\npotential A 0 4503599627370496\nend\n";

@@ -1,6 +1,7 @@
 -- What each command answers to accepted files: an answer with status 0 or 1.
 use Rattle.std.proofs.Common.{◌≡◌, ℕ, ◌≤◌, Bool, true, false, List, Some, Result, Ok, Err, inl, inr, ap, subst, sym, ◌∙◌, arith, refl}
 use Rattle.std.specs.Prelude.{◌⊎◌, if◌then◌else◌}
+use Rattle.std.specs.List.{list_all}
 use Rattle.mcf_limits.specs.declared.TheConstants.{MAX_CERT_BYTES, MAX_SCRIPT_BYTES}
 use Rattle.mcf_base.specs.Faults.{Rose}
 use Rattle.mcf_base.specs.Shelf.{Holding, ShelfView, with_file}
@@ -9,6 +10,7 @@ use Rattle.flow_model.specs.Network.{Network}
 use Rattle.flow_paths.specs.declared.certificate.Proof.{Proof}
 use Rattle.flow_paths.specs.Certificate.{IsValid}
 use Rattle.sndlib_grammar.specs.Rows.{NetRows}
+use Rattle.sndlib_grammar.specs.declared.refusal.NetRefusal.{NetRefusal}
 use Rattle.unit_scale.specs.Scaling.{ScaledNet, scaled_of}
 use Rattle.cert_text.specs.declared.papers.Paper.{Paper}
 use Rattle.cert_text.specs.declared.papers.Paper.TheVariants as papers
@@ -42,10 +44,14 @@ use Rattle.run_solves.specs.Print.{OfPrint, printed}
 use Rattle.run_certs.specs.Check.{OnTexts, OfCheck}
 use Rattle.run_solves.specs.Solve.{asked_of, solving_answer, SolvesRows, OfSolve}
 use Rattle.run_certs.specs.Upgrade.{upgrade_answer, OnUpgrade, OfUpgraded, OfUpgrade}
+use Rattle.run_sweeps.specs.Sweep.{sweep_answer, OnSweep, OfSwept, OfSweep}
+use Rattle.run_sweeps.specs.SweepSolve.{solves_answer, sweep_asked_of, SolvesLinks, OnScaled, OnSweepSolve, OfSweepSolve}
+use Rattle.sweep_solver.specs.declared.swept.Swept.{Swept}
+use Rattle.sweep_solver.specs.declared.asked.SweepAsked.{SweepAsked}
 use Rattle.run_certs.specs.WhatIf.{scripted_answer, OnScript, OnCertified, OnCertificate, OfWhatIf}
 use Rattle.run_solves.specs.Drawn.{links_drawn, net_drawn, gen_answer, trial_line, OfTrial}
 use Rattle.mcf_cli.specs.Run.{file_at, OfCommand}
-use Rattle.run_laws.specs.Accepted.{IsSolvable, IsPaperFile, IsScriptFile, AcceptsPrint, AcceptsSolve, AcceptsCheck, AcceptsUpgrade, AcceptsWhatIf, AcceptsTrial, Accepts}
+use Rattle.run_laws.specs.Accepted.{IsSolvable, IsSweepSolvable, IsPaperFile, IsScriptFile, AcceptsPrint, AcceptsSolve, AcceptsSweepSolve, AcceptsCheck, AcceptsUpgrade, AcceptsWhatIf, AcceptsTrial, Accepts}
 use Rattle.run_laws.proofs.Given.{Memories, of_text, of_rows}
 
 -- reading answers one thing
@@ -201,6 +207,43 @@ upgrade_low files request old new answer tells calm (rows, given, net, proof, fi
     (λ on. then_low answer (of_text MAX_CERT_BYTES kinds.Certificate files cert file.text (λ text. Ends (OnUpgrade rows text)) (with_file old first) new answer tells calm file.given on)
     (λ last. ends_low (OnUpgrade rows file.text) (with_file (with_file old first) cert) new answer (λ e. upgrade_text_low files cert rows net proof answer file e) last))
 
+-- ---- sweep
+
+swept_low : (rows : NetRows) (net : ScaledNet) (proof : Proof) (certified : Certified) → CertOnCertificate rows net proof certified → (sweep_answer rows certified).status ≤ 1
+swept_low rows net proof (certs.Valid n p) is = omega arith
+swept_low rows net proof (certs.Said (judges.Invalid fault)) is = omega arith
+swept_low rows net proof (certs.Said (judges.NetRefused x)) is = absurd is
+swept_low rows net proof (certs.Said (judges.CertRefused x)) is = absurd is
+swept_low rows net proof (certs.Said (judges.Feasible o v)) is = absurd is
+swept_low rows net proof (certs.Said (judges.Valid o c l u)) is = absurd is
+
+sweep_text_low : (files : Holding) (name : List ℕ) (rows : NetRows) (net : ScaledNet) (proof : Proof) (answer : Answer) → (file : IsPaperFile files name rows net (papers.Full proof)) → OnSweep rows file.text answer → answer.status ≤ 1
+sweep_text_low files name rows net proof answer file (certified, is, e) =
+    status_is answer (sweep_answer rows certified) e
+    (swept_low rows net proof certified (certificate_of files name rows net proof certified file is))
+
+sweep_low : (files : Holding) (request : Request) (old new : ShelfView) (answer : Answer) → old.holds ≡ Some files → ¬ (Rose old.faults.count new.faults.count)
+    → AcceptsUpgrade files request → OfSweep (file_at request 0) (file_at request 1) old new answer → Low answer
+sweep_low files request old new answer tells calm (rows, given, net, proof, file) of =
+    let first = file_at request 0 in
+    let cert = file_at request 1 in
+    then_low answer (of_rows files first rows (λ rows. OfSwept rows cert) old new answer tells calm given of)
+    (λ on. then_low answer (of_text MAX_CERT_BYTES kinds.Certificate files cert file.text (λ text. Ends (OnSweep rows text)) (with_file old first) new answer tells calm file.given on)
+    (λ last. ends_low (OnSweep rows file.text) (with_file (with_file old first) cert) new answer (λ e. sweep_text_low files cert rows net proof answer file e) last))
+
+-- ---- sweepsolve
+
+links_low : (rows : NetRows) (request : Request) (answer : Answer) → (can : IsSweepSolvable rows request) → SolvesLinks rows (sweep_asked_of request) can.net answer → answer.status ≤ 1
+links_low rows request answer can (inl (n, is, same)) = absurd (can.work n is)
+links_low rows request answer can (inr (swept, are, same)) = status_is answer (solves_answer rows swept) same (verdict_low (list_all (λ (s : Swept). s.closed) swept))
+
+sweepsolve_low : (files : Holding) (request : Request) (old new : ShelfView) (answer : Answer) → old.holds ≡ Some files → ¬ (Rose old.faults.count new.faults.count)
+    → AcceptsSweepSolve files request → OfSweepSolve (file_at request 0) request old new answer → Low answer
+sweepsolve_low files request old new answer tells calm (rows, net, can) of =
+    then_low answer (of_rows files (file_at request 0) rows (λ rows. Ends (OnSweepSolve request rows)) old new answer tells calm net of)
+    (λ on. ends_low (OnSweepSolve request rows) (with_file old (file_at request 0)) new answer
+    (λ e. links_low rows request answer can (subst (λ (r : Result ScaledNet NetRefusal). OnScaled rows (sweep_asked_of request) r answer) can.scaled e)) on)
+
 -- ---- all commands
 
 pub command_low : (command : Command) (files : Holding) (request : Request) (old new : ShelfView) (answer : Answer) → old.holds ≡ Some files → ¬ (Rose old.faults.count new.faults.count)
@@ -209,6 +252,8 @@ command_low commands.Solve files request old new answer tells calm accepts of = 
 command_low commands.Check files request old new answer tells calm accepts of = check_low files request old new answer tells calm accepts of
 command_low commands.WhatIf files request old new answer tells calm accepts of = whatif_low files request old new answer tells calm accepts of
 command_low commands.Upgrade files request old new answer tells calm accepts of = upgrade_low files request old new answer tells calm accepts of
+command_low commands.Sweep files request old new answer tells calm accepts of = sweep_low files request old new answer tells calm accepts of
+command_low commands.SweepSolve files request old new answer tells calm accepts of = sweepsolve_low files request old new answer tells calm accepts of
 command_low commands.Print files request old new answer tells calm accepts of = print_low files request old new answer tells calm accepts of
 command_low commands.Gen files request old new answer tells calm accepts of = ends_low (λ given. given ≡ gen_answer request.numbers) old new answer (λ e. status_is answer (gen_answer request.numbers) e (omega arith)) of
 command_low commands.Trial files request old new answer tells calm accepts of = ends_low (OfTrial request) old new answer (λ e. trial_low request answer accepts e) of

@@ -51,10 +51,14 @@ use Rattle.run_solves.specs.Print.{OfPrint, printed}
 use Rattle.run_certs.specs.Check.{OnTexts, OfCheck}
 use Rattle.run_solves.specs.Solve.{asked_of, solving_answer, SolvesRows, OfSolve}
 use Rattle.run_certs.specs.Upgrade.{upgrade_answer, OnUpgrade, OfUpgraded, OfUpgrade}
+use Rattle.run_sweeps.specs.Sweep.{sweep_answer, OnSweep, OfSwept, OfSweep}
+use Rattle.run_sweeps.specs.SweepSolve.{solves_answer, sweep_asked_of, SolvesLinks, OnScaled, OnSweepSolve, OfSweepSolve}
+use Rattle.sweep_solver.specs.declared.swept.Swept.{Swept}
+use Rattle.sweep_solver.specs.declared.asked.SweepAsked.{SweepAsked}
 use Rattle.run_certs.specs.WhatIf.{scripted_answer, OnScript, OnCertified, OnCertificate, OfWhatIf}
 use Rattle.run_solves.specs.Drawn.{OfTrial}
 use Rattle.mcf_cli.specs.Run.{file_at, OfCommand, OfRequest, IsAnswer, RunEnds}
-use Rattle.run_laws.specs.Accepted.{IsSolvable, IsPaperFile, IsScriptFile, AcceptsPrint, AcceptsSolve, AcceptsCheck, AcceptsUpgrade, AcceptsWhatIf, AcceptsTrial, Accepts, IsAccepted}
+use Rattle.run_laws.specs.Accepted.{IsSolvable, IsSweepSolvable, IsPaperFile, IsScriptFile, AcceptsPrint, AcceptsSolve, AcceptsSweepSolve, AcceptsCheck, AcceptsUpgrade, AcceptsWhatIf, AcceptsTrial, Accepts, IsAccepted}
 use Rattle.run_laws.specs.Whole.{HasNoFault, EndsWhole}
 use Rattle.run_laws.proofs.Given.{not_full, text_of_file, rows_of_file, ends_full}
 use Rattle.run_laws.proofs.Answered.{Low, command_low}
@@ -182,6 +186,9 @@ said_full old new rows script certified answer on full judged e above =
 pub upgrade_full : (rows : NetRows) (certified : Certified) (answer : Answer) → answer ≡ upgrade_answer rows certified → answer.status ≤ 1 → IsNotRefused certified
 upgrade_full rows certified answer same full judged e above = not_full answer (outcomes.Judged judged) (same ∙ ap (upgrade_answer rows) e) full above
 
+pub sweep_full : (rows : NetRows) (certified : Certified) (answer : Answer) → answer ≡ sweep_answer rows certified → answer.status ≤ 1 → IsNotRefused certified
+sweep_full rows certified answer same full judged e above = not_full answer (outcomes.Judged judged) (same ∙ ap (sweep_answer rows) e) full above
+
 not_told : (certified : Certified) → IsNotRefused certified → (r : Refusal) → certified ≡ told r → ⊥
 not_told certified only (Net r) e = only (judges.NetRefused r) e (omega arith)
 not_told certified only (Cert r) e = only (judges.CertRefused r) e (omega arith)
@@ -226,6 +233,32 @@ upgrade_accepts files request old new answer tells full of =
     let p = cert_read r.0 t.0 on.0 on.1 (upgrade_full r.0 on.0 answer on.2 full) in
     (r.0, r.1, p.net, p.proof, record { text = t.0; given = t.1; head = p.head; head_read = p.head_read; scaled = p.scaled; rest_read = p.rest_read })
 
+-- ---- sweep
+
+sweep_accepts : (files : Holding) (request : Request) (old new : ShelfView) (answer : Answer) → old.holds ≡ Some files → answer.status ≤ 1 → OfSweep (file_at request 0) (file_at request 1) old new answer → AcceptsUpgrade files request
+sweep_accepts files request old new answer tells full of =
+    let first = file_at request 0 in
+    let cert = file_at request 1 in
+    let r = rows_of_file files first (λ rows. OfSwept rows cert) old new answer tells full of in
+    let t = text_of_file MAX_CERT_BYTES kinds.Certificate files cert (λ text. Ends (OnSweep r.0 text)) (with_file old first) new answer tells full r.2 in
+    let on : OnSweep r.0 t.0 answer = ends_full (OnSweep r.0 t.0) (with_file (with_file old first) cert) new answer full t.2 in
+    let p = cert_read r.0 t.0 on.0 on.1 (sweep_full r.0 on.0 answer on.2 full) in
+    (r.0, r.1, p.net, p.proof, record { text = t.0; given = t.1; head = p.head; head_read = p.head_read; scaled = p.scaled; rest_read = p.rest_read })
+
+-- ---- sweepsolve
+
+scaled_can : (rows : NetRows) (request : Request) (answer : Answer) (r : Result ScaledNet NetRefusal) → scaled_of rows request.net ≡ r → OnScaled rows (sweep_asked_of request) r answer → answer.status ≤ 1
+    → IsSweepSolvable rows request
+scaled_can rows request answer (Err x) e same full = absurd (not_full answer (outcomes.NetRefused x) same full (omega arith))
+scaled_can rows request answer (Ok net) e (inl (n, is, same)) full = absurd (not_full answer (outcomes.TooMuch n) same full (omega arith))
+scaled_can rows request answer (Ok net) e (inr (swept, are, same)) full = record { net = net; scaled = e; work = are.work }
+
+sweepsolve_accepts : (files : Holding) (request : Request) (old new : ShelfView) (answer : Answer) → old.holds ≡ Some files → answer.status ≤ 1 → OfSweepSolve (file_at request 0) request old new answer → AcceptsSweepSolve files request
+sweepsolve_accepts files request old new answer tells full of =
+    let r = rows_of_file files (file_at request 0) (λ rows. Ends (OnSweepSolve request rows)) old new answer tells full of in
+    let on : OnSweepSolve request r.0 answer = ends_full (OnSweepSolve request r.0) (with_file old (file_at request 0)) new answer full r.2 in
+    (r.0, r.1, scaled_can r.0 request answer (scaled_of r.0 request.net) refl on full)
+
 -- ---- all commands
 
 command_accepts : (command : Command) (files : Holding) (request : Request) (old new : ShelfView) (answer : Answer) → old.holds ≡ Some files → answer.status ≤ 1 → OfCommand command request old new answer → Accepts command files request
@@ -233,6 +266,8 @@ command_accepts commands.Solve files request old new answer tells full of = solv
 command_accepts commands.Check files request old new answer tells full of = check_accepts files request old new answer tells full of
 command_accepts commands.WhatIf files request old new answer tells full of = whatif_accepts files request old new answer tells full of
 command_accepts commands.Upgrade files request old new answer tells full of = upgrade_accepts files request old new answer tells full of
+command_accepts commands.Sweep files request old new answer tells full of = sweep_accepts files request old new answer tells full of
+command_accepts commands.SweepSolve files request old new answer tells full of = sweepsolve_accepts files request old new answer tells full of
 command_accepts commands.Print files request old new answer tells full of = print_accepts files request old new answer tells full of
 command_accepts commands.Gen files request old new answer tells full of = tt
 command_accepts commands.Trial files request old new answer tells full of = trial_accepts request answer full (ends_full (OfTrial request) old new answer full of)

@@ -86,7 +86,7 @@ record IsSolve (files : Holding) (request : Request) (text : List ℕ) (ended : 
 -- ---- the first run
 
 -- the answer of a run that wrote this text and nothing else
-record RunAnswer (command : Command) (most : ℕ) (files : Holding) (request : Request) (text : List ℕ) (ended : Ended) : Type 0 where
+pub record RunAnswer (command : Command) (most : ℕ) (files : Holding) (request : Request) (text : List ℕ) (ended : Ended) : Type 0 where
   pub answer : Answer
   pub old : ShelfView
   pub new : ShelfView
@@ -107,7 +107,7 @@ text_same (Some xs) (Some ys) text answer e f h =
 failed_full : (ended : Ended) → ended ≡ cut_off → ended.status ≤ 1 → ⊥
 failed_full ended e full = let is : ended.status ≡ 5 = ap (λ (x : Ended). x.status) e in omega arith
 
-run_answered : (command : Command) (most : ℕ) (files : Holding) (request : Request) (text : List ℕ) (ended : Ended) → most ≤ 1 → IsRunOf command most files request text ended
+pub run_answered : (command : Command) (most : ℕ) (files : Holding) (request : Request) (text : List ℕ) (ended : Ended) → most ≤ 1 → IsRunOf command most files request text ended
     → RunAnswer command most files request text ended
 run_answered command most files request text ended few run = by run.runs.1 run.runs.2
   where

@@ -4,3 +4,4 @@ pub mod Answered
 pub mod Asked
 pub mod Starting
 pub mod Checking
+pub mod Sweeping

@@ -2,7 +2,7 @@
 use Rattle.std.proofs.Common.{◌≡◌, ℕ, List, [], ◌∷◌, length, refl, arith}
 use Rattle.std.specs.Prelude.{slice_index_or}
 use Rattle.mcf_words.specs.declared.request.Command.{Command}
-use Rattle.mcf_words.specs.declared.request.Command.TheVariants.{Solve, Check, WhatIf, Upgrade, Print, Gen, Trial}
+use Rattle.mcf_words.specs.declared.request.Command.TheVariants.{Solve, Check, WhatIf, Upgrade, Sweep, SweepSolve, Print, Gen, Trial}
 use Rattle.mcf_words.specs.declared.request.Request.{Request}
 use Rattle.mcf_words.specs.Request.{file_count}
 use Rattle.mcf_cli.specs.Run.{file_at}
@@ -13,6 +13,8 @@ files_of Solve request = file_at request 0 ∷ []
 files_of Print request = file_at request 0 ∷ []
 files_of Check request = file_at request 0 ∷ file_at request 1 ∷ []
 files_of Upgrade request = file_at request 0 ∷ file_at request 1 ∷ []
+files_of Sweep request = file_at request 0 ∷ file_at request 1 ∷ []
+files_of SweepSolve request = file_at request 0 ∷ []
 files_of WhatIf request = file_at request 0 ∷ file_at request 1 ∷ file_at request 2 ∷ []
 files_of Gen request = []
 files_of Trial request = []
@@ -46,6 +48,8 @@ names_are Solve request e = one_named request.names e
 names_are Print request e = one_named request.names e
 names_are Check request e = two_named request.names e
 names_are Upgrade request e = two_named request.names e
+names_are Sweep request e = two_named request.names e
+names_are SweepSolve request e = one_named request.names e
 names_are WhatIf request e = three_named request.names e
 names_are Gen request e = none_named request.names e
 names_are Trial request e = none_named request.names e

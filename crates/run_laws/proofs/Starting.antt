@@ -1,6 +1,7 @@
 -- A run starts the files of its words alone, and its status tells what has failed.
 use Rattle.std.proofs.Common.{◌≡◌, ℕ, Bool, true, false, ◌+◌, ◌≤◌, List, [], ◌∷◌, ◌++◌, take, Option, Some, None, Result, Ok, Err, inl, inr, refl, sym, ap, subst, ◌∙◌, append_assoc, arith}
 use Rattle.std.specs.Prelude.{◌⊎◌, if◌then◌else◌}
+use Rattle.std.specs.List.{list_all}
 use Rattle.std.proofs.lemmas.List.{append-nil}
 use Rattle.std.proofs.lemmas.List.Elements.{Contains-append_right}
 use Rattle.std.proofs.Math.Seq.{take-append-add}
@@ -11,6 +12,7 @@ use Rattle.mcf_base.specs.Sink.{SinkView}
 use Rattle.sndlib_grammar.specs.declared.refusal.NetRefusal.{NetRefusal}
 use Rattle.sndlib_grammar.specs.Rows.{NetRows}
 use Rattle.sndlib_grammar.specs.Net.{rows_of}
+use Rattle.unit_scale.specs.Scaling.{ScaledNet, scaled_of}
 use Rattle.cert_judge.specs.declared.judged.Judged.{Judged}
 use Rattle.cert_judge.specs.declared.judged.Judged.TheVariants as judges
 use Rattle.net_solve.specs.declared.solving.Solving.{Solving}
@@ -34,6 +36,10 @@ use Rattle.run_solves.specs.Solve.{SolvesRows, solving_answer}
 use Rattle.run_solves.specs.Drawn.{gen_answer, links_drawn, net_drawn, trial_line, OfTrial}
 use Rattle.run_certs.specs.Check.{OnTexts, judged_answer}
 use Rattle.run_certs.specs.Upgrade.{upgrade_answer, OnUpgrade, OfUpgraded}
+use Rattle.run_sweeps.specs.Sweep.{sweep_answer, OnSweep, OfSwept}
+use Rattle.run_sweeps.specs.SweepSolve.{solves_answer, sweep_asked_of, OnScaled, OnSweepSolve}
+use Rattle.sweep_solver.specs.declared.swept.Swept.{Swept}
+use Rattle.sweep_solver.specs.declared.asked.SweepAsked.{SweepAsked}
 use Rattle.run_certs.specs.WhatIf.{scripted_answer, OnScript, OnCertified, OnCertificate}
 use Rattle.mcf_cli.specs.Run.{file_at, OfCommand, OfRequest, IsAnswer, RunEnds}
 use Rattle.run_laws.specs.Started.{FailsAtOne, Starts, StartsItsFiles, files_in}
@@ -159,6 +165,10 @@ upgrade_low : (rows : NetRows) (certified : Certified) → (upgrade_answer rows 
 upgrade_low rows (certs.Said judged) = judged_low judged
 upgrade_low rows (certs.Valid net proof) = omega arith
 
+sweep_low : (rows : NetRows) (certified : Certified) → (sweep_answer rows certified).status ≤ 3
+sweep_low rows (certs.Said judged) = judged_low judged
+sweep_low rows (certs.Valid net proof) = omega arith
+
 scripted_low : (scripted : Scripted) → (scripted_answer scripted).status ≤ 3
 scripted_low (scripts.Refused r) = omega arith
 scripted_low (scripts.Ready plan script) = omega arith
@@ -167,6 +177,11 @@ trial_calm : (request : Request) (answer : Answer) → OfTrial request answer �
 trial_calm request answer (rows, read, inl (n, is, same)) = same_calm answer (answer_of (outcomes.TooMuch n)) same (omega arith)
 trial_calm request answer (rows, read, inr (s, done, same)) =
     same_calm answer (trial_line (links_drawn request) (net_drawn request).net s) same (verdict_low s.proof.closed)
+
+solves_calm : (rows : NetRows) (asked : SweepAsked) (answer : Answer) (r : Result ScaledNet NetRefusal) → OnScaled rows asked r answer → IsCalm answer
+solves_calm rows asked answer (Err x) same = same_calm answer (answer_of (outcomes.NetRefused x)) same (omega arith)
+solves_calm rows asked answer (Ok net) (inl (n, is, same)) = same_calm answer (answer_of (outcomes.TooMuch n)) same (omega arith)
+solves_calm rows asked answer (Ok net) (inr (swept, are, same)) = same_calm answer (solves_answer rows swept) same (verdict_low (list_all (λ (s : Swept). s.closed) swept))
 
 -- ---- the commands
 
@@ -195,6 +210,15 @@ command_went commands.Upgrade request old new answer of =
     net_went first (cert ∷ []) (λ rows. OfUpgraded rows cert) old new answer
     (λ rows on. file_went MAX_CERT_BYTES kinds.Certificate cert [] (λ text. Ends (OnUpgrade rows text)) (with_file old first) new answer
     (λ text last. ends_went (OnUpgrade rows text) (with_file (with_file old first) cert) new answer (λ u. same_calm answer (upgrade_answer rows u.0) u.2 (upgrade_low rows u.0)) last) on) of
+command_went commands.Sweep request old new answer of =
+    let first = file_at request 0 in
+    let cert = file_at request 1 in
+    net_went first (cert ∷ []) (λ rows. OfSwept rows cert) old new answer
+    (λ rows on. file_went MAX_CERT_BYTES kinds.Certificate cert [] (λ text. Ends (OnSweep rows text)) (with_file old first) new answer
+    (λ text last. ends_went (OnSweep rows text) (with_file (with_file old first) cert) new answer (λ s. same_calm answer (sweep_answer rows s.0) s.2 (sweep_low rows s.0)) last) on) of
+command_went commands.SweepSolve request old new answer of =
+    net_went (file_at request 0) [] (λ rows. Ends (OnSweepSolve request rows)) old new answer
+    (λ rows on. ends_went (OnSweepSolve request rows) (with_file old (file_at request 0)) new answer (λ s. solves_calm rows (sweep_asked_of request) answer (scaled_of rows request.net) s) on) of
 command_went commands.WhatIf request old new answer of =
     let first = file_at request 0 in
     let cert = file_at request 1 in

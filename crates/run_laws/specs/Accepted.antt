@@ -1,5 +1,5 @@
 -- When the words of a run are in the grammar, and each file that it reads is accepted.
-use Rattle.std.specs.Prelude.{◌≡◌, ℕ, List, Some, Ok}
+use Rattle.std.specs.Prelude.{◌≡◌, ℕ, List, length, Some, Ok}
 use Rattle.mcf_limits.specs.declared.TheConstants.{MAX_NET_BYTES, MAX_CERT_BYTES, MAX_SCRIPT_BYTES}
 use Rattle.mcf_base.specs.Shelf.{Holding}
 use Rattle.text_lines.specs.Lines.{lines_of}
@@ -15,10 +15,11 @@ use Rattle.cert_text.specs.declared.papers.Paper.TheVariants.{Full}
 use Rattle.cert_text.specs.Whole.{head_in, paper_in}
 use Rattle.cert_judge.specs.Papers.{options_of}
 use Rattle.net_solve.specs.Asked.{IsTooMuch}
+use Rattle.sweep_solver.specs.Asked.{IsSweepTooMuch}
 use Rattle.script.specs.declared.step.Step.{Step}
 use Rattle.script.specs.Reading.{script_of}
 use Rattle.mcf_words.specs.declared.request.Command.{Command}
-use Rattle.mcf_words.specs.declared.request.Command.TheVariants.{Solve, Check, WhatIf, Upgrade, Print, Gen, Trial}
+use Rattle.mcf_words.specs.declared.request.Command.TheVariants.{Solve, Check, WhatIf, Upgrade, Sweep, SweepSolve, Print, Gen, Trial}
 use Rattle.mcf_words.specs.declared.request.Request.{Request}
 use Rattle.mcf_words.specs.Request.{request_of}
 use Rattle.mcf_base.specs.Reading.{IsText}
@@ -37,6 +38,12 @@ pub record IsSolvable (rows : NetRows) (request : Request) : Type 0 where
   pub net : ScaledNet
   pub scaled : scaled_of rows request.net ≡ Ok net
   pub work : (n : ℕ) → ¬ (IsTooMuch net.net (asked_of request) n)
+
+-- the rows are a network in whole units under the options, and the work of solving it without each link is within its limit
+pub record IsSweepSolvable (rows : NetRows) (request : Request) : Type 0 where
+  pub net : ScaledNet
+  pub scaled : scaled_of rows request.net ≡ Ok net
+  pub work : (n : ℕ) → ¬ (IsSweepTooMuch (length rows.links) (length net.net.commodities) request.phases n)
 
 -- The file of that name is the text of this certificate or routing within its limit, in either form: its head is read, the
 -- rows are this network in whole units under the head's options, and the rest is read with the network's names.
@@ -62,6 +69,11 @@ AcceptsPrint files request = (rows : NetRows) × IsNetFile files (file_at reques
 -- a network that can be solved as asked
 abbrev pub AcceptsSolve : Holding → Request → Type 0
 AcceptsSolve files request = (rows : NetRows) × IsNetFile files (file_at request 0) rows × IsSolvable rows request
+
+-- a network that can be solved as asked without each link
+abbrev pub AcceptsSweepSolve : Holding → Request → Type 0
+AcceptsSweepSolve files request =
+    (rows : NetRows) × IsNetFile files (file_at request 0) rows × IsSweepSolvable rows request
 
 -- a network, and a certificate or routing for it
 abbrev pub AcceptsCheck : Holding → Request → Type 0
@@ -92,6 +104,8 @@ Accepts Solve files request = AcceptsSolve files request
 Accepts Check files request = AcceptsCheck files request
 Accepts WhatIf files request = AcceptsWhatIf files request
 Accepts Upgrade files request = AcceptsUpgrade files request
+Accepts Sweep files request = AcceptsUpgrade files request
+Accepts SweepSolve files request = AcceptsSweepSolve files request
 Accepts Print files request = AcceptsPrint files request
 Accepts Gen files request = Unit {0}
 Accepts Trial files request = AcceptsTrial request

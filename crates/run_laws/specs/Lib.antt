@@ -2,4 +2,5 @@ pub mod Accepted
 pub mod Whole
 pub mod Started
 pub mod Checked
+pub mod Swept
 pub mod Laws

@@ -1,6 +1,7 @@
 //! Laws, each proved for all words, files, outputs and ends of a run.
 
 ghost use Rattle.run_laws.specs.Checked.{SolvedRunsCheck, UpgradedRunsCheck, UpgradedRunsKeep};
+ghost use Rattle.run_laws.specs.Swept.{SweptRunsAreBounds};
 ghost use Rattle.run_laws.specs.Laws.{AcceptedRunsAreWhole, OnlyAcceptedRunsAre, RunsStartTheirFiles};
 
 use cert_inverse::{networks_are_citable, texts_read_exactly, valid_texts_are_judged_valid};
@@ -50,3 +51,9 @@ pub fn upgraded_runs_check()
     texts_read_exactly();
     valid_texts_are_judged_valid();
 }
+
+/// What a run of `sweep` wrote has a line for each link of the network, in link order. On the network with that link closed its
+/// lower fraction is that of a feasible routing, and its upper one bounds every feasible routing.
+pub fn swept_runs_are_bounds()
+    ensures { SweptRunsAreBounds }
+{}

@@ -10,6 +10,10 @@ mod prints;
 #[cfg(test)]
 mod solves;
 #[cfg(test)]
+mod sweep_solves;
+#[cfg(test)]
+mod sweeps;
+#[cfg(test)]
 mod upgrades;
 #[cfg(test)]
 mod usages;

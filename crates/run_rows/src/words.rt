@@ -22,6 +22,7 @@ const FIRST_NAMES: &[(&[&str], &str)] = &[
     (&["check", "-", "cert"], "-"),
     (&["print", "--", "-h"], "-h"),
     (&["upgrade", "-", "cert"], "-"),
+    (&["sweep", "--", "--", "-"], "--"),
 ];
 
 #[test]

@@ -1,6 +1,7 @@
 use Rattle.run_certs.specs.Check.{OfCheck}
 use Rattle.run_certs.specs.Upgrade.{OfUpgrade}
 use Rattle.run_certs.specs.WhatIf.{OfWhatIf}
+use Rattle.run_sweeps.specs.Sweep.{OfSweep}
 use Rattle.mcf_cli.specs.Run.{file_at}
 use Rattle.mcf_cli.proofs.run_words.run_command.Goals as goal
 
@@ -17,6 +18,13 @@ returns-in-Upgrade g c =
     let of : OfUpgrade (file_at c.args.request.now 0) (file_at c.args.request.now 1) (g.F.Shelf.seen c.args.shelf.now) (g.F.Shelf.seen c.upgrade.new.shelf) told.0 =
     rw (c.name-in-Upgrade.ensures, c.name-in-Upgrade-2.ensures) at told.1 in
     rw c.in-Upgrade.is (told.0, of, told.2)
+
+pub returns-in-Sweep : goal.returns-in-Sweep
+returns-in-Sweep g c =
+    let told = c.sweep.ensures in
+    let of : OfSweep (file_at c.args.request.now 0) (file_at c.args.request.now 1) (g.F.Shelf.seen c.args.shelf.now) (g.F.Shelf.seen c.sweep.new.shelf) told.0 =
+    rw (c.name-in-Sweep.ensures, c.name-in-Sweep-2.ensures) at told.1 in
+    rw c.in-Sweep.is (told.0, of, told.2)
 
 pub returns-in-WhatIf : goal.returns-in-WhatIf
 returns-in-WhatIf g c =

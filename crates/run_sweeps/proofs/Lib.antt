@@ -1,0 +1,3 @@
+pub mod Naming
+pub mod Worth
+pub mod Told

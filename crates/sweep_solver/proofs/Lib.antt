@@ -1,0 +1,4 @@
+pub mod Shutting
+pub mod Keeping
+pub mod Gathering
+pub mod Written

@@ -1,0 +1,4 @@
+pub mod Asked
+pub mod Swept
+pub mod Slots
+pub mod Lines

@@ -1,0 +1,41 @@
+//! The solves of a network with each single link closed.
+
+ghost use Rattle.std.specs.Prelude.{◌≤◌, IfOk};
+ghost use Rattle.solver_run.specs.Options.{AreOptions};
+ghost use Rattle.sweep_solver.specs.Asked.{alone};
+ghost use Rattle.sweep_solver.specs.Swept.{AreSwept};
+
+use crate::asked::SweepOptions;
+use crate::slots::{fill_all, gathered};
+use crate::swept::Swept;
+use flow_model::Net;
+use mcf_base::Gate;
+use mcf_limits::MAX_LINKS;
+use std::alloc::{AllocError, Global};
+use std::thread::Threads;
+use unit_scale::LinkMode;
+
+/// For each of so many links, in their order, what is kept of a solve of the network with that link's cells at capacity 0.
+/// Each solve has one worker, and starts no thread of its own. Links are shared out among at most 16 threads, its caller's
+/// among them, and it may wait for its own threads. Certificates are given up once their values are taken. `Err` is for want
+/// of memory. The gate is passed after each claim of each solve.
+pub fn sweep_solve<G: Gate, R: Threads + Sync>(
+    rt: &R,
+    alloc: Global,
+    net: &Net,
+    mode: LinkMode,
+    links: u16,
+    options: &SweepOptions,
+    gate: &G,
+) -> Result<Vec<Swept>, AllocError>
+    requires few { links ≤ MAX_LINKS }
+    requires options { 1 ≤ links → AreOptions net.now (alone options.now) }
+    ensures { IfOk result (λ v. AreSwept mode net.now options.now links v.items) }
+{
+    if links == 0 {
+        return Ok(Vec::new(alloc));
+    }
+    let mut slots = vec![in alloc; None; links as usize]?;
+    fill_all(rt, alloc, net, mode, options, gate, &mut slots);
+    gathered(alloc, &slots)
+}
