@@ -24,7 +24,8 @@ use Rattle.cert_text.specs.declared.opening.Opening.{Opening}
 use Rattle.cert_text.specs.Reading.{Place, at_line, has_more, line_from, next_line, mode_line, rows_from, fixed_line, bytes_of, closing}
 use Rattle.cert_text.specs.Papers.{modes_at, scale_at, opening_at, values_at, dual_at, routing_at, proof_at, form_of, header_of, header, routing_from, proof_from, counted_at, header_by}
 use Rattle.cert_text.specs.Whole.{paper_at, paper_in}
-use Rattle.refusal_laws.specs.PaperKinds.{Role, verdict, links, modules, counts, gap, phases, scale, lower, upper, path, cell, node, last, nothing, StandsAt, EndsWith, AreBeforeRows, BeginsNoRow, IsInOrder, IsRoleFault, Says, IsReason, IsRefusedFor}
+use Rattle.cert_inverse.proofs.HeadTakes.{fixed_takes}
+use Rattle.refusal_laws.specs.PaperKinds.{Role, verdict, links, modules, counts, gap, phases, scale, lower, upper, path, cell, node, last, nothing, StandsAt, EndsWith, AreBeforeRows, BeginsNoRow, AreEnded, IsInOrder, IsRoleFault, Says, IsReason, IsRefusedFor}
 use Rattle.refusal_laws.proofs.Steps.{done, Is, then_is, is_more}
 use Rattle.refusal_laws.proofs.LineReasons.{verdict_fault, links_fault, modules_fault, counts_fault, gap_fault, phases_fault, scale_fault, lower_fault, upper_fault, path_fault, cell_fault, node_fault, last_fault}
 
@@ -157,21 +158,44 @@ module _ (lines : List Line) (sheet : Sheet) (kind : Kind) where
       is_more (Rowed {X = X} lines key R p.at) (Why lines sheet kind) (Rowed {X = X} lines key R n) (Why lines sheet kind) (rows_from key row p.at p.rest)
       (rows_why key row role fault ends R placed p.at p.rest h known (λ m le. stands m (omega (arith, is, le)))) (λ e w. w) (λ y hy. record { at_place = hy.at_place; known = hy.known; far = omega (arith, is, hy.far); next = hy.next })
 
-  behind_end : (p : Place) → At lines p → StandsAt kind nothing p.at → (b : Bool) → Is (λ (u : Unit {0}). Unit {0}) (Why lines sheet kind) (cond b (Err (record { line = p.at; kind = Syntax })) (done tt))
-  behind_end p h stands false = tt
-  behind_end p h stands true = by p.rest h.parts h.more
+  -- the end, read
+  abbrev Ended : ℕ → Unit {0} × Place → Type 0
+  Ended n y = (h : At lines y.1) × AreEnded h.front × (y.1.at ≡ n)
+
+  end_at : (at : ℕ) (rest : List Line) → (h : At lines (record { at = at; rest = rest })) → StandsAt kind last at → ((line : Line) (more : List Line) → rest ≡ line ∷ more → has_more more ≡ true → BeginsNoRow kind h.front line)
+      → Is (Ended (at + 1)) (Why lines sheet kind) (line_from (fixed_line (codes "end")) at rest)
+  unfolding at_next
+  end_at at [] h stands placed = absurd (no_line h.more)
+    where
+      no_line : false ≡ true → ⊥
+      no_line e = cc
+  end_at at (line ∷ rest) h stands placed = by (has_more rest) refl (fixed_line (codes "end") line) refl
+    where
+      by : (b : Bool) → has_more rest ≡ b → (r : Result (Unit {0}) CertKind) → fixed_line (codes "end") line ≡ r
+          → Is (Ended (at + 1)) (Why lines sheet kind) (cond b (at_line at r >>= λ x. done (x, record { at = at + 1; rest = rest })) (Err (record { line = at; kind = Syntax })))
+      by true m (Ok x) e = (at_next lines at line rest h m, (h.front, line, refl, fixed_takes (codes "end") line x e), refl)
+      by true m (Err k) e = record { before = h.front; line = line; after = rest; parts = h.parts; count = h.at; reason = inr (last, stands, placed line rest refl m, last_fault sheet line k e) }
+      by false m r e = record { before = h.front; line = line; after = rest; parts = h.parts; count = h.at; reason = inl (no_more rest m, refl) }
+
+  end_why : (p : Place) → (h : At lines p) → StandsAt kind last p.at → ((line : Line) (more : List Line) → p.rest ≡ line ∷ more → has_more more ≡ true → BeginsNoRow kind h.front line) → Is (Ended (p.at + 1)) (Why lines sheet kind) (next_line (fixed_line (codes "end")) p)
+  unfolding next_line
+  end_why p h stands placed = end_at p.at p.rest h stands placed
+
+  behind_end : (p : Place) → (h : At lines p) → AreEnded h.front → StandsAt kind nothing p.at → (b : Bool) → Is (λ (u : Unit {0}). Unit {0}) (Why lines sheet kind) (cond b (Err (record { line = p.at; kind = Syntax })) (done tt))
+  behind_end p h ended stands false = tt
+  behind_end p h ended stands true = by p.rest h.parts h.more
     where
       by : (rest : List Line) → lines ≡ h.front ++ rest → has_more rest ≡ true → Why lines sheet kind (record { line = p.at; kind = Syntax })
       by [] parts more = absurd cc
-      by (line ∷ rest) parts more = record { before = h.front; line = line; after = rest; parts = parts; count = h.at; reason = inr (nothing, stands, tt, refl) }
+      by (line ∷ rest) parts more = record { before = h.front; line = line; after = rest; parts = parts; count = h.at; reason = inr (nothing, stands, ended, refl) }
 
   closing_why : (n : ℕ) (p : Place) → (h : At lines p) → n ≤ p.at → ((m : ℕ) → n ≤ m → StandsAt kind last m) → ((m : ℕ) → n + 1 ≤ m → StandsAt kind nothing m)
       → ((line : Line) (more : List Line) → p.rest ≡ line ∷ more → has_more more ≡ true → BeginsNoRow kind h.front line) → Is (λ (u : Unit {0}). Unit {0}) (Why lines sheet kind) (closing p)
   unfolding closing
   closing_why n p h is s t placed =
-      go (Reached {X = Unit {0}} lines (p.at + 1)) (λ (u : Unit {0}). Unit {0}) (next_line (fixed_line (codes "end")) p) (λ a. cond (is_full (bytes_of a.1.rest)) (Err (record { line = a.1.at; kind = Syntax })) (done tt))
-      (next_why (fixed_line (codes "end")) last (last_fault sheet) p.at p h refl (s p.at is) placed)
-      (λ a ha. behind_end a.1 ha.0 (t a.1.at (omega (arith, is, ha.1))) (is_full (bytes_of a.1.rest)))
+      go (Ended (p.at + 1)) (λ (u : Unit {0}). Unit {0}) (next_line (fixed_line (codes "end")) p) (λ a. cond (is_full (bytes_of a.1.rest)) (Err (record { line = a.1.at; kind = Syntax })) (done tt))
+      (end_why p h (s p.at is) placed)
+      (λ a ha. behind_end a.1 ha.0 ha.1 (t a.1.at (omega (arith, is, ha.2))) (is_full (bytes_of a.1.rest)))
 
   closed_why : {B : Type 0} (n : ℕ) (p : Place) (value : B) → (h : At lines p) → n ≤ p.at → ((m : ℕ) → n ≤ m → StandsAt kind last m) → ((m : ℕ) → n + 1 ≤ m → StandsAt kind nothing m)
       → ((line : Line) (more : List Line) → p.rest ≡ line ∷ more → has_more more ≡ true → BeginsNoRow kind h.front line) → Is (λ (x : B). Unit {0}) (Why lines sheet kind) (closing p >>= λ u. done value)

@@ -109,7 +109,12 @@ BeginsNoRow Certificate before line =
     × (begins (codes "length") line ≡ true → EndsWith (codes "potential") before)
     × (begins (codes "potential") line ≡ false)
 
--- paths stand before lengths, and these before potentials; the end is no row that may still stand
+-- the last of the lines is the end
+abbrev pub AreEnded : List Line → Type 0
+AreEnded lines = (front : List Line) × (line : Line) × (lines ≡ front ++ line ∷ []) × (join_with_byte 32 line ≡ codes "end")
+
+-- paths stand before lengths, and these before potentials; the end is no row that may still stand, and stands before
+-- what may not stand
 abbrev pub IsInOrder : Kind → Role → List Line → Line → Type 0
 IsInOrder kind path before line = AreBeforeRows kind before ⊎ EndsWith (codes "path") before
 IsInOrder kind cell before line =
@@ -118,6 +123,7 @@ IsInOrder kind node before line =
     ((AreBeforeRows kind before ⊎ EndsWith (codes "path") before) ⊎ EndsWith (codes "length") before)
     ⊎ EndsWith (codes "potential") before
 IsInOrder kind last before line = BeginsNoRow kind before line
+IsInOrder kind nothing before line = AreEnded before
 IsInOrder kind role before line = Unit {0}
 
 -- the first line says this
