@@ -1,0 +1,15 @@
+pub mod Heads
+pub mod Judged
+pub mod LineKinds
+pub mod LineReasons
+pub mod Near
+pub mod NearPapers
+pub mod Networks
+pub mod Reasons
+pub mod Short
+pub mod ShortPapers
+pub mod Steps
+pub mod Stops
+pub mod Stuck
+pub mod TokenKinds
+pub mod Tokens

@@ -1,0 +1,258 @@
+-- Why a certificate or routing is refused at a line.
+use Rattle.std.proofs.Common.{◌≡◌, ◌⊎◌, ℕ, ◌+◌, ◌≤◌, Bool, true, false, cond, List, [], ◌∷◌, ◌++◌, length, Option, Some, None, Result, Ok, Err, refl, sym, subst, ◌∙◌, append_assoc, length-append, inl, inr, arith}
+use Rattle.std.specs.Prelude.{codes, ◌&&◌}
+use Rattle.text_lines.specs.Lines.{Line}
+use Rattle.flow_model.specs.Routing.{Row}
+use Rattle.flow_paths.specs.DualRows.{DualRows, Length, Potential}
+use Rattle.flow_paths.specs.declared.certificate.Routing.{Routing}
+use Rattle.flow_paths.specs.declared.certificate.Printed.{Printed}
+use Rattle.flow_paths.specs.declared.certificate.Proof.{Proof}
+use Rattle.gap_fraction.specs.declared.fraction.TheConstants.{MAX_PART}
+use Rattle.mcf_limits.specs.declared.TheConstants.{MAX_LENGTH}
+use Rattle.cert_lines.specs.Sheet.{Sheet, Sheets, sheet_for}
+use Rattle.cert_lines.specs.declared.refusal.CertKind.{CertKind}
+use Rattle.cert_lines.specs.declared.refusal.CertKind.TheVariants.{Syntax}
+use Rattle.cert_lines.specs.declared.refusal.CertRefusal.{CertRefusal}
+use Rattle.cert_lines.specs.Forms.{◌>>=◌, begins, is_full}
+use Rattle.cert_lines.specs.HeadLines.{verdict_line, counts_line, gap_line, phases_line, scale_line, value_line}
+use Rattle.cert_lines.specs.Rows.{path_row, length_row, potential_row}
+use Rattle.cert_text.specs.declared.papers.Paper.{Paper}
+use Rattle.cert_text.specs.declared.papers.Paper.TheVariants as papers
+use Rattle.cert_text.specs.declared.opening.Kind.{Kind}
+use Rattle.cert_text.specs.declared.opening.Kind.TheVariants as kinds
+use Rattle.cert_text.specs.declared.opening.Opening.{Opening}
+use Rattle.cert_text.specs.Reading.{Place, at_line, has_more, line_from, next_line, mode_line, rows_from, fixed_line, bytes_of, closing}
+use Rattle.cert_text.specs.Papers.{modes_at, scale_at, opening_at, values_at, dual_at, routing_at, proof_at, form_of, header_of, header, routing_from, proof_from, counted_at, header_by}
+use Rattle.cert_text.specs.Whole.{paper_at, paper_in}
+use Rattle.refusal_laws.specs.PaperKinds.{Role, verdict, links, modules, counts, gap, phases, scale, lower, upper, path, cell, node, last, nothing, StandsAt, IsRoleFault, Says, IsReason, IsRefusedFor}
+use Rattle.refusal_laws.proofs.Steps.{done, Is, then_is, is_more}
+use Rattle.refusal_laws.proofs.LineReasons.{verdict_fault, links_fault, modules_fault, counts_fault, gap_fault, phases_fault, scale_fault, lower_fault, upper_fault, path_fault, cell_fault, node_fault, last_fault}
+
+-- the place stands behind lines of the text, and a line follows
+record At (lines : List Line) (p : Place) : Type 0 where
+  front : List Line
+  parts : lines ≡ front ++ p.rest
+  at : p.at ≡ length front + 1
+  more : has_more p.rest ≡ true
+
+-- why a line behind the first one is refused
+record Why (lines : List Line) (sheet : Sheet) (kind : Kind) (e : CertRefusal) : Type 0 where
+  before : List Line
+  line : Line
+  after : List Line
+  parts : lines ≡ before ++ line ∷ after
+  count : e.line ≡ length before + 1
+  reason : ((after ≡ []) × (e.kind ≡ Syntax)) ⊎ ((role : Role) × StandsAt kind role e.line × IsRoleFault sheet role line e.kind)
+
+no_more : (lines : List Line) → has_more lines ≡ false → lines ≡ []
+no_more [] h = refl
+no_more (line ∷ lines) h = absurd cc
+
+at_next : (lines : List Line) (at : ℕ) (line : Line) (rest : List Line) → At lines (record { at = at; rest = line ∷ rest }) → has_more rest ≡ true → At lines (record { at = at + 1; rest = rest })
+at_next lines at line rest h more = record {
+  front = h.front ++ line ∷ [];
+  parts = h.parts ∙ sym (append_assoc h.front (line ∷ []) rest);
+  at = omega (arith, h.at, length-append h.front (line ∷ []));
+  more = more;
+}
+
+-- the place of that number was reached, or a later one
+abbrev Reached : {X : Type 0} → List Line → ℕ → X × Place → Type 0
+Reached lines n y = At lines y.1 × (y.1.at ≡ n)
+
+abbrev Behind : {X : Type 0} → List Line → ℕ → X × Place → Type 0
+Behind lines n y = At lines y.1 × (n ≤ y.1.at)
+
+module _ (lines : List Line) (sheet : Sheet) (kind : Kind) where
+  line_why : {X : Type 0} (read : Line → Result X CertKind) (role : Role) → ((line : Line) (k : CertKind) → read line ≡ Err k → IsRoleFault sheet role line k) → (at : ℕ) (rest : List Line) → At lines (record { at = at; rest = rest }) → StandsAt kind role at
+      → Is (Reached {X = X} lines (at + 1)) (Why lines sheet kind) (line_from read at rest)
+  line_why read role fault at [] h stands = absurd (no_line h.more)
+    where
+      no_line : false ≡ true → ⊥
+      no_line e = cc
+  line_why {X} read role fault at (line ∷ rest) h stands = by (has_more rest) refl (read line) refl
+    where
+      by : (b : Bool) → has_more rest ≡ b → (r : Result X CertKind) → read line ≡ r
+          → Is (Reached {X = X} lines (at + 1)) (Why lines sheet kind) (cond b (at_line at r >>= λ x. done (x, record { at = at + 1; rest = rest })) (Err (record { line = at; kind = Syntax })))
+      by true m (Ok x) e = (at_next lines at line rest h m, refl)
+      by true m (Err k) e = record { before = h.front; line = line; after = rest; parts = h.parts; count = h.at; reason = inr (role, stands, fault line k e) }
+      by false m r e = record { before = h.front; line = line; after = rest; parts = h.parts; count = h.at; reason = inl (no_more rest m, refl) }
+
+  next_why : {X : Type 0} (read : Line → Result X CertKind) (role : Role) → ((line : Line) (k : CertKind) → read line ≡ Err k → IsRoleFault sheet role line k) → (n : ℕ) (p : Place) → At lines p → p.at ≡ n → StandsAt kind role n
+      → Is (Reached {X = X} lines (n + 1)) (Why lines sheet kind) (next_line read p)
+  unfolding next_line
+  next_why {X} read role fault n p h is stands = subst (λ (m : ℕ). Is (Reached {X = X} lines (m + 1)) (Why lines sheet kind) (line_from read p.at p.rest)) is (line_why read role fault p.at p.rest h (subst (StandsAt kind role) (sym is) stands))
+
+  rows_why : {X : Type 0} (key : List ℕ) (row : Line → Result X CertKind) (role : Role) → ((line : Line) (k : CertKind) → begins key line ≡ true → row line ≡ Err k → IsRoleFault sheet role line k) → (at : ℕ) (rest : List Line) → At lines (record { at = at; rest = rest })
+      → ((n : ℕ) → at ≤ n → StandsAt kind role n) → Is (Behind {X = List X} lines at) (Why lines sheet kind) (rows_from key row at rest)
+  unfolding rows_from
+  rows_why key row role fault at [] h stands = absurd (no_line h.more)
+    where
+      no_line : false ≡ true → ⊥
+      no_line e = cc
+  rows_why {X} key row role fault at (line ∷ rest) h stands = by (λ m. rows_why key row role fault (at + 1) rest (at_next lines at line rest h m) (λ n le. stands n (omega arith))) (has_more rest) refl (begins key line) refl (row line) refl
+    where
+      tail : (x : X) (more : Result (List X × Place) CertRefusal) → Is (Behind {X = List X} lines (at + 1)) (Why lines sheet kind) more → Is (Behind {X = List X} lines at) (Why lines sheet kind) (more >>= λ m. done (x ∷ m.0, m.1))
+      tail x (Ok m) k = (k.0, omega (arith, k.1))
+      tail x (Err e) k = k
+
+      by : (has_more rest ≡ true → Is (Behind {X = List X} lines (at + 1)) (Why lines sheet kind) (rows_from key row (at + 1) rest)) → (b : Bool) → has_more rest ≡ b → (c : Bool) → begins key line ≡ c → (r : Result X CertKind) → row line ≡ r
+          → Is (Behind {X = List X} lines at) (Why lines sheet kind) (cond (b && c) (at_line at r >>= λ x. rows_from key row (at + 1) rest >>= λ m. done (x ∷ m.0, m.1)) (done ([], record { at = at; rest = line ∷ rest })))
+      by more true m true c (Ok x) e = tail x (rows_from key row (at + 1) rest) (more m)
+      by more true m true c (Err k) e = record { before = h.front; line = line; after = rest; parts = h.parts; count = h.at; reason = inr (role, stands at (omega arith), fault line k c e) }
+      by more true m false c r e = (h, omega arith)
+      by more false m b c r e = (h, omega arith)
+
+  go : {A B : Type 0} (ok : A → Type 0) (ok' : B → Type 0) (r : Result A CertRefusal) (g : A → Result B CertRefusal) → Is ok (Why lines sheet kind) r → ((x : A) → ok x → Is ok' (Why lines sheet kind) (g x)) → Is ok' (Why lines sheet kind) (r >>= g)
+  go ok ok' r g h next = then_is ok (Why lines sheet kind) ok' (Why lines sheet kind) r g h (λ e w. w) next
+
+  -- ---- parts
+
+  modes_why : (n : ℕ) (p : Place) → At lines p → p.at ≡ n → StandsAt kind links n → StandsAt kind modules (n + 1) → Is (λ q. At lines q × (q.at ≡ n + 1 + 1)) (Why lines sheet kind) (modes_at sheet p)
+  unfolding modes_at
+  modes_why n p h is s t =
+      let link = mode_line (codes "links") sheet.link_mode in
+      let module_of = mode_line (codes "modules") sheet.module_mode in
+      go (Reached {X = Unit {0}} lines (n + 1)) (λ q. At lines q × (q.at ≡ n + 1 + 1)) (next_line link p) (λ a. next_line module_of a.1 >>= λ b. done b.1) (next_why link links (links_fault sheet) n p h is s)
+      (λ a ha. go (Reached {X = Unit {0}} lines (n + 1 + 1)) (λ q. At lines q × (q.at ≡ n + 1 + 1)) (next_line module_of a.1) (λ b. done b.1) (next_why module_of modules (modules_fault sheet) (n + 1) a.1 ha.0 ha.1 t) (λ b hb. hb))
+
+  scale_why : (n : ℕ) (p : Place) → At lines p → p.at ≡ n → StandsAt kind phases n → StandsAt kind scale (n + 1) → Is (Reached {X = ℕ × (ℕ × ℕ)} lines (n + 1 + 1)) (Why lines sheet kind) (scale_at p)
+  unfolding scale_at
+  scale_why n p h is s t =
+      go (Reached {X = ℕ} lines (n + 1)) (Reached {X = ℕ × (ℕ × ℕ)} lines (n + 1 + 1)) (next_line phases_line p) (λ a. next_line scale_line a.1 >>= λ b. done ((a.0, b.0), b.1)) (next_why phases_line phases (phases_fault sheet) n p h is s)
+      (λ a ha. go (Reached {X = ℕ × ℕ} lines (n + 1 + 1)) (Reached {X = ℕ × (ℕ × ℕ)} lines (n + 1 + 1)) (next_line scale_line a.1) (λ b. done ((a.0, b.0), b.1)) (next_why scale_line scale (scale_fault sheet) (n + 1) a.1 ha.0 ha.1 t) (λ b hb. hb))
+
+  values_why : (n : ℕ) (p : Place) → At lines p → p.at ≡ n → StandsAt kind lower n → StandsAt kind upper (n + 1) → Is (Reached {X = Printed × Printed} lines (n + 1 + 1)) (Why lines sheet kind) (values_at p)
+  unfolding values_at
+  values_why n p h is s t =
+      let low = value_line (codes "lower") MAX_LENGTH in
+      let high = value_line (codes "upper") MAX_PART in
+      go (Reached {X = Printed} lines (n + 1)) (Reached {X = Printed × Printed} lines (n + 1 + 1)) (next_line low p) (λ a. next_line high a.1 >>= λ b. done ((a.0, b.0), b.1)) (next_why low lower (lower_fault sheet) n p h is s)
+      (λ a ha. go (Reached {X = Printed} lines (n + 1 + 1)) (Reached {X = Printed × Printed} lines (n + 1 + 1)) (next_line high a.1) (λ b. done ((a.0, b.0), b.1)) (next_why high upper (upper_fault sheet) (n + 1) a.1 ha.0 ha.1 t) (λ b hb. hb))
+
+  rows_from_on : {X : Type 0} (key : List ℕ) (row : Line → Result X CertKind) (role : Role) → ((line : Line) (k : CertKind) → begins key line ≡ true → row line ≡ Err k → IsRoleFault sheet role line k) → (n : ℕ) (p : Place) → At lines p → n ≤ p.at
+      → ((m : ℕ) → n ≤ m → StandsAt kind role m) → Is (Behind {X = List X} lines n) (Why lines sheet kind) (rows_from key row p.at p.rest)
+  rows_from_on {X} key row role fault n p h is stands =
+      is_more (Behind {X = List X} lines p.at) (Why lines sheet kind) (Behind {X = List X} lines n) (Why lines sheet kind) (rows_from key row p.at p.rest)
+      (rows_why key row role fault p.at p.rest h (λ m le. stands m (omega (arith, is, le)))) (λ e w. w) (λ y hy. (hy.0, omega (arith, is, hy.1)))
+
+  dual_why : (n : ℕ) (p : Place) → At lines p → n ≤ p.at → ((m : ℕ) → n ≤ m → StandsAt kind cell m) → ((m : ℕ) → n ≤ m → StandsAt kind node m) → Is (Behind {X = DualRows} lines n) (Why lines sheet kind) (dual_at sheet p)
+  unfolding dual_at
+  dual_why n p h is s t =
+      let made = λ (ls : List Length) (ps : List Potential × Place). done {A = DualRows × Place} {E = CertRefusal} (record { lengths = ls; potentials = ps.0 }, ps.1) in
+      go (Behind {X = List Length} lines n) (Behind {X = DualRows} lines n) (rows_from (codes "length") (length_row sheet) p.at p.rest) (λ a. rows_from (codes "potential") (potential_row sheet) a.1.at a.1.rest >>= λ b. made a.0 b)
+      (rows_from_on (codes "length") (length_row sheet) cell (cell_fault sheet) n p h is s)
+      (λ a ha. go (Behind {X = List Potential} lines n) (Behind {X = DualRows} lines n) (rows_from (codes "potential") (potential_row sheet) a.1.at a.1.rest) (λ b. made a.0 b)
+      (rows_from_on (codes "potential") (potential_row sheet) node (node_fault sheet) n a.1 ha.0 ha.1 t) (λ b hb. hb))
+
+  behind_end : (p : Place) → At lines p → StandsAt kind nothing p.at → (b : Bool) → Is (λ (u : Unit {0}). Unit {0}) (Why lines sheet kind) (cond b (Err (record { line = p.at; kind = Syntax })) (done tt))
+  behind_end p h stands false = tt
+  behind_end p h stands true = by p.rest h.parts h.more
+    where
+      by : (rest : List Line) → lines ≡ h.front ++ rest → has_more rest ≡ true → Why lines sheet kind (record { line = p.at; kind = Syntax })
+      by [] parts more = absurd cc
+      by (line ∷ rest) parts more = record { before = h.front; line = line; after = rest; parts = parts; count = h.at; reason = inr (nothing, stands, refl) }
+
+  closing_why : (n : ℕ) (p : Place) → At lines p → n ≤ p.at → ((m : ℕ) → n ≤ m → StandsAt kind last m) → ((m : ℕ) → n + 1 ≤ m → StandsAt kind nothing m) → Is (λ (u : Unit {0}). Unit {0}) (Why lines sheet kind) (closing p)
+  unfolding closing
+  closing_why n p h is s t =
+      go (Reached {X = Unit {0}} lines (p.at + 1)) (λ (u : Unit {0}). Unit {0}) (next_line (fixed_line (codes "end")) p) (λ a. cond (is_full (bytes_of a.1.rest)) (Err (record { line = a.1.at; kind = Syntax })) (done tt))
+      (next_why (fixed_line (codes "end")) last (last_fault sheet) p.at p h refl (s p.at is))
+      (λ a ha. behind_end a.1 ha.0 (t a.1.at (omega (arith, is, ha.1))) (is_full (bytes_of a.1.rest)))
+
+  closed_why : {B : Type 0} (n : ℕ) (p : Place) (value : B) → At lines p → n ≤ p.at → ((m : ℕ) → n ≤ m → StandsAt kind last m) → ((m : ℕ) → n + 1 ≤ m → StandsAt kind nothing m) → Is (λ (x : B). Unit {0}) (Why lines sheet kind) (closing p >>= λ u. done value)
+  closed_why {B} n p value h is s t = go (λ (u : Unit {0}). Unit {0}) (λ (x : B). Unit {0}) (closing p) (λ u. done value) (closing_why n p h is s t) (λ u k. tt)
+
+  paths_on : (n : ℕ) (p : Place) → At lines p → n ≤ p.at → ((m : ℕ) → n ≤ m → StandsAt kind path m) → Is (Behind {X = List Row} lines n) (Why lines sheet kind) (rows_from (codes "path") (path_row sheet) p.at p.rest)
+  paths_on n p h is stands = rows_from_on (codes "path") (path_row sheet) path (path_fault sheet) n p h is stands
+
+-- ---- what follows the header
+
+abbrev routing_made : ℕ × (ℕ × ℕ) → List Row → Routing
+routing_made s ps = record { phases = s.0; scale_cap = s.1.0; scale_load = s.1.1; paths = ps }
+
+routing_why : (lines : List Line) (sheet : Sheet) (p : Place) → At lines p → p.at ≡ 2 → Is (λ (r : Routing). Unit {0}) (Why lines sheet kinds.Routing) (routing_at sheet p)
+unfolding routing_at routing_from
+routing_why lines sheet p h is =
+    let kind = kinds.Routing in
+    let ok = λ (r : Routing). Unit {0} in
+    go lines sheet kind (λ q. At lines q × (q.at ≡ 4)) ok (modes_at sheet p) (λ m. scale_at m >>= λ s. rows_from (codes "path") (path_row sheet) s.1.at s.1.rest >>= λ ps. closing ps.1 >>= λ u. done (routing_made s.0 ps.0)) (modes_why lines sheet kind 2 p h is refl refl)
+    (λ m hm. go lines sheet kind (Reached {X = ℕ × (ℕ × ℕ)} lines 6) ok (scale_at m) (λ s. rows_from (codes "path") (path_row sheet) s.1.at s.1.rest >>= λ ps. closing ps.1 >>= λ u. done (routing_made s.0 ps.0)) (scale_why lines sheet kind 4 m hm.0 hm.1 refl refl)
+    (λ s hs. go lines sheet kind (Behind {X = List Row} lines 6) ok (rows_from (codes "path") (path_row sheet) s.1.at s.1.rest) (λ ps. closing ps.1 >>= λ u. done (routing_made s.0 ps.0)) (paths_on lines sheet kind 6 s.1 hs.0 (omega (arith, hs.1)) (λ m le. le))
+    (λ ps hp. closed_why lines sheet kind 6 ps.1 (routing_made s.0 ps.0) hp.0 hp.1 (λ m le. le) (λ m le. le))))
+
+abbrev proof_made : Bool × ℕ → ℕ × (ℕ × ℕ) → Printed × Printed → List Row → DualRows → Proof
+proof_made o s v ps d = record {
+  closed = o.0;
+  gap = o.1;
+  routing = routing_made s ps;
+  lower = v.0;
+  upper = v.1;
+  dual = d;
+}
+
+opening_why : (lines : List Line) (sheet : Sheet) (p : Place) → At lines p → p.at ≡ 2 → Is (Reached {X = Bool × ℕ} lines 7) (Why lines sheet kinds.Certificate) (opening_at sheet p)
+unfolding opening_at counted_at
+opening_why lines sheet p h is =
+    let kind = kinds.Certificate in
+    let ok = Reached {X = Bool × ℕ} lines 7 in
+    let count = counts_line sheet in
+    go lines sheet kind (Reached {X = Bool} lines 3) ok (next_line verdict_line p) (λ v. modes_at sheet v.1 >>= λ m. next_line count m >>= λ c. next_line gap_line c.1 >>= λ g. done ((v.0, g.0), g.1)) (next_why lines sheet kind verdict_line verdict (verdict_fault sheet) 2 p h is refl)
+    (λ v hv. go lines sheet kind (λ q. At lines q × (q.at ≡ 5)) ok (modes_at sheet v.1) (λ m. next_line count m >>= λ c. next_line gap_line c.1 >>= λ g. done ((v.0, g.0), g.1)) (modes_why lines sheet kind 3 v.1 hv.0 hv.1 refl refl)
+    (λ m hm. go lines sheet kind (Reached {X = Unit {0}} lines 6) ok (next_line count m) (λ c. next_line gap_line c.1 >>= λ g. done ((v.0, g.0), g.1)) (next_why lines sheet kind count counts (counts_fault sheet) 5 m hm.0 hm.1 refl)
+    (λ c hc. go lines sheet kind (Reached {X = ℕ} lines 7) ok (next_line gap_line c.1) (λ g. done ((v.0, g.0), g.1)) (next_why lines sheet kind gap_line gap (gap_fault sheet) 6 c.1 hc.0 hc.1 refl) (λ g hg. hg))))
+
+proof_why : (lines : List Line) (sheet : Sheet) (p : Place) → At lines p → p.at ≡ 2 → Is (λ (r : Proof). Unit {0}) (Why lines sheet kinds.Certificate) (proof_at sheet p)
+unfolding proof_at proof_from
+proof_why lines sheet p h is =
+    let kind = kinds.Certificate in
+    let ok = λ (r : Proof). Unit {0} in
+    let rows = λ (q : Place). rows_from (codes "path") (path_row sheet) q.at q.rest in
+    go lines sheet kind (Reached {X = Bool × ℕ} lines 7) ok (opening_at sheet p) (λ o. scale_at o.1 >>= λ s. values_at s.1 >>= λ v. rows v.1 >>= λ ps. dual_at sheet ps.1 >>= λ d. closing d.1 >>= λ u. done (proof_made o.0 s.0 v.0 ps.0 d.0)) (opening_why lines sheet p h is)
+    (λ o ho. go lines sheet kind (Reached {X = ℕ × (ℕ × ℕ)} lines 9) ok (scale_at o.1) (λ s. values_at s.1 >>= λ v. rows v.1 >>= λ ps. dual_at sheet ps.1 >>= λ d. closing d.1 >>= λ u. done (proof_made o.0 s.0 v.0 ps.0 d.0)) (scale_why lines sheet kind 7 o.1 ho.0 ho.1 refl refl)
+    (λ s hs. go lines sheet kind (Reached {X = Printed × Printed} lines 11) ok (values_at s.1) (λ v. rows v.1 >>= λ ps. dual_at sheet ps.1 >>= λ d. closing d.1 >>= λ u. done (proof_made o.0 s.0 v.0 ps.0 d.0)) (values_why lines sheet kind 9 s.1 hs.0 hs.1 refl refl)
+    (λ v hv. go lines sheet kind (Behind {X = List Row} lines 11) ok (rows v.1) (λ ps. dual_at sheet ps.1 >>= λ d. closing d.1 >>= λ u. done (proof_made o.0 s.0 v.0 ps.0 d.0)) (paths_on lines sheet kind 11 v.1 hv.0 (omega (arith, hv.1)) (λ m le. le))
+    (λ ps hp. go lines sheet kind (Behind {X = DualRows} lines 11) ok (dual_at sheet ps.1) (λ d. closing d.1 >>= λ u. done (proof_made o.0 s.0 v.0 ps.0 d.0)) (dual_why lines sheet kind 11 ps.1 hp.0 hp.1 (λ m le. le) (λ m le. le))
+    (λ d hd. closed_why lines sheet kind 11 d.1 (proof_made o.0 s.0 v.0 ps.0 d.0) hd.0 hd.1 (λ m le. le) (λ m le. le))))))
+
+paper_why : (lines : List Line) (sheet : Sheet) (kind : Kind) (p : Place) → At lines p → p.at ≡ 2 → Is (λ (r : Paper). Unit {0}) (Why lines sheet kind) (paper_at sheet kind p)
+unfolding paper_at
+paper_why lines sheet kinds.Certificate p h is = go lines sheet kinds.Certificate (λ (r : Proof). Unit {0}) (λ (r : Paper). Unit {0}) (proof_at sheet p) (λ r. done (papers.Full r)) (proof_why lines sheet p h is) (λ r k. tt)
+paper_why lines sheet kinds.Routing p h is = go lines sheet kinds.Routing (λ (r : Routing). Unit {0}) (λ (r : Paper). Unit {0}) (routing_at sheet p) (λ r. done (papers.Routing r)) (routing_why lines sheet p h is) (λ r k. tt)
+
+-- ---- the whole
+
+abbrev Started : List Line → Opening × Place → Type 0
+Started lines x = At lines x.1 × (x.1.at ≡ 2) × Says lines x.0
+
+header_why : (sheets : Sheets) (line : Line) (rest : List Line) → Is (Started (line ∷ rest)) (IsRefusedFor sheets (line ∷ rest)) (header (line ∷ rest))
+unfolding header_by
+header_why sheets line rest = by (form_of line) refl
+  where
+    known : (o : Opening) (b : Bool) → has_more rest ≡ b → form_of line ≡ Some o → Is (Started (line ∷ rest)) (IsRefusedFor sheets (line ∷ rest)) (cond b (done (o, record { at = 2; rest = rest })) (Err (record { line = 1; kind = Syntax })))
+    known o true m e = (record { front = line ∷ []; parts = refl; at = refl; more = m }, refl, e)
+    known o false m e = record { before = []; line = line; after = rest; parts = refl; count = refl; reason = inr (inl (no_more rest m, refl)) }
+
+    by : (o : Option Opening) → form_of line ≡ o → Is (Started (line ∷ rest)) (IsRefusedFor sheets (line ∷ rest)) (header_of o rest)
+    by None e = record { before = []; line = line; after = rest; parts = refl; count = refl; reason = inl (refl, e, refl) }
+    by (Some o) e = known o (has_more rest) refl e
+
+as_reason : (sheets : Sheets) (lines : List Line) (o : Opening) (e : CertRefusal) → Says lines o → Why lines (sheet_for sheets o.form) o.kind e → IsRefusedFor sheets lines e
+as_reason sheets lines o e says w = record {
+  before = w.before;
+  line = w.line;
+  after = w.after;
+  parts = w.parts;
+  count = w.count;
+  reason = elim w.reason as (λ _. IsReason sheets lines w.line w.after e) [ inl k ↦ inr (inl k) | inr k ↦ inr (inr (o, says, k.0, k.1, k.2)) ];
+}
+
+pub refused_for : (sheets : Sheets) (lines : List Line) (r : CertRefusal) → has_more lines ≡ true → paper_in sheets lines ≡ Err r → IsRefusedFor sheets lines r
+unfolding paper_in
+refused_for sheets [] r m e = absurd cc
+refused_for sheets (line ∷ rest) r m e =
+    subst (Is (λ (p : Paper). Unit {0}) (IsRefusedFor sheets (line ∷ rest))) e
+    (then_is (Started (line ∷ rest)) (IsRefusedFor sheets (line ∷ rest)) (λ (p : Paper). Unit {0}) (IsRefusedFor sheets (line ∷ rest)) (header (line ∷ rest)) (λ first. paper_at (sheet_for sheets first.0.form) first.0.kind first.1)
+    (header_why sheets line rest) (λ d k. k)
+    (λ x s. is_more (λ (p : Paper). Unit {0}) (Why (line ∷ rest) (sheet_for sheets x.0.form) x.0.kind) (λ (p : Paper). Unit {0}) (IsRefusedFor sheets (line ∷ rest)) (paper_at (sheet_for sheets x.0.form) x.0.kind x.1)
+    (paper_why (line ∷ rest) (sheet_for sheets x.0.form) x.0.kind x.1 s.0 s.1) (λ d w. as_reason sheets (line ∷ rest) x.0 d s.2 w) (λ p k. k)))

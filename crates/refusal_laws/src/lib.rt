@@ -1,0 +1,12 @@
+//! What it means that a certificate, a routing or a script is refused at a line, said without the
+//! readers: laws over their texts.
+#![tactic(auto)]
+
+mod papers;
+mod scripts;
+
+pub use papers::{
+    heads_stop_there, judged_texts_stop_there, line_kinds_say_why, paper_kinds_say_why,
+    papers_stop_there,
+};
+pub use scripts::{script_kinds_say_why, script_texts_stop_there, scripts_stop_there};
