@@ -1,5 +1,5 @@
 -- What the kind of a refusal says of the line at which a certificate or a routing is refused.
-use Rattle.std.specs.Prelude.{◌≡◌, ◌≢◌, ◌⊎◌, ℕ, ◌+◌, ◌<◌, ◌≤◌, Bool, true, List, [], ◌∷◌, ◌++◌, length, map, codes, Option, Some, None, Result, Ok, Err}
+use Rattle.std.specs.Prelude.{◌≡◌, ◌≢◌, ◌⊎◌, ℕ, ◌+◌, ◌<◌, ◌≤◌, Bool, true, false, List, [], ◌∷◌, ◌++◌, length, map, codes, Option, Some, None, Result, Ok, Err}
 use Rattle.std.specs.List.{AllByRecursion, join_with_byte}
 use Rattle.std.specs.Str.Parse.{digits_value}
 use Rattle.gap_fraction.specs.declared.fraction.TheConstants.{MAX_PART}
@@ -92,18 +92,46 @@ IsRoleFault sheet node line kind = (begins (codes "potential") line ≡ true) ×
 IsRoleFault sheet last line kind = (kind ≡ Syntax) × (join_with_byte 32 line ≢ codes "end")
 IsRoleFault sheet nothing line kind = kind ≡ Syntax
 
+-- the last of the lines begins with that word
+abbrev pub EndsWith : List ℕ → List Line → Type 0
+EndsWith key lines = (front : List Line) × (line : Line) × (lines ≡ front ++ line ∷ []) × (begins key line ≡ true)
+
+-- the lines are all those before the rows
+abbrev pub AreBeforeRows : Kind → List Line → Type 0
+AreBeforeRows Certificate lines = length lines ≡ 10
+AreBeforeRows Routing lines = length lines ≡ 5
+
+-- the line begins with the word of no row that may stand behind these lines
+abbrev pub BeginsNoRow : Kind → List Line → Line → Type 0
+BeginsNoRow Routing before line = begins (codes "path") line ≡ false
+BeginsNoRow Certificate before line =
+    (begins (codes "path") line ≡ true → EndsWith (codes "length") before ⊎ EndsWith (codes "potential") before)
+    × (begins (codes "length") line ≡ true → EndsWith (codes "potential") before)
+    × (begins (codes "potential") line ≡ false)
+
+-- paths stand before lengths, and these before potentials; the end is no row that may still stand
+abbrev pub IsInOrder : Kind → Role → List Line → Line → Type 0
+IsInOrder kind path before line = AreBeforeRows kind before ⊎ EndsWith (codes "path") before
+IsInOrder kind cell before line =
+    (AreBeforeRows kind before ⊎ EndsWith (codes "path") before) ⊎ EndsWith (codes "length") before
+IsInOrder kind node before line =
+    ((AreBeforeRows kind before ⊎ EndsWith (codes "path") before) ⊎ EndsWith (codes "length") before)
+    ⊎ EndsWith (codes "potential") before
+IsInOrder kind last before line = BeginsNoRow kind before line
+IsInOrder kind role before line = Unit {0}
+
 -- the first line says this
 abbrev pub Says : List Line → Opening → Type 0
 Says [] o = ⊥
 Says (line ∷ lines) o = form_of line ≡ Some o
 
--- a refusal of the line that stands before `after`: it is the first and no header; or it is the last, without a line
+-- a refusal of the line between these: it is the first and no header; or it is the last, without a line
 -- feed; or it is not what it has to be
-abbrev pub IsReason : Sheets → List Line → Line → List Line → CertRefusal → Type 0
-IsReason sheets lines line after r =
+abbrev pub IsReason : Sheets → List Line → List Line → Line → List Line → CertRefusal → Type 0
+IsReason sheets lines before line after r =
     ((r.line ≡ 1) × (form_of line ≡ None) × (r.kind ≡ NoHeader))
     ⊎ (((after ≡ []) × (r.kind ≡ Syntax))
-    ⊎ ((o : Opening) × Says lines o × (role : Role) × StandsAt o.kind role r.line
+    ⊎ ((o : Opening) × Says lines o × (role : Role) × StandsAt o.kind role r.line × IsInOrder o.kind role before line
     × IsRoleFault (sheet_for sheets o.form) role line r.kind))
 
 -- the refusal is of this line, for such a reason
@@ -113,4 +141,4 @@ pub record IsRefusedFor (sheets : Sheets) (lines : List Line) (r : CertRefusal) 
   pub after : List Line
   pub parts : lines ≡ before ++ line ∷ after
   pub count : r.line ≡ length before + 1
-  pub reason : IsReason sheets lines line after r
+  pub reason : IsReason sheets lines before line after r
