@@ -47,7 +47,6 @@ use Rattle.run_certs.specs.Upgrade.{upgrade_answer, OnUpgrade, OfUpgraded, OfUpg
 use Rattle.run_sweeps.specs.Sweep.{sweep_answer, OnSweep, OfSwept, OfSweep}
 use Rattle.run_sweeps.specs.SweepSolve.{solves_answer, sweep_asked_of, SolvesLinks, OnScaled, OnSweepSolve, OfSweepSolve}
 use Rattle.sweep_solver.specs.declared.swept.Swept.{Swept}
-use Rattle.sweep_solver.specs.declared.asked.SweepAsked.{SweepAsked}
 use Rattle.run_certs.specs.WhatIf.{scripted_answer, OnScript, OnCertified, OnCertificate, OfWhatIf}
 use Rattle.run_solves.specs.Drawn.{links_drawn, net_drawn, gen_answer, trial_line, OfTrial}
 use Rattle.mcf_cli.specs.Run.{file_at, OfCommand}
