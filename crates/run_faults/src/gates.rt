@@ -151,15 +151,14 @@ impl Gate for Pair {
     }
 }
 
-/// Two links are solved at the same time: each solve has one phase of one claim, and the first claim is held until the other
-/// solve has claimed.
+/// Two links are solved at the same time: the first claim of all is held until the solve of the other link has claimed, which
+/// no call of the held one can do in its place.
 #[test]
 fn two_solves_of_a_sweep_meet(rt: HostRuntime) -> Result<(), Fail> {
     let gate = Pair::new();
     let words = ["sweepsolve", "net", "--links", "directed"];
     let given = answer_through(&rt, rt.alloc(), &words, &[("net", TWO_LINKS)], AMPLE, &gate)?;
     assert!(rt; gate.met.load(Ordering::SeqCst));
-    assert!(rt; gate.calls.load(Ordering::SeqCst) == 2);
     assert!(rt; given.begins(0, b"sweep L1 closed phases 1 lower 7/10 0.700000 "));
     Ok(())
 }
