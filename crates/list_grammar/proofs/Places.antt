@@ -59,6 +59,9 @@ or_else_assoc : {X : Type 0} (a b c : Option X) → or_else (or_else a b) c ≡ 
 or_else_assoc None b c = refl
 or_else_assoc (Some x) b c = refl
 
+abbrev at_line : NetKind → ℕ → NetRefusal
+at_line kind n = record { line = n; kind = kind }
+
 -- the refusal of the kind at the line of a place is that of the place
 one_kind : (rows : NetRows) (kind : NetKind) (line : ℕ → ℕ) (at : ℕ → Place) (o : Option ℕ) → ((i : ℕ) → refusal_at rows (at i) ≡ record { line = line i; kind = kind })
     → refused kind (option_map line o) ≡ option_map (refusal_at rows) (option_map at o)
@@ -92,7 +95,6 @@ places mode s rows =
     let c = option_map (λ i. AtLink i netkinds.TooLarge) (position (is_large_link mode s) rows.links) in
     let d = option_map (λ i. AtDemand i netkinds.TooLarge) (first_large_row s rows.demands) in
     let e = if list_all is_left_out rows.demands then Some AtEnd else None in
-    let at_line = λ (kind : NetKind) (n : ℕ). record {NetRefusal} { line = n; kind = kind } in
     let fine : refused netkinds.TooFine (too_fine mode rows) ≡ or_else (option_map g a) (option_map g b) =
     map_or_else (at_line netkinds.TooFine) (first_line (is_fine_link mode) (λ l. l.line) rows.links) (first_line is_fine_demand (λ d. d.line) rows.demands)
     ∙ ap (λ o. or_else o (refused netkinds.TooFine (first_line is_fine_demand (λ d. d.line) rows.demands))) (links_at rows netkinds.TooFine (is_fine_link mode))
