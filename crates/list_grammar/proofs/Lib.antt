@@ -1,2 +1,4 @@
 pub mod Unique
 pub mod Places
+pub mod Words
+pub mod Sound
