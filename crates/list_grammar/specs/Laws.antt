@@ -20,6 +20,10 @@ abbrev pub BatchIsUnique : Type 0
 BatchIsUnique = (rows : NetRows) (o : NetOptions) (text : List ℕ) (answer other : Result (List Matrix) BatchRefusal)
     → IsBatch rows o text answer → IsBatch rows o text other → answer ≡ other
 
+-- each text has an answer
+abbrev pub BatchExists : Type 0
+BatchExists = (rows : NetRows) (o : NetOptions) (text : List ℕ) → (answer : Result (List Matrix) BatchRefusal) × IsBatch rows o text answer
+
 -- each matrix that is read has sound rows, and the network that they stand for
 abbrev pub MatricesAreScaled : Type 0
 MatricesAreScaled = (rows : NetRows) (o : NetOptions) (text : List ℕ) (batch : List Matrix) → AreNetRows rows → IsBatch rows o text (Ok batch)

@@ -1,6 +1,6 @@
 //! Laws of lists, each as a function that does nothing.
 
-ghost use Rattle.list_grammar.specs.Laws.{ListIsUnique, PlacesHaveTheirLines, MatricesAreScaled, BatchIsUnique};
+ghost use Rattle.list_grammar.specs.Laws.{ListIsUnique, PlacesHaveTheirLines, MatricesAreScaled, BatchIsUnique, BatchExists};
 
 /// Symbols are the spelling of at most one list of matrices.
 pub fn symbols_are_one_list()
@@ -22,4 +22,9 @@ pub fn matrices_are_scaled()
 /// A text has at most one answer, be it matrices or a refusal.
 pub fn texts_are_one_batch()
     ensures { BatchIsUnique }
+{}
+
+/// Each text has an answer: its matrices, the fault of form, or the first of the other faults.
+pub fn texts_have_an_answer()
+    ensures { BatchExists }
 {}

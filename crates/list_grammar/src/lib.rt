@@ -7,5 +7,6 @@ mod refusal;
 
 pub use laws::{
     matrices_are_scaled, places_have_their_lines, symbols_are_one_list, texts_are_one_batch,
+    texts_have_an_answer,
 };
 pub use refusal::{ListKind, ListRefusal};
