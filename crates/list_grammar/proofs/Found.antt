@@ -1,5 +1,5 @@
 -- Each text has an answer.
-use Rattle.std.proofs.Common.{◌≡◌, ◌⊎◌, ℕ, ◌<◌, ◌≤◌, List, [], ◌∷◌, ◌++◌, length, map, refl, ap, sym, subst, ◌∙◌, arith, append_assoc, append-nil, Option, Some, None, Result, Ok, Err, Bool, true, false, inl, inr}
+use Rattle.std.proofs.Common.{◌≡◌, ◌⊎◌, ℕ, List, [], ◌∷◌, ◌++◌, length, map, refl, ap, sym, subst, ◌∙◌, arith, append_assoc, append-nil, Option, Some, None, Result, Ok, Err, Bool, true, false, inl, inr}
 use Rattle.std.specs.Prelude.{nat_lt, option_and_then}
 use Rattle.std.specs.List.{AllByRecursion}
 use Rattle.std.proofs.lemmas.List.{map-append}
@@ -11,12 +11,12 @@ use Rattle.sndlib_grammar.specs.Refusals.{symbols_of, IsShort}
 use Rattle.sndlib_grammar.specs.Rows.{NetRows}
 use Rattle.sndlib_grammar.specs.Text.{end_of}
 use Rattle.unit_scale.specs.declared.options.NetOptions.{NetOptions}
-use Rattle.list_grammar.specs.Grammar.{MatrixEntry, tokens_of, IsList, spelled}
+use Rattle.list_grammar.specs.Grammar.{MatrixEntry, tokens_of}
 use Rattle.list_grammar.specs.declared.refusal.ListKind.TheVariants.{Syntax}
-use Rattle.list_grammar.specs.Refusals.{BatchRefusal, InList, AreBegun, AreMatricesOf, IsBadTokenAt, IsCutShortAt, IsSyntaxAt}
+use Rattle.list_grammar.specs.Refusals.{BatchRefusal, InList, AreBegun, AreMatricesOf, IsSyntaxAt}
 use Rattle.list_grammar.specs.Matrices.{Matrix, matrix_of}
 use Rattle.list_grammar.specs.Faults.{batch_fault}
-use Rattle.list_grammar.specs.Batch.{IsBatchOf, IsBatch}
+use Rattle.list_grammar.specs.Batch.{IsBatchOf}
 use Rattle.list_grammar.specs.Laws.{BatchExists}
 use Rattle.list_grammar.proofs.Modes.{Mode, Between, Opening, Inside, Ends, Source, Target, EndsClose, Units, Value, Longest, after, walk, walk-append, list_walked, whole, begun, not_begun}
 
@@ -43,12 +43,15 @@ one_more ts t m (Some k) h e =
 
 -- at the end: all is read, or a matrix is open
 open_end : (tokens : List Lexeme) (end : ℕ) (m : Mode) → AllByRecursion IsShort tokens → walk Between (symbols_of tokens) ≡ Some m → (m ≡ Between → ⊥) → IsRead tokens end
-open_end tokens end m short h open =
-    inr (end, inr (record {
-      begun = record { short = short; begun = begun (symbols_of tokens) m h };
-      none = λ ms is. (let both : Some m ≡ Some Between = sym h ∙ ap (walk Between) is ∙ list_walked ms in open cc);
-      line_is = refl;
-    }))
+open_end tokens end m short h other =
+    inr (
+      end,
+      inr (record {
+        begun = record { short = short; begun = begun (symbols_of tokens) m h };
+        none = λ ms is. (let both : Some m ≡ Some Between = sym h ∙ ap (walk Between) is ∙ list_walked ms in other cc);
+        line_is = refl;
+      }),
+    )
 
 at_end : (tokens : List Lexeme) (end : ℕ) (m : Mode) → AllByRecursion IsShort tokens → walk Between (symbols_of tokens) ≡ Some m → IsRead tokens end
 at_end tokens end Between short h = let is = whole (symbols_of tokens) h in inl (is.0, record { short = short; list = is.1 })

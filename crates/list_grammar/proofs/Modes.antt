@@ -1,5 +1,5 @@
 -- Where reading a list stands: a list begins with symbols exactly where they lead to a mode.
-use Rattle.std.proofs.Common.{◌≡◌, List, [], ◌∷◌, ◌++◌, refl, ap, sym, subst, ◌∙◌, append_assoc, append-nil, Option, Some, None}
+use Rattle.std.proofs.Common.{◌≡◌, List, [], ◌∷◌, ◌++◌, refl, ap, sym, ◌∙◌, append_assoc, Option, Some, None}
 use Rattle.std.specs.Prelude.{option_and_then}
 use Rattle.std.specs.List.{flat_map}
 use Rattle.sndlib_grammar.specs.Grammar.{Symbol, Left, Right, Name, Word, DemandEntry, demand}
@@ -80,7 +80,7 @@ one_matrix w ts h =
 one_demand : (d : DemandEntry) (ts : List Symbol) → IsRest ts → IsRest (demand d ++ ts)
 one_demand d ts h = record { demands = d ∷ h.demands; matrices = h.matrices; are = ap (λ (l : List Symbol). demand d ++ l) h.are }
 
-pub sound : (ts : List Symbol) (m : Mode) → walk m ts ≡ Some Between → Meaning m ts
+sound : (ts : List Symbol) (m : Mode) → walk m ts ≡ Some Between → Meaning m ts
 sound [] Between h = record { matrices = []; are = refl }
 sound (Name w ∷ Left ∷ ts) Between h = one_matrix w ts (sound ts Inside h)
 sound ts Between h = absurd cc

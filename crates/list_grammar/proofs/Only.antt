@@ -1,5 +1,5 @@
 -- A text has one answer.
-use Rattle.std.proofs.Common.{◌≡◌, ◌⊎◌, ℕ, List, [], ◌∷◌, ◌++◌, map, refl, ap, sym, subst, ◌∙◌, append_assoc, append-nil, Option, Some, None, Result, Ok, Err, inl, inr}
+use Rattle.std.proofs.Common.{◌≡◌, ℕ, List, [], ◌∷◌, ◌++◌, map, ap, sym, subst, ◌∙◌, append_assoc, append-nil, Some, None, Result, Ok, Err, inl, inr}
 use Rattle.std.specs.List.{AllByRecursion}
 use Rattle.std.proofs.lemmas.List.{map-append}
 use Rattle.sndlib_grammar.specs.Tokens.{Lexeme}
@@ -8,9 +8,9 @@ use Rattle.sndlib_grammar.specs.Refusals.{symbols_of, IsShort}
 use Rattle.sndlib_grammar.specs.Rows.{NetRows}
 use Rattle.sndlib_grammar.specs.Text.{end_of}
 use Rattle.unit_scale.specs.declared.options.NetOptions.{NetOptions}
-use Rattle.list_grammar.specs.Grammar.{MatrixEntry, tokens_of, IsList}
+use Rattle.list_grammar.specs.Grammar.{MatrixEntry, tokens_of}
 use Rattle.list_grammar.specs.declared.refusal.ListKind.TheVariants.{Syntax}
-use Rattle.list_grammar.specs.Refusals.{BatchRefusal, InList, AreBegun, AreMatricesOf, IsBadTokenAt, IsCutShortAt, IsSyntaxAt}
+use Rattle.list_grammar.specs.Refusals.{BatchRefusal, InList, AreBegun, AreMatricesOf, IsBadTokenAt, IsSyntaxAt}
 use Rattle.list_grammar.specs.Matrices.{Matrix, matrix_of}
 use Rattle.list_grammar.specs.Faults.{batch_fault}
 use Rattle.list_grammar.specs.Batch.{IsBatchOf}

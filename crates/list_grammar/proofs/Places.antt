@@ -1,5 +1,5 @@
 -- The place at which scaling is refused has the line of the refusal.
-use Rattle.std.proofs.Common.{◌≡◌, ℕ, ◌+◌, List, [], ◌∷◌, ◌++◌, length, get_or, take, refl, ap, sym, subst, ◌∙◌, arith, append_assoc, Option, Some, None, Bool, true, false, cond}
+use Rattle.std.proofs.Common.{◌≡◌, ℕ, ◌+◌, List, [], ◌∷◌, ◌++◌, length, take, refl, ap, sym, ◌∙◌, append_assoc, Option, Some, None, Bool, true, false, cond}
 use Rattle.std.specs.Prelude.{slice_index_or, if◌then◌else◌}
 use Rattle.std.specs.Option.{option_map}
 use Rattle.std.specs.List.{position, position_from, enumerate_from, sum_by, list_all}
@@ -13,7 +13,7 @@ use Rattle.sndlib_grammar.specs.declared.refusal.NetKind.{NetKind}
 use Rattle.sndlib_grammar.specs.declared.refusal.NetKind.TheVariants as netkinds
 use Rattle.unit_scale.specs.Sizes.{is_fine_link, is_fine_demand, is_left_out}
 use Rattle.unit_scale.specs.Scaling.{first_line, first_large, is_large_link, is_large_demand, counted_units, or_else, refused, too_fine, too_large, no_demand as none_kept, refusal}
-use Rattle.list_grammar.specs.Matrices.{Place, AtLink, AtDemand, AtEnd, first_large_row, refused_place, refusal_at}
+use Rattle.list_grammar.specs.Matrices.{Place, AtLink, AtDemand, AtEnd, first_large_row, refusal_at}
 use Rattle.list_grammar.specs.Laws.{PlacesHaveTheirLines}
 
 -- ---- the first that passes, by its line and by its number

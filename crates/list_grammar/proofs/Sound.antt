@@ -1,5 +1,5 @@
 -- Where nothing is wrong with matrices, the rows of each are sound, and scaling accepts them.
-use Rattle.std.proofs.Common.{◌≡◌, ℕ, zero, suc, ◌+◌, ◌<◌, ◌≤◌, List, [], ◌∷◌, ◌++◌, length, refl, ap, sym, subst, ◌∙◌, arith, Option, Some, None, Bool, true, false}
+use Rattle.std.proofs.Common.{◌≡◌, ℕ, zero, suc, ◌+◌, ◌≤◌, List, [], ◌∷◌, ◌++◌, length, refl, ap, sym, subst, ◌∙◌, arith, Option, Some, None, Bool, true, false}
 use Rattle.std.specs.Prelude.{map, All, Ok, ◌||◌, slice_get, if◌then◌else◌}
 use Rattle.std.specs.List.{AllByRecursion, list_any, list_all}
 use Rattle.std.proofs.lemmas.List.{length-map, length-append}
@@ -9,7 +9,7 @@ use Rattle.mcf_limits.specs.declared.TheConstants.{MAX_DEMANDS, MAX_MATRICES, MA
 use Rattle.sndlib_grammar.specs.declared.refusal.NetKind.TheVariants as netkinds
 use Rattle.sndlib_grammar.specs.Grammar.{Word, NodeEntry, DemandEntry, Entries, node, demand}
 use Rattle.sndlib_grammar.specs.Faults.{node_ids, demand_ids, texts, or_else as first_fault, line_of, first_of, first_repeated, unknown_of_demand, bad_of_demand, at_line, fault_of, too_many as too_many_entries, repeated as repeated_entry, unknown, bad_number as bad_entry}
-use Rattle.sndlib_grammar.specs.Rows.{NetNode, NetDemand, NetRows, names_of_nodes, net_node, net_demand, net_rows, IsWord, IsNetNode, IsNetDemand, AreDistinct, AreNetRows}
+use Rattle.sndlib_grammar.specs.Rows.{NetNode, NetDemand, NetRows, names_of_nodes, net_node, net_demand, IsWord, IsNetNode, IsNetDemand, AreDistinct, AreNetRows}
 use Rattle.sndlib_grammar.specs.Words.{OnSymbols, AreWordEntries}
 use Rattle.sndlib_grammar.proofs.RowFacts.{first_none, second_none, rows_hold}
 use Rattle.sndlib_grammar.proofs.RowWords.{through}
@@ -18,10 +18,9 @@ use Rattle.std.proofs.lemmas.List.Elements.{recursion_from_All}
 use Rattle.unit_scale.specs.declared.options.NetOptions.{NetOptions}
 use Rattle.unit_scale.specs.Sizes.{is_fine_link, is_fine_demand, is_left_out}
 use Rattle.unit_scale.specs.Scaling.{or_else, first_line, first_large, is_large_link, no_demand, refusal, scaled_with, unless_refused, scaled_of, too_fine, too_large, refused}
-use Rattle.list_grammar.specs.Grammar.{MatrixEntry, spelled, tokens_of}
+use Rattle.list_grammar.specs.Grammar.{MatrixEntry, spelled}
 use Rattle.list_grammar.specs.declared.refusal.ListKind.{ListKind}
 use Rattle.list_grammar.specs.declared.refusal.ListKind.TheVariants as listkinds
-use Rattle.list_grammar.specs.Refusals.{BatchRefusal, AreMatricesOf}
 use Rattle.list_grammar.specs.Matrices.{Matrix, rows_of, decimals_for, matrix_of}
 use Rattle.list_grammar.specs.Faults.{all_demands, lesser_line, too_many, line_if_among, repeated, unknown_node, bad_number, fine_link, fine_in, large_in, empty_in, in_list, in_net, batch_fault}
 use Rattle.list_grammar.specs.Laws.{MatricesAreScaled}
@@ -128,20 +127,22 @@ goods rows o known (m ∷ ms) count ids ends numbers fine large some words =
     let later = not_later (line_if_among known m.name) (or_else own more) ids in
     let e = both_none (unknown_of_demand (names_of_nodes rows)) m.demands (all_demands ms) ends in
     let n = both_none bad_of_demand m.demands (all_demands ms) numbers in
-    let w = first_matrix m ms words in
-    (record {
-      count = omega (arith, count, size);
-      ids = not_first own more later;
-      ends = e.0;
-      numbers = n.0;
-      fine = first_none (fine_in rows m) (first_of (fine_in rows) ms) fine;
-      large = first_none (large_in o rows m) (first_of (large_in o rows) ms) large;
-      some = first_none (empty_in rows m) (first_of (empty_in rows) ms) some;
-      words = w.0;
-    }, goods rows o (known ++ m.name.text ∷ []) ms (omega (arith, count, size)) (not_later own more later) e.1 n.1
-    (second_none (fine_in rows m) (first_of (fine_in rows) ms) fine)
-    (second_none (large_in o rows m) (first_of (large_in o rows) ms) large)
-    (second_none (empty_in rows m) (first_of (empty_in rows) ms) some) w.1)
+    let w = first_matrix m ms words in (
+      record {
+        count = omega (arith, count, size);
+        ids = not_first own more later;
+        ends = e.0;
+        numbers = n.0;
+        fine = first_none (fine_in rows m) (first_of (fine_in rows) ms) fine;
+        large = first_none (large_in o rows m) (first_of (large_in o rows) ms) large;
+        some = first_none (empty_in rows m) (first_of (empty_in rows) ms) some;
+        words = w.0;
+      },
+      goods rows o (known ++ m.name.text ∷ []) ms (omega (arith, count, size)) (not_later own more later) e.1 n.1
+          (second_none (fine_in rows m) (first_of (fine_in rows) ms) fine)
+          (second_none (large_in o rows m) (first_of (large_in o rows) ms) large)
+          (second_none (empty_in rows m) (first_of (empty_in rows) ms) some) w.1,
+    )
 
 -- ---- the rows of a matrix: those of a network that has the nodes and the matrix's demands
 
@@ -200,7 +201,7 @@ rows_are rows o m are good =
       nodes = are.nodes;
       links = are.links;
       demands = subst (λ k. All (IsNetDemand k) (map (net_demand (names_of_nodes rows)) m.demands)) size
-      (subst (λ k. All (IsNetDemand (length (map net_node (map named rows.nodes)))) (map (net_demand k) m.demands)) same hold.demands);
+          (subst (λ k. All (IsNetDemand (length (map net_node (map named rows.nodes)))) (map (net_demand k) m.demands)) same hold.demands);
     }
 
 -- ---- and scaling accepts them

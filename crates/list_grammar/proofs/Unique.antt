@@ -1,7 +1,7 @@
 -- Symbols are a list in one way.
 use Rattle.std.proofs.Common.{◌≡◌, List, [], ◌∷◌, ◌++◌, refl, ap, sym, ◌∙◌, append_assoc}
 use Rattle.std.specs.List.{flat_map}
-use Rattle.sndlib_grammar.specs.Grammar.{Symbol, Left, Right, Name, Word, DemandEntry, demand}
+use Rattle.sndlib_grammar.specs.Grammar.{Symbol, Left, Right, Name, DemandEntry, demand}
 use Rattle.list_grammar.specs.Grammar.{MatrixEntry, matrix, spelled}
 use Rattle.list_grammar.specs.Laws.{ListIsUnique}
 
