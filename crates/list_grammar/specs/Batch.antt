@@ -15,7 +15,9 @@ use Rattle.list_grammar.specs.Faults.{batch_fault}
 
 -- the matrices of the tokens where nothing is refused; else the fault of form, or the first of the others
 abbrev pub IsBatchOf : NetRows → NetOptions → List Lexeme → ℕ → Result (List Matrix) BatchRefusal → Type 0
-IsBatchOf rows o tokens end (Ok batch) = (entries : List MatrixEntry) × AreMatricesOf tokens entries × (batch_fault rows o entries ≡ None) × (batch ≡ map (matrix_of rows o) entries)
+IsBatchOf rows o tokens end (Ok batch) =
+    (entries : List MatrixEntry) × AreMatricesOf tokens entries
+    × (batch_fault rows o entries ≡ None) × (batch ≡ map (matrix_of rows o) entries)
 IsBatchOf rows o tokens end (Err r) =
     ((line : ℕ) × IsSyntaxAt tokens end line × (r ≡ InList (record { line = line; kind = Syntax })))
     ⊎ ((entries : List MatrixEntry) × AreMatricesOf tokens entries × (batch_fault rows o entries ≡ Some r))

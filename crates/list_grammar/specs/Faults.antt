@@ -27,7 +27,7 @@ lesser_line None other = other
 lesser_line (Some a) None = Some a
 lesser_line (Some a) (Some b) = Some (if nat_le a b then a else b)
 
--- the name of the first matrix too many, or the id of the first demand too many in all, whichever stands before the other
+-- the name of the first matrix too many, or the id of the first demand too many in all: the lesser line
 abbrev pub too_many : List MatrixEntry → Option ℕ
 too_many matrices = lesser_line
     (line_of (slice_get (map (λ (m : MatrixEntry). m.name) matrices) MAX_MATRICES))
@@ -37,7 +37,7 @@ too_many matrices = lesser_line
 abbrev pub line_if_among : List (List ℕ) → Word → Option ℕ
 line_if_among known w = if is_among known w then Some w.line else None
 
--- a matrix's name that one of these or of an earlier matrix is, or a demand's id that an earlier demand of the same matrix has
+-- a matrix's name that is one of these or an earlier matrix's, or a demand's id that is an earlier one's of its matrix
 abbrev pub repeated : List (List ℕ) → List MatrixEntry → Option ℕ
 repeated known [] = None
 repeated known (m ∷ ms) =
@@ -79,7 +79,7 @@ in_list kind line = option_map (λ n. InList (record { line = n; kind = kind }))
 abbrev pub in_net : Option ℕ → Option BatchRefusal
 in_net line = option_map (λ n. InNet (record { line = n; kind = netkinds.TooFine })) line
 
--- the first refusal of the matrices on the rows of a network, in the order of the kinds; links that are too fine are the network's
+-- the first refusal of the matrices on the rows of a network, in the order of the kinds; a link too fine is the network's
 abbrev pub batch_fault : NetRows → NetOptions → List MatrixEntry → Option BatchRefusal
 batch_fault rows o matrices =
     or_else (in_list TooMany (too_many matrices))

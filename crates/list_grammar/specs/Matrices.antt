@@ -32,7 +32,11 @@ decimals_for o rows = decimals_of (sizes o.modules rows)
 
 -- each matrix's network has its own decimals
 abbrev pub matrix_of : NetRows → NetOptions → MatrixEntry → Matrix
-matrix_of rows o m = record { name = m.name.text; rows = rows_of rows m; net = scaled_with o (decimals_for o (rows_of rows m)) (rows_of rows m) }
+matrix_of rows o m = record {
+  name = m.name.text;
+  rows = rows_of rows m;
+  net = scaled_with o (decimals_for o (rows_of rows m)) (rows_of rows m);
+}
 
 -- ---- at which row scaling is refused
 
@@ -44,7 +48,8 @@ pub data Place : Type 0 where
 
 -- the first demand that is too large, with the amounts that count before it
 abbrev pub first_large_row : ℕ → List NetDemand → Option ℕ
-first_large_row s demands = position (λ d. is_large_demand s (sum_by (counted_units s) (take d.0 demands)) d.1) (enumerate_from 0 demands)
+first_large_row s demands =
+    position (λ d. is_large_demand s (sum_by (counted_units s) (take d.0 demands)) d.1) (enumerate_from 0 demands)
 
 -- the first row that is refused, with this number of decimals
 abbrev pub refused_place : ModuleMode → ℕ → NetRows → Option Place
