@@ -198,7 +198,7 @@ THREE = [Crate("low", 100), Crate("mid", 300), Crate("top", 600)]
 def test_crates_below_stand_behind_what_they_use(root: Path) -> None:
     crates = crates_below(str(root), "mcf")
     names = [crate.name for crate in crates]
-    assert len(names) == len(set(names)) > 40 and names[-1] == "mcf" and names[0] == "mcf_base"
+    assert len(names) == len(set(names)) > 30 and names[-1] == "mcf" and names[0] == "mcf_base"
     lines = [line.split(":") for line in (root / "crates.txt").read_text().splitlines() if ":" in line]
     uses = {left.split()[0]: right.split() for left, right in lines}
     for place, name in enumerate(names):

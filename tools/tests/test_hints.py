@@ -283,7 +283,8 @@ def test_line_has_its_hint(tmp_path: Path, monkeypatch: pytest.MonkeyPatch, word
         told = hint(status, program, words.split(), out.fileno() if to_file else writer)
     os.close(reader)
     os.close(writer)
-    others = {"mcf-certificate 2": "verdict open", "trial nodes": "verdict open", "something else": f"status {status}"}
+    others = {"mcf-certificate 2": "verdict open", "trial nodes": "verdict open", "sweep L1 open": "some link open",
+              "something else": f"status {status}"}
     named = others.get(line, line)
     assert told is not None and re.fullmatch(rf"hint: {named}: [^\n]+ \(docs/guide\.md, part [1-8]\)", told)
     assert said in told
@@ -291,7 +292,7 @@ def test_line_has_its_hint(tmp_path: Path, monkeypatch: pytest.MonkeyPatch, word
 
 def test_every_row_of_the_table_is_reached() -> None:
     for row in TABLE:
-        lines = {line for _, _, line, _ in LINES} | {"verdict open", "status 1", "status 3"}
+        lines = {line for _, _, line, _ in LINES} | {"verdict open", "some link open", "status 1", "status 3"}
         assert any(row.line.fullmatch(line) for line in lines), row.line.pattern
 
 
@@ -444,7 +445,9 @@ def judged(case: str, status: int, wrote: str, said: str) -> int:
     if status not in (1, 2, 3, 4):
         assert said == "", case
         return 0
-    line = "verdict open" if status == 1 and not wrote.startswith("invalid") else wrote.rstrip("\n")
+    line = wrote.rstrip("\n")
+    if status == 1 and not wrote.startswith("invalid"):
+        line = "some link open" if wrote.startswith("sweep ") else "verdict open"
     assert re.fullmatch(rf"hint: {re.escape(line)}: [^\n]+ \(docs/guide\.md, part [1-8]\)\n", said), (case, line, said)
     assert USAGE not in said and "docs/formats.md tells" not in said, (case, said)
     return 1
