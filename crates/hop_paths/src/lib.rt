@@ -3,5 +3,8 @@
 #![tactic(auto)]
 
 mod laws;
+mod scratch;
+mod search;
 
 pub use laws::layers_bound_walks;
+pub use scratch::HopScratch;
