@@ -1,0 +1,3 @@
+pub mod Layered
+pub mod Layering
+pub mod LeastOf

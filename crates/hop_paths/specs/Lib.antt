@@ -1,0 +1,5 @@
+pub mod Allowed
+pub mod Layers
+pub mod Laws
+pub mod Searching
+pub mod Searched
