@@ -1,0 +1,3 @@
+pub mod SamePaths
+pub mod Adding
+pub mod Reordered
