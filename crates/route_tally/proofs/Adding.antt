@@ -1,7 +1,7 @@
 -- What one more turn makes of the rows.
-use Rattle.std.proofs.Common.{◌≡◌, ℕ, zero, suc, ◌+◌, ◌<◌, ◌≤◌, Bool, true, false, cond, List, [], ◌∷◌, ◌++◌, length, get_or, set, refl, sym, ap, ◌∙◌, subst, arith, length-append, length-set, inl, inr}
-use Rattle.std.specs.Prelude.{All, AllPairs, IsTrue, ◌==◌, ◌||◌}
-use Rattle.std.specs.List.{sum_by, list_any}
+use Rattle.std.proofs.Common.{◌≡◌, ℕ, suc, ◌+◌, ◌<◌, ◌≤◌, Bool, true, false, cond, List, [], ◌∷◌, ◌++◌, length, get_or, refl, sym, ap, ◌∙◌, subst, arith, length-append, length-set, inl, inr}
+use Rattle.std.specs.Prelude.{IsTrue, ◌==◌, ◌||◌}
+use Rattle.std.specs.List.{list_any}
 use Rattle.std.proofs.lemmas.Bool.{cases_eq, cases_order, both_ways, or_left, or_right, false_from_ne_true, eq-eqb}
 use Rattle.std.proofs.lemmas.List.{get_or-set_same, get_or-set_other, get_or_default}
 use Rattle.std.proofs.lemmas.List.Elements.{All-nil, All-push, All-weaker, All-get_or, All-from_get_or}
@@ -9,9 +9,9 @@ use Rattle.std.proofs.lemmas.List.Folds.{list_any-append, list_any_at}
 use Rattle.std.proofs.lemmas.List.Quantifiers.{all_pairs_push}
 use Rattle.std.proofs.lemmas.List.Sums.{get_or-le-sum_by}
 use Rattle.flow_model.specs.Routing.{Row, carried}
-use Rattle.flow_paths.specs.PathRows.{row_at, no_row, grown, HasPath, IsFirstRow, HasNoRow, Adds}
+use Rattle.flow_paths.specs.PathRows.{row_at, no_row, grown, IsFirstRow, HasNoRow, Adds}
 use Rattle.route_tally.specs.Tally.{same_path, routed_along, IsCollected, TakesTurn}
-use Rattle.route_tally.proofs.SamePaths.{same_parts, same_from, same_flip, unlike, unlike_flip, same_left, same_right, along_same, along_yes, along_no, along_none, any_same}
+use Rattle.route_tally.proofs.SamePaths.{same_parts, same_from, same_flip, unlike, unlike_flip, same_right, along_same, along_yes, along_no, along_none, any_same}
 
 -- a row's weight is part of what its commodity carries
 pub fits : (rows : List Row) (k : ℕ) (path : List ℕ) (n a most : ℕ) → IsFirstRow rows k path n → carried rows k + a ≤ most → (row_at rows n).weight + a ≤ most

@@ -1,3 +1,5 @@
 pub mod SamePaths
 pub mod Adding
 pub mod Reordered
+pub mod TurnSums
+pub mod Counted

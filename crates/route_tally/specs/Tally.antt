@@ -1,5 +1,5 @@
 -- Turns, each a row of its own, and the rows that they come to.
-use Rattle.std.specs.Prelude.{◌≡◌, ℕ, ◌+◌, ◌*◌, ◌≤◌, ◌==◌, ◌&&◌, Bool, false, IsTrue, if◌then◌else◌, List, [], ◌∷◌, ◌++◌, length, All, AllPairs, count_by}
+use Rattle.std.specs.Prelude.{◌≡◌, ℕ, ◌*◌, ◌==◌, ◌&&◌, Bool, false, IsTrue, if◌then◌else◌, List, [], ◌∷◌, ◌++◌, All, AllPairs, count_by}
 use Rattle.std.specs.List.{sum_by, list_any}
 use Rattle.std.specs.Str.{bytes_eq}
 use Rattle.flow_model.specs.Routing.{Row, carried, load_of}
@@ -30,3 +30,20 @@ pub record IsTally (turns rows : List Row) : Type 0 where
 -- the new rows are those of the same turns and of this one
 abbrev pub TakesTurn : List Row → List Row → Row → Type 0
 TakesTurn old new turn = (turns : List Row) → IsCollected turns old → IsCollected (turns ++ turn ∷ []) new
+
+-- ---- laws
+
+-- a tally carries of every commodity, loads every cell with, and weighs in all what its turns do
+abbrev pub TallyIsItsTurns : Type 0
+TallyIsItsTurns = (turns rows : List Row) → IsTally turns rows
+    → ((k : ℕ) → carried rows k ≡ carried turns k) × ((c : ℕ) → load_of rows c ≡ load_of turns c) × (sum_by (λ row. row.weight) rows ≡ sum_by (λ turn. turn.weight) turns)
+
+-- so do rows in any order
+abbrev pub RowsAreTheirTurns : Type 0
+RowsAreTheirTurns = (turns rows : List Row) → IsCollected turns rows
+    → ((k : ℕ) → carried rows k ≡ carried turns k) × ((c : ℕ) → load_of rows c ≡ load_of turns c) × (sum_by (λ row. row.weight) rows ≡ sum_by (λ turn. turn.weight) turns)
+
+-- where each turn routes the same amount for its commodity, a row's weight is that amount for each turn along it
+abbrev pub WeightsAreCounted : Type 0
+WeightsAreCounted = (amount : ℕ → ℕ) (turns rows : List Row) → IsTally turns rows → All (λ turn. turn.weight ≡ amount turn.commodity) turns
+    → All (λ row. row.weight ≡ amount row.commodity * count_by (λ turn. same_path turn row) turns) rows

@@ -2,6 +2,8 @@
 //! with all that was routed along it.
 #![tactic(auto)]
 
+mod laws;
 mod tally;
 
+pub use laws::{rows_are_their_turns, tally_is_its_turns, weights_are_counted};
 pub use tally::Tally;

@@ -1,4 +1,4 @@
-use Rattle.std.proofs.Common.{ℕ, ◌+◌, ◌≤◌, ◌++◌, ◌∷◌, [], List, length, sym, subst}
+use Rattle.std.proofs.Common.{◌+◌, ◌≤◌, List, length, sym, subst}
 use Rattle.mcf_limits.specs.declared.TheConstants.{MAX_LENGTH}
 use Rattle.flow_model.specs.Routing.{Row, carried}
 use Rattle.route_tally.specs.Tally.{TakesTurn}

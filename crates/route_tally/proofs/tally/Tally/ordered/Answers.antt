@@ -1,7 +1,6 @@
-use Rattle.std.proofs.Common.{◌≡◌, ℕ, ◌<◌, List, length, sym, ap, ◌∙◌, subst, arith}
+use Rattle.std.proofs.Common.{◌≡◌, ◌<◌, length, sym, ap, ◌∙◌, subst, arith}
 use Rattle.std.specs.Prelude.{All}
 use Rattle.std.proofs.lemmas.List.Elements.{All-from_get_or}
-use Rattle.flow_model.specs.Routing.{Row}
 use Rattle.flow_paths.proofs.Numbers.{below_of_all}
 use Rattle.route_tally.specs.Tally.{IsCollected, IsTally}
 use Rattle.route_tally.proofs.Reordered.{in_order, tally_in_order}
