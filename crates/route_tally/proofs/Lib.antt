@@ -3,3 +3,4 @@ pub mod Adding
 pub mod Reordered
 pub mod TurnSums
 pub mod Counted
+pub mod Unique

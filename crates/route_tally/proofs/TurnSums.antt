@@ -129,7 +129,7 @@ list_same [] = refl
 list_same (x ∷ xs) = lex_same x (list_lt xs xs) (list_same xs)
 
 -- no row comes before one of its path
-row_same : (a b : Row) → same_path a b ≡ true → row_lt a b ≡ false
+pub row_same : (a b : Row) → same_path a b ≡ true → row_lt a b ≡ false
 row_same a b h =
     let p = same_parts a b h in
     ap (λ (k : ℕ). nat_lt a.commodity k || ((a.commodity == k) && list_lt a.walk b.walk)) (sym p.0) ∙ ap (λ (w : List ℕ). nat_lt a.commodity a.commodity || ((a.commodity == a.commodity) && list_lt a.walk w)) (sym p.1) ∙ lex_same a.commodity (list_lt a.walk a.walk) (list_same a.walk)

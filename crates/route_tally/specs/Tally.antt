@@ -47,3 +47,7 @@ RowsAreTheirTurns = (turns rows : List Row) → IsCollected turns rows
 abbrev pub WeightsAreCounted : Type 0
 WeightsAreCounted = (amount : ℕ → ℕ) (turns rows : List Row) → IsTally turns rows → All (λ turn. turn.weight ≡ amount turn.commodity) turns
     → All (λ row. row.weight ≡ amount row.commodity * count_by (λ turn. same_path turn row) turns) rows
+
+-- turns have one tally
+abbrev pub TallyIsUnique : Type 0
+TallyIsUnique = (turns rows others : List Row) → IsTally turns rows → IsTally turns others → rows ≡ others

@@ -5,5 +5,5 @@
 mod laws;
 mod tally;
 
-pub use laws::{rows_are_their_turns, tally_is_its_turns, weights_are_counted};
+pub use laws::{rows_are_their_turns, tally_is_its_turns, tally_is_unique, weights_are_counted};
 pub use tally::Tally;
