@@ -7,8 +7,8 @@ use mcf_limits::MAX_LENGTH;
 use std::alloc::{AllocError, Global};
 use std::marker::Model;
 
-/// What the turns so far have routed. Contracts see it as its rows, one for each commodity and path, in the order in
-/// which they first came.
+/// What the turns so far have routed. Contracts see it as its rows, one for each commodity and path, in the order
+/// in which they first came.
 #[derive(Drop)]
 pub struct Tally {
     paths: PathStore,
@@ -45,8 +45,8 @@ impl Tally {
         self.paths.rows()
     }
 
-    /// A turn that routes the amount, in units, for the commodity along the path: its row grows, or is a new one. `Err`
-    /// is for want of memory, and leaves the tally as it was.
+    /// A turn that routes the amount, in units, for the commodity along the path: its row grows, or is a new one.
+    /// `Err` is for want of memory, and leaves the tally as it was.
     pub fn add(&mut self, k: u32, path: &[u16], amount: u64) -> Result<(), AllocError>
         requires room { length self.old < 4294967295 }
         requires weight { carried self.old k + amount ≤ MAX_LENGTH }
@@ -61,7 +61,8 @@ impl Tally {
 
     /// The rows in ascending order of commodity and then cells.
     pub fn ordered(self, alloc: Global) -> Result<PathStore, AllocError>
-        ensures { IfOk result (λ rows. (turns : List Row) → IsCollected turns self → IsTally turns rows) }
+        ensures { IfOk result (λ rows. (turns : List Row) → IsCollected turns self
+            → IsTally turns rows) }
     {
         let Tally { paths } = self;
         let order = order_of(alloc, &paths)?;
