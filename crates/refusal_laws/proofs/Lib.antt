@@ -1,5 +1,8 @@
+pub mod Certified
+pub mod HeadReasons
 pub mod Heads
 pub mod Judged
+pub mod JudgedReasons
 pub mod LineKinds
 pub mod LineReasons
 pub mod Near
