@@ -7,6 +7,7 @@ mod scripts;
 
 pub use papers::{
     certified_refusals, head_kinds_say_why, heads_stop_there, judged_kinds_say_why,
-    judged_texts_stop_there, line_kinds_say_why, paper_kinds_say_why, papers_stop_there,
+    judged_texts_stop_there, line_kinds_say_why, paper_kinds_say_why,
+    paper_refusals_are_one, papers_stop_there,
 };
-pub use scripts::{script_kinds_say_why, script_texts_stop_there, scripts_stop_there};
+pub use scripts::{script_faults_are_one, script_kinds_say_why, script_texts_stop_there, scripts_stop_there};

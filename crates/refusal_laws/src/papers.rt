@@ -94,6 +94,15 @@ pub fn judged_kinds_say_why()
         → IsJudgement rows text (CertRefused r) → IsJudgedFor rows text r }
 {}
 
+/// Two reasons for which one line of a text is refused have one kind, under the same names: what is said
+/// of a refusal of that kind is said of no other. The same of the first lines.
+pub fn paper_refusals_are_one()
+    ensures papers { (sheets : Sheets) (lines : List Line) (r e : CertRefusal) → IsRefusedFor sheets lines r
+        → IsRefusedFor sheets lines e → r.line ≡ e.line → r.kind ≡ e.kind }
+    ensures heads { (lines : List Line) (r e : CertRefusal) → IsHeadRefusedFor lines r
+        → IsHeadRefusedFor lines e → r.line ≡ e.line → r.kind ≡ e.kind }
+{}
+
 /// Where the headers of certificates alone are known, a text with that of a routing is refused at its
 /// first line, as one without a header. Any other is read the same as where both are known, and what
 /// is refused of it or of the network is refused the same where it is judged.
