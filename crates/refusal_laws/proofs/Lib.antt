@@ -8,8 +8,8 @@ pub mod LineReasons
 pub mod Near
 pub mod NearPapers
 pub mod Networks
-pub mod OneFault
 pub mod OneKind
+pub mod OneScript
 pub mod Reasons
 pub mod Short
 pub mod ShortPapers

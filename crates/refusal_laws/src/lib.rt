@@ -13,5 +13,6 @@ pub use papers::{
     papers_stop_there,
 };
 pub use scripts::{
-    script_faults_are_one, script_kinds_say_why, script_texts_stop_there, scripts_stop_there,
+    script_faults_are_one, script_kinds_say_why, script_reasons_refuse, script_texts_stop_there,
+    scripts_stop_there,
 };

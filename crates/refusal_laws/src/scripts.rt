@@ -31,6 +31,14 @@ pub fn script_kinds_say_why()
         → IsOfToken terms caps tokens r ⊎ IsOfEnd terms caps tokens end r }
 {}
 
+/// And the other way: a script is refused so for each such reason. So it has no two, be it of another line or
+/// of another kind.
+pub fn script_reasons_refuse()
+    ensures { (terms : Terms) (end : ℕ) (caps : List ℕ) (tokens : List Lexeme) (r : ScriptRefusal)
+        → IsOfToken terms caps tokens r ⊎ IsOfEnd terms caps tokens end r
+        → scan terms end (record { expected = Command; caps = caps; steps = [] }) tokens ≡ Err r }
+{}
+
 /// Two faults of one token, where the same has to stand and links have the same capacities, have one kind.
 pub fn script_faults_are_one()
     ensures { (terms : Terms) (caps : List ℕ) (t : Lexeme) (next : Expected) (k l : ScriptKind)
