@@ -1,12 +1,10 @@
 -- What is refused where the headers of certificates alone are known.
-use Rattle.std.proofs.Common.{◌≡◌, ◌⊎◌, ℕ, List, [], ◌∷◌, Option, Some, None, Result, Ok, Err, refl, sym, ap, subst, ◌∙◌, inl, inr}
+use Rattle.std.proofs.Common.{◌≡◌, ℕ, List, [], ◌∷◌, Option, Some, None, Result, Ok, Err, refl, sym, ap, subst, ◌∙◌}
 use Rattle.text_lines.specs.Lines.{Line, lines_of}
 use Rattle.sndlib_grammar.specs.Rows.{NetRows}
 use Rattle.unit_scale.specs.Scaling.{ScaledNet}
-use Rattle.flow_paths.specs.declared.certificate.Proof.{Proof}
 use Rattle.cert_lines.specs.declared.refusal.CertKind.TheVariants.{NoHeader}
 use Rattle.cert_lines.specs.declared.refusal.CertRefusal.{CertRefusal}
-use Rattle.cert_lines.specs.Forms.{◌>>=◌}
 use Rattle.cert_text.specs.declared.opening.Kind.{Kind}
 use Rattle.cert_text.specs.declared.opening.Kind.TheVariants as kinds
 use Rattle.cert_text.specs.declared.opening.Known.TheVariants.{Both, Certificates}
@@ -14,18 +12,15 @@ use Rattle.cert_text.specs.declared.opening.Opening.{Opening}
 use Rattle.cert_text.specs.declared.opening.CertHead.{CertHead}
 use Rattle.cert_text.specs.declared.papers.Paper.{Paper}
 use Rattle.cert_text.specs.declared.papers.Paper.TheVariants as papers
-use Rattle.cert_text.specs.Reading.{Place, has_more}
 use Rattle.cert_text.specs.Papers.{form_of, header_of, header_by, of_certificate}
 use Rattle.cert_text.specs.Whole.{head_by, opened_by}
 use Rattle.cert_judge.specs.declared.refusal.Refusal.{Refusal}
 use Rattle.cert_judge.specs.declared.refusal.Refusal.TheVariants.{Net, Cert}
-use Rattle.cert_judge.specs.declared.judged.Judged.TheVariants.{CertRefused}
-use Rattle.cert_judge.specs.declared.certifying.Certified.{Certified}
 use Rattle.cert_judge.specs.declared.certifying.Certified.TheVariants.{Said}
 use Rattle.cert_judge.specs.Chain.{read_on, IsSaid}
 use Rattle.cert_judge.specs.Papers.{paper_on, rest_on, options_of, nothing_more}
 use Rattle.cert_judge.specs.Judgement.{OnPaper, IsJudgement, refused}
-use Rattle.cert_judge.specs.Certified.{OnRead, OnCertificate, IsCertifiedText, told}
+use Rattle.cert_judge.specs.Certified.{OnRead, IsCertifiedText, told}
 use Rattle.refusal_laws.specs.Routings.{SaysRouting}
 
 no_header : CertRefusal

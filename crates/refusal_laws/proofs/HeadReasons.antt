@@ -1,5 +1,5 @@
 -- Why the first lines of a text are refused at a line.
-use Rattle.std.proofs.Common.{◌≡◌, ◌≢◌, ◌⊎◌, ℕ, ◌+◌, Bool, true, false, cond, List, [], ◌∷◌, ◌++◌, length, Option, Some, None, Result, Ok, Err, refl, sym, ap, subst, ◌∙◌, inl, inr, arith}
+use Rattle.std.proofs.Common.{◌≡◌, ℕ, ◌+◌, Bool, true, false, cond, List, [], ◌∷◌, ◌++◌, length, Option, Some, None, Result, Ok, Err, refl, sym, ap, subst, ◌∙◌, inl, inr}
 use Rattle.std.specs.Prelude.{codes}
 use Rattle.text_lines.specs.Lines.{Line}
 use Rattle.unit_scale.specs.declared.modes.LinkMode.{LinkMode}
@@ -19,12 +19,11 @@ use Rattle.cert_text.specs.declared.opening.CertHead.{CertHead}
 use Rattle.cert_text.specs.Reading.{Place, at_line, has_more, line_from, next_line}
 use Rattle.cert_text.specs.Papers.{form_of, header_of, header, header_by}
 use Rattle.cert_text.specs.Whole.{mode_in, link_mode_line, module_mode_line, verdict_at, modes_behind, said_head, opened_by, head_by, head_in}
-use Rattle.refusal_laws.specs.Heads.{links_line, modules_line}
 use Rattle.refusal_laws.specs.PaperKinds.{Role, verdict, links, modules, StandsAt, Says}
-use Rattle.refusal_laws.specs.HeadKinds.{SaysNothing, IsSilent, IsHeadReason, IsHeadRefusedFor}
+use Rattle.refusal_laws.specs.HeadKinds.{SaysNothing, IsSilent, IsHeadRefusedFor}
 use Rattle.refusal_laws.proofs.Steps.{done, Is, then_is, is_more}
 use Rattle.refusal_laws.proofs.LineReasons.{no_verdict}
-use Rattle.refusal_laws.proofs.Heads.{Opened, HasWord, options, opened_from, link_again, module_again}
+use Rattle.refusal_laws.proofs.Heads.{Opened, options, opened_from, link_again, module_again}
 use Rattle.refusal_laws.proofs.Reasons.{At, Reached, no_more, not_last, at_next}
 
 -- ---- a line that is refused

@@ -1,9 +1,8 @@
 -- Why a text is refused that is judged on the rows of a network.
 use Rattle.std.proofs.Common.{◌≡◌, ℕ, List, Result, Ok, Err, refl, sym, subst, inl, inr}
-use Rattle.text_lines.specs.Lines.{Line, lines_of}
+use Rattle.text_lines.specs.Lines.{lines_of}
 use Rattle.sndlib_grammar.specs.Rows.{NetRows}
 use Rattle.sndlib_grammar.specs.declared.refusal.NetRefusal.{NetRefusal}
-use Rattle.unit_scale.specs.declared.options.NetOptions.{NetOptions}
 use Rattle.unit_scale.specs.Scaling.{ScaledNet, scaled_of}
 use Rattle.cert_lines.specs.Sheet.{sheets_of}
 use Rattle.cert_lines.specs.declared.refusal.CertRefusal.{CertRefusal}
@@ -16,7 +15,7 @@ use Rattle.cert_judge.specs.declared.judged.Judged.TheVariants.{CertRefused}
 use Rattle.cert_judge.specs.Papers.{options_of}
 use Rattle.cert_judge.specs.Chain.{of_text, read_on, IsSaid}
 use Rattle.cert_judge.specs.Judgement.{OnPaper, IsJudgement, refused as said_refusal}
-use Rattle.refusal_laws.specs.JudgedKinds.{IsPaperReason, IsJudgedFor}
+use Rattle.refusal_laws.specs.JudgedKinds.{IsJudgedFor}
 use Rattle.refusal_laws.proofs.Judged.{refusal_is, never_said, behind_net}
 use Rattle.refusal_laws.proofs.Reasons.{refused_for}
 use Rattle.refusal_laws.proofs.HeadReasons.{head_refused_for}

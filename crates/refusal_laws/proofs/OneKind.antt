@@ -2,7 +2,6 @@
 use Rattle.std.proofs.Common.{◌≡◌, ◌≢◌, ◌⊎◌, ℕ, ◌+◌, ◌<◌, ◌≤◌, Bool, true, false, List, [], ◌∷◌, ◌++◌, length, get_or, Option, Some, None, refl, sym, ap, subst, ◌∙◌, length-append, inl, inr, arith}
 use Rattle.std.specs.Prelude.{codes, map}
 use Rattle.std.specs.List.{AllByRecursion, join_with_byte}
-use Rattle.std.specs.Str.{bytes_eq}
 use Rattle.text_lines.specs.Lines.{Line}
 use Rattle.cert_lines.specs.Sheet.{Sheet, Sheets, place_of, sheet_for}
 use Rattle.cert_lines.specs.declared.net_line.TheConstants.{MAX_COUNT}
@@ -17,7 +16,7 @@ use Rattle.cert_text.specs.declared.opening.Kind.TheVariants as kinds
 use Rattle.cert_text.specs.declared.opening.Opening.{Opening}
 use Rattle.cert_text.specs.Papers.{form_of}
 use Rattle.cert_inverse.proofs.Words.{same_bytes}
-use Rattle.refusal_laws.specs.CertKinds.{Sort, name, number, decimal, nothing as no_word, Sorted, is_decimal, IsRight, IsWrong, IsFirstWrong, IsLineFault}
+use Rattle.refusal_laws.specs.CertKinds.{name, number, decimal, nothing as no_word, Sorted, is_decimal, IsRight, IsWrong, IsLineFault}
 use Rattle.refusal_laws.specs.HeadKinds.{IsHeadReason, IsHeadRefusedFor}
 use Rattle.refusal_laws.specs.PaperKinds.{Role, head_count, verdict, links, modules, counts, gap, phases, scale, lower, upper, path, cell, node, last, nothing, StandsAt, counts_in, as_counts, IsOtherNet, EndsWith, AreBeforeRows, BeginsNoRow, AreEnded, IsInOrder, IsRoleFault, Says, IsBodyReason, IsReason, IsRefusedFor}
 

@@ -1,5 +1,5 @@
 -- A script that is refused for such a reason is refused so: for that reason alone.
-use Rattle.std.proofs.Common.{◌≡◌, ◌≢◌, ◌⊎◌, ℕ, ◌+◌, ◌-◌, ◌<◌, ◌≤◌, List, [], ◌∷◌, ◌++◌, length, refl, sym, ap, subst, ◌∙◌, arith, Ok, Err, Result, Some, None, Option, Bool, true, false, cond, inl, inr, append_assoc, append-nil, get_or, set}
+use Rattle.std.proofs.Common.{◌≡◌, ◌≢◌, ◌⊎◌, ℕ, ◌+◌, ◌-◌, ◌<◌, ◌≤◌, List, [], ◌∷◌, ◌++◌, length, refl, sym, ap, ◌∙◌, arith, Ok, Err, Result, Option, Bool, true, false, cond, inl, inr, append_assoc, append-nil, get_or, set}
 use Rattle.std.specs.Prelude.{codes, nat_lt, nat_le}
 use Rattle.std.specs.Str.{bytes_eq}
 use Rattle.std.proofs.lemmas.Bool.{cases_lt}
@@ -12,7 +12,7 @@ use Rattle.sndlib_grammar.specs.declared.token.TokenKind.TheVariants.{LeftParen,
 use Rattle.sndlib_grammar.specs.Number.{Number as Numeral, number_of}
 use Rattle.unit_scale.specs.declared.decimal.UnitFault.{UnitFault}
 use Rattle.unit_scale.specs.declared.decimal.UnitFault.TheVariants as faults
-use Rattle.unit_scale.specs.Units.{units_read, units_from, units_of}
+use Rattle.unit_scale.specs.Units.{units_read, units_from}
 use Rattle.script.specs.declared.refusal.ScriptKind.{ScriptKind}
 use Rattle.script.specs.declared.refusal.ScriptKind.TheVariants.{Syntax, UnknownLink, BadNumber, TooFine, TooLarge, BelowZero}
 use Rattle.script.specs.declared.refusal.ScriptRefusal.{ScriptRefusal}
@@ -24,7 +24,7 @@ use Rattle.script.specs.declared.word.Expected.{Expected}
 use Rattle.script.specs.declared.word.Expected.TheVariants.{Command, Link, Closing, Number}
 use Rattle.script.specs.declared.word.Meaning.{Meaning}
 use Rattle.script.specs.declared.word.Meaning.TheVariants.{Expects, Edits, Shows}
-use Rattle.script.specs.Reading.{Terms, Sofar, scan, after, by_kind, command, meaning, token_meaning, linked, link_of, number, edits, changed, go_on, refused, finished}
+use Rattle.script.specs.Reading.{Terms, Sofar, scan, after, by_kind, command, meaning, token_meaning, linked, number, edits, go_on, refused, finished}
 use Rattle.script.specs.Commands.{IsWord, AreCommands, change_word}
 use Rattle.script.proofs.Spelled.{state}
 use Rattle.refusal_laws.specs.ScriptKinds.{caps_after, IsOpened, IsWithin, IsNoCommand, IsUnits, IsFault, IsOfToken, IsOfEnd}

@@ -25,7 +25,7 @@ use Rattle.cert_text.specs.Reading.{Place, at_line, has_more, line_from, next_li
 use Rattle.cert_text.specs.Papers.{modes_at, scale_at, opening_at, values_at, dual_at, routing_at, proof_at, form_of, header_of, header, routing_from, proof_from, counted_at, header_by}
 use Rattle.cert_text.specs.Whole.{paper_at, paper_in}
 use Rattle.cert_inverse.proofs.HeadTakes.{fixed_takes}
-use Rattle.refusal_laws.specs.PaperKinds.{Role, head_count, verdict, links, modules, counts, gap, phases, scale, lower, upper, path, cell, node, last, nothing, StandsAt, EndsWith, AreBeforeRows, BeginsNoRow, AreEnded, IsInOrder, IsRoleFault, Says, IsBodyReason, IsReason, IsRefusedFor}
+use Rattle.refusal_laws.specs.PaperKinds.{Role, head_count, verdict, links, modules, counts, gap, phases, scale, lower, upper, path, cell, node, last, nothing, StandsAt, EndsWith, AreBeforeRows, BeginsNoRow, AreEnded, IsInOrder, IsRoleFault, Says, IsBodyReason, IsRefusedFor}
 use Rattle.refusal_laws.proofs.Steps.{done, Is, then_is, is_more}
 use Rattle.refusal_laws.proofs.LineReasons.{verdict_fault, links_fault, modules_fault, counts_fault, gap_fault, phases_fault, scale_fault, lower_fault, upper_fault, path_fault, cell_fault, node_fault, last_fault}
 
