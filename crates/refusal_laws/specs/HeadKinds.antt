@@ -14,10 +14,12 @@ use Rattle.cert_inverse.specs.Inverse.{link_word_in}
 use Rattle.refusal_laws.specs.Heads.{links_line, modules_line}
 use Rattle.refusal_laws.specs.PaperKinds.{Role, verdict, links, modules, StandsAt, Says}
 
--- a line that has to be so says no verdict; or no mode of links for which the form has a word; or no mode of modules
+-- a line that has to be so says no verdict; or no mode of links for which the form has a word; or no mode of
+-- modules
 abbrev pub SaysNothing : Form → Role → Line → Type 0
 SaysNothing form verdict line = (closed : Bool) → join_with_byte 32 line ≢ join_with_byte 32 (verdict_words closed)
-SaysNothing form links line = (mode : LinkMode) → ¬ ((line ≡ links_line form mode) × (0 < length (link_word_in form mode)))
+SaysNothing form links line =
+    (mode : LinkMode) → ¬ ((line ≡ links_line form mode) × (0 < length (link_word_in form mode)))
 SaysNothing form modules line = (mode : ModuleMode) → line ≢ modules_line mode
 SaysNothing form role line = ⊥
 
