@@ -260,7 +260,7 @@ stuck lines e is = by (header lines) refl (header_at lines) is
 
 -- ---- what is spelled so is read
 
-link_again : (form : Form) (mode : LinkMode) → HasWord form mode → link_mode_line form (links_line form mode) ≡ Ok mode
+pub link_again : (form : Form) (mode : LinkMode) → HasWord form mode → link_mode_line form (links_line form mode) ≡ Ok mode
 unfolding link_mode_line
 link_again First Directed some = refl
 link_again First Undirected some = refl
@@ -269,7 +269,7 @@ link_again Second Directed some = refl
 link_again Second Undirected some = refl
 link_again Second Bidirected some = refl
 
-module_again : (mode : ModuleMode) → module_mode_line (modules_line mode) ≡ Ok mode
+pub module_again : (mode : ModuleMode) → module_mode_line (modules_line mode) ≡ Ok mode
 unfolding module_mode_line
 module_again Ignore = refl
 module_again Largest = refl

@@ -71,10 +71,10 @@ worded rows net text number head says links = λ form said far.
     let same : head.form ≡ form = form_is head.form form (sym says.0 ∙ said) in
     has_word rows net form (subst (λ (f : Form). HasWord f net.options.links) same (subst (HasWord head.form) links says.1))
 
-refusal_is : (r e : CertRefusal) → CertRefused r ≡ CertRefused e → r ≡ e
+pub refusal_is : (r e : CertRefusal) → CertRefused r ≡ CertRefused e → r ≡ e
 refusal_is r e h = cc
 
-never_said : (o : NetOptions) (net : ScaledNet) (paper : Paper) (r : CertRefusal) → IsSaidOf o net.net paper (CertRefused r) → ⊥
+pub never_said : (o : NetOptions) (net : ScaledNet) (paper : Paper) (r : CertRefusal) → IsSaidOf o net.net paper (CertRefused r) → ⊥
 never_said o net (papers.Routing x) r h = h
 never_said o net (papers.Full x) r h = h
 
@@ -87,7 +87,7 @@ on_paper rows text r head net well few e scaled (Err d) is k =
     let there = stops (sheets_of rows net) text d (citable_both rows net own few) (worded rows net text d.line head (head_says (lines_of text) head e) links) is in
     inr (record { head = head; says = e; net = net; scaled = scaled; stops = subst (λ (x : CertRefusal). StopsAt (IsPaper (sheets_of rows net)) text x.line) (sym (refusal_is r d k)) there })
 
-abbrev behind_net : NetRows → List ℕ → Result ScaledNet NetRefusal → Result (ScaledNet × Paper) Refusal
+abbrev pub behind_net : NetRows → List ℕ → Result ScaledNet NetRefusal → Result (ScaledNet × Paper) Refusal
 behind_net rows text scaled = of_net scaled >>= λ net. of_net (unless (nothing_more net)) >>= λ fits. of_text (rest_on rows text net) >>= λ paper. Ok (net, paper)
 
 on_net : (rows : NetRows) (text : List ℕ) (r : CertRefusal) (head : CertHead) → AreNetRows rows → rows.skipped ≤ MAX_COUNT → head_in (lines_of text) ≡ Ok head

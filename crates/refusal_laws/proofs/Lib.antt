@@ -1,10 +1,15 @@
+pub mod Certified
+pub mod HeadReasons
 pub mod Heads
 pub mod Judged
+pub mod JudgedReasons
 pub mod LineKinds
 pub mod LineReasons
 pub mod Near
 pub mod NearPapers
 pub mod Networks
+pub mod OneKind
+pub mod OneScript
 pub mod Reasons
 pub mod Short
 pub mod ShortPapers

@@ -34,17 +34,23 @@ not_fixed text line h same =
     let k : is_fixed text line ≡ true = ap (λ (w : List ℕ). bytes_eq w text) same ∙ equal_bytes text in
     absurd cc
 
-pub verdict_fault : (sheet : Sheet) (line : Line) (kind : CertKind) → verdict_line line ≡ Err kind → IsRoleFault sheet verdict line kind
-verdict_fault sheet line kind e = by (is_fixed (codes "verdict closed") line) (is_fixed (codes "verdict open") line) refl refl e
+abbrev SaysNoVerdict : Line → CertKind → Type 0
+SaysNoVerdict line kind = (kind ≡ Syntax) × ((closed : Bool) → join_with_byte 32 line ≢ join_with_byte 32 (verdict_words closed))
+
+pub no_verdict : (line : Line) (kind : CertKind) → verdict_line line ≡ Err kind → SaysNoVerdict line kind
+no_verdict line kind e = by (is_fixed (codes "verdict closed") line) (is_fixed (codes "verdict open") line) refl refl e
   where
     neither : is_fixed (codes "verdict closed") line ≡ false → is_fixed (codes "verdict open") line ≡ false → (closed : Bool) → join_with_byte 32 line ≢ join_with_byte 32 (verdict_words closed)
     neither h k true = not_fixed (codes "verdict closed") line h
     neither h k false = not_fixed (codes "verdict open") line k
 
-    by : (a b : Bool) → is_fixed (codes "verdict closed") line ≡ a → is_fixed (codes "verdict open") line ≡ b → cond a (fine true) (cond b (fine false) (Err Syntax)) ≡ Err kind → IsRoleFault sheet verdict line kind
+    by : (a b : Bool) → is_fixed (codes "verdict closed") line ≡ a → is_fixed (codes "verdict open") line ≡ b → cond a (fine true) (cond b (fine false) (Err Syntax)) ≡ Err kind → SaysNoVerdict line kind
     by true b h k s = absurd cc
     by false true h k s = absurd cc
     by false false h k s = let same : Syntax ≡ kind = cc in (sym same, neither h k)
+
+pub verdict_fault : (sheet : Sheet) (line : Line) (kind : CertKind) → verdict_line line ≡ Err kind → IsRoleFault sheet verdict line kind
+verdict_fault sheet line kind e = no_verdict line kind e
 
 mode_kind : (key mode : List ℕ) (line : Line) (kind : CertKind) → mode_line key mode line ≡ Err kind → kind ≡ Syntax
 unfolding mode_line

@@ -92,19 +92,19 @@ close_says terms caps t word = by (link_of terms t.text) refl
     by None e = (word, e)
     by (Some link) e = (refl, record { word = word; names = e })
 
-changed_says : (terms : Terms) (caps : List ℕ) (change : Change) (link count : ℕ) (t : Lexeme) → IsUnits terms t count → units_read terms.decimals (number_of t.text) ≡ Ok count
+changed_says : (terms : Terms) (caps : List ℕ) (change : Change) (link count : ℕ) (t : Lexeme) → IsUnits terms t count → count ≤ MAX_UNITS → units_read terms.decimals (number_of t.text) ≡ Ok count
     → Says terms caps t (Number change link) (edits link (changed change (get_or caps link 0) count))
-changed_says terms caps Set link count t units reads = (refl, units.word, count, reads, refl)
-changed_says terms caps Add link count t units reads = by (nat_le (get_or caps link 0 + count) MAX_UNITS) refl
+changed_says terms caps Set link count t units most reads = (refl, units.word, count, reads, refl)
+changed_says terms caps Add link count t units most reads = by (nat_le (get_or caps link 0 + count) MAX_UNITS) refl
   where
     by : (b : Bool) → nat_le (get_or caps link 0 + count) MAX_UNITS ≡ b → Says terms caps t (Number Add link) (edits link (cond b (Ok (get_or caps link 0 + count)) (Err TooLarge)))
     by true h = (refl, units.word, count, reads, ap (λ (b : Bool). cond b (Ok (get_or caps link 0 + count)) (Err TooLarge)) h)
     by false h = (count, units, inr (refl, lt_of (get_or caps link 0 + count) MAX_UNITS h))
-changed_says terms caps Sub link count t units reads = by (nat_le count (get_or caps link 0)) refl
+changed_says terms caps Sub link count t units most reads = by (nat_le count (get_or caps link 0)) refl
   where
     by : (b : Bool) → nat_le count (get_or caps link 0) ≡ b → Says terms caps t (Number Sub link) (edits link (cond b (Ok (get_or caps link 0 - count)) (Err BelowZero)))
     by true h = (refl, units.word, count, reads, ap (λ (b : Bool). cond b (Ok (get_or caps link 0 - count)) (Err BelowZero)) h)
-    by false h = (count, units, refl, lt_of count (get_or caps link 0) h)
+    by false h = (count, units, most, refl, lt_of count (get_or caps link 0) h)
 
 number_says : (terms : Terms) (caps : List ℕ) (change : Change) (link : ℕ) (t : Lexeme) → IsWord t → Says terms caps t (Number change link) (number change link (get_or caps link 0) (units_read terms.decimals (number_of t.text)))
 number_says terms caps change link t word = by (number_of t.text) refl
@@ -112,7 +112,7 @@ number_says terms caps change link t word = by (number_of t.text) refl
     limit : (n : Numeral) (m : ℕ) (b : Bool) → number_of t.text ≡ Some n → units_of terms.decimals n ≡ Some m → nat_le m MAX_UNITS ≡ b → Says terms caps t (Number change link) (number change link (get_or caps link 0) (cond b (Ok m) (Err faults.TooLarge)))
     limit n m true e f h =
         let reads : units_read terms.decimals (number_of t.text) ≡ Ok m = ap (units_read terms.decimals) e ∙ ap units_from f ∙ ap (λ (b : Bool). cond b (Ok m) (Err faults.TooLarge)) h in
-        changed_says terms caps change link m t (record { word = word; value = n; reads = e; whole = f }) reads
+        changed_says terms caps change link m t (record { word = word; value = n; reads = e; whole = f }) (le_of m MAX_UNITS h) reads
     limit n m false e f h = (m, record { word = word; value = n; reads = e; whole = f }, inl (lt_of m MAX_UNITS h))
 
     whole : (n : Numeral) (o : Option ℕ) → number_of t.text ≡ Some n → units_of terms.decimals n ≡ o → Says terms caps t (Number change link) (number change link (get_or caps link 0) (units_from o))

@@ -1,8 +1,11 @@
 pub mod CertKinds
+pub mod HeadKinds
 pub mod Heads
 pub mod Judged
+pub mod JudgedKinds
 pub mod Lines
 pub mod PaperKinds
 pub mod Papers
+pub mod Routings
 pub mod ScriptKinds
 pub mod Scripts

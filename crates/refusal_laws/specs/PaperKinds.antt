@@ -92,21 +92,28 @@ IsRoleFault sheet node line kind = (begins (codes "potential") line ≡ true) ×
 IsRoleFault sheet last line kind = (kind ≡ Syntax) × (join_with_byte 32 line ≢ codes "end")
 IsRoleFault sheet nothing line kind = kind ≡ Syntax
 
--- the last of the lines begins with that word
-abbrev pub EndsWith : List ℕ → List Line → Type 0
-EndsWith key lines = (front : List Line) × (line : Line) × (lines ≡ front ++ line ∷ []) × (begins key line ≡ true)
+-- so many lines stand before the rows
+abbrev pub head_count : Kind → ℕ
+head_count Certificate = 10
+head_count Routing = 5
 
 -- the lines are all those before the rows
 abbrev pub AreBeforeRows : Kind → List Line → Type 0
-AreBeforeRows Certificate lines = length lines ≡ 10
-AreBeforeRows Routing lines = length lines ≡ 5
+AreBeforeRows kind lines = length lines ≡ head_count kind
+
+-- the last of the lines stands behind those, and begins with that word
+abbrev pub EndsWith : Kind → List ℕ → List Line → Type 0
+EndsWith kind key lines =
+    (front : List Line) × (line : Line) × (lines ≡ front ++ line ∷ []) × (head_count kind ≤ length front)
+    × (begins key line ≡ true)
 
 -- the line begins with the word of no row that may stand behind these lines
 abbrev pub BeginsNoRow : Kind → List Line → Line → Type 0
 BeginsNoRow Routing before line = begins (codes "path") line ≡ false
 BeginsNoRow Certificate before line =
-    (begins (codes "path") line ≡ true → EndsWith (codes "length") before ⊎ EndsWith (codes "potential") before)
-    × (begins (codes "length") line ≡ true → EndsWith (codes "potential") before)
+    (begins (codes "path") line ≡ true
+    → EndsWith Certificate (codes "length") before ⊎ EndsWith Certificate (codes "potential") before)
+    × (begins (codes "length") line ≡ true → EndsWith Certificate (codes "potential") before)
     × (begins (codes "potential") line ≡ false)
 
 -- the last of the lines is the end
@@ -116,12 +123,12 @@ AreEnded lines = (front : List Line) × (line : Line) × (lines ≡ front ++ lin
 -- paths stand before lengths, and these before potentials; the end is no row that may still stand, and stands before
 -- what may not stand
 abbrev pub IsInOrder : Kind → Role → List Line → Line → Type 0
-IsInOrder kind path before line = AreBeforeRows kind before ⊎ EndsWith (codes "path") before
+IsInOrder kind path before line = AreBeforeRows kind before ⊎ EndsWith kind (codes "path") before
 IsInOrder kind cell before line =
-    (AreBeforeRows kind before ⊎ EndsWith (codes "path") before) ⊎ EndsWith (codes "length") before
+    (AreBeforeRows kind before ⊎ EndsWith kind (codes "path") before) ⊎ EndsWith kind (codes "length") before
 IsInOrder kind node before line =
-    ((AreBeforeRows kind before ⊎ EndsWith (codes "path") before) ⊎ EndsWith (codes "length") before)
-    ⊎ EndsWith (codes "potential") before
+    ((AreBeforeRows kind before ⊎ EndsWith kind (codes "path") before) ⊎ EndsWith kind (codes "length") before)
+    ⊎ EndsWith kind (codes "potential") before
 IsInOrder kind last before line = BeginsNoRow kind before line
 IsInOrder kind nothing before line = AreEnded before
 IsInOrder kind role before line = Unit {0}
@@ -131,14 +138,19 @@ abbrev pub Says : List Line → Opening → Type 0
 Says [] o = ⊥
 Says (line ∷ lines) o = form_of line ≡ Some o
 
--- a refusal of the line between these: it is the first and no header; or it is the last, without a line
--- feed; or it is not what it has to be
+-- what is wrong with the line between these, behind a first line that says this: it is the last, without a line
+-- feed; or it has one, and is not what it has to be
+abbrev pub IsBodyReason : Sheet → Kind → List Line → Line → List Line → CertRefusal → Type 0
+IsBodyReason sheet kind before line after r =
+    ((after ≡ []) × (r.kind ≡ Syntax))
+    ⊎ ((after ≢ []) × (role : Role) × StandsAt kind role r.line × IsInOrder kind role before line
+    × IsRoleFault sheet role line r.kind)
+
+-- a refusal of the line between these: it is the first and no header; or the first is one, and this is wrong
 abbrev pub IsReason : Sheets → List Line → List Line → Line → List Line → CertRefusal → Type 0
 IsReason sheets lines before line after r =
     ((r.line ≡ 1) × (form_of line ≡ None) × (r.kind ≡ NoHeader))
-    ⊎ (((after ≡ []) × (r.kind ≡ Syntax))
-    ⊎ ((o : Opening) × Says lines o × (role : Role) × StandsAt o.kind role r.line × IsInOrder o.kind role before line
-    × IsRoleFault (sheet_for sheets o.form) role line r.kind))
+    ⊎ ((o : Opening) × Says lines o × IsBodyReason (sheet_for sheets o.form) o.kind before line after r)
 
 -- the refusal is of this line, for such a reason
 pub record IsRefusedFor (sheets : Sheets) (lines : List Line) (r : CertRefusal) : Type 0 where

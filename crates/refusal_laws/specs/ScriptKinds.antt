@@ -1,5 +1,5 @@
 -- What the kind of a refusal says of the token at which a script is refused.
-use Rattle.std.specs.Prelude.{◌≡◌, ◌≢◌, ◌⊎◌, ℕ, ◌+◌, ◌<◌, List, [], ◌∷◌, ◌++◌, codes, Some, None, slice_index, slice_set}
+use Rattle.std.specs.Prelude.{◌≡◌, ◌≢◌, ◌⊎◌, ℕ, ◌+◌, ◌<◌, ◌≤◌, List, [], ◌∷◌, ◌++◌, codes, Some, None, slice_index, slice_set}
 use Rattle.mcf_limits.specs.declared.TheConstants.{MAX_UNITS}
 use Rattle.sndlib_grammar.specs.Tokens.{Lexeme}
 use Rattle.sndlib_grammar.specs.Number.{Number as Numeral, number_of}
@@ -73,7 +73,7 @@ pub record IsFine (terms : Terms) (t : Lexeme) : Type 0 where
 
 -- What is wrong with a token where this has to stand, and links have these capacities: no word, or no command where one
 -- has to stand; a word that is the id of no link; no number; no whole number of units; more units than the limit, or
--- with them more than the limit; more units than there are.
+-- with them more than the limit; no more units than the limit, but more than there are.
 abbrev pub IsFault : Terms → List ℕ → Lexeme → Expected → ScriptKind → Type 0
 IsFault terms caps t next Syntax = ¬ (IsWord t) ⊎ (IsWord t × (next ≡ Command) × IsNoCommand t.text)
 IsFault terms caps t (Link change) UnknownLink = IsWord t × (link_of terms t.text ≡ None)
@@ -83,7 +83,7 @@ IsFault terms caps t (Number change link) TooFine = IsFine terms t
 IsFault terms caps t (Number change link) TooLarge =
     (units : ℕ) × IsUnits terms t units × ((MAX_UNITS < units) ⊎ ((change ≡ Add) × (MAX_UNITS < slice_index caps link + units)))
 IsFault terms caps t (Number change link) BelowZero =
-    (units : ℕ) × IsUnits terms t units × (change ≡ Sub) × (slice_index caps link < units)
+    (units : ℕ) × IsUnits terms t units × (units ≤ MAX_UNITS) × (change ≡ Sub) × (slice_index caps link < units)
 IsFault terms caps t next kind = ⊥
 
 -- the refusal is of a token, behind commands and the words of one that has begun

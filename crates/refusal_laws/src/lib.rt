@@ -1,12 +1,18 @@
-//! What it means that a certificate, a routing or a script is refused at a line, said without the
-//! readers: laws over their texts.
+//! What it means that a certificate, a routing or a script is refused at a line: laws over their texts.
+//! Where a text stops is said by the texts that are written, and not by how one is read. What a kind says
+//! is said of the words of a line or of a token; into which words a line falls, and whether it has its
+//! form, is taken from the definitions that the readers are proved against.
 #![tactic(auto)]
 
 mod papers;
 mod scripts;
 
 pub use papers::{
-    heads_stop_there, judged_texts_stop_there, line_kinds_say_why, paper_kinds_say_why,
+    certified_refusals, head_kinds_say_why, heads_stop_there, judged_kinds_say_why,
+    judged_texts_stop_there, line_kinds_say_why, paper_kinds_say_why, paper_refusals_are_one,
     papers_stop_there,
 };
-pub use scripts::{script_kinds_say_why, script_texts_stop_there, scripts_stop_there};
+pub use scripts::{
+    script_faults_are_one, script_kinds_say_why, script_reasons_refuse, script_texts_stop_there,
+    scripts_stop_there,
+};

@@ -6,18 +6,27 @@ ghost use Rattle.sndlib_grammar.specs.Rows.{NetRows, AreNetRows};
 ghost use Rattle.cert_lines.specs.Sheet.{Sheet, Sheets};
 ghost use Rattle.cert_lines.specs.declared.net_line.TheConstants.{MAX_COUNT};
 ghost use Rattle.cert_lines.specs.declared.refusal.CertKind.{CertKind};
+ghost use Rattle.cert_lines.specs.declared.refusal.CertKind.TheVariants.{NoHeader};
 ghost use Rattle.cert_lines.specs.declared.refusal.CertRefusal.{CertRefusal};
 ghost use Rattle.cert_lines.specs.HeadLines.{gap_line, phases_line, scale_line, value_line};
 ghost use Rattle.cert_lines.specs.Rows.{path_row, length_row, potential_row};
+ghost use Rattle.cert_text.specs.declared.opening.Known.TheVariants.{Both, Certificates};
 ghost use Rattle.cert_text.specs.Whole.{head_in, paper_in};
 ghost use Rattle.cert_judge.specs.declared.judged.Judged.TheVariants.{CertRefused};
-ghost use Rattle.cert_judge.specs.Judgement.{IsJudgement};
+ghost use Rattle.cert_judge.specs.declared.refusal.Refusal.{Refusal};
+ghost use Rattle.cert_judge.specs.declared.refusal.Refusal.TheVariants.{Cert};
+ghost use Rattle.cert_judge.specs.Papers.{paper_on};
+ghost use Rattle.cert_judge.specs.Judgement.{IsJudgement, refused as said};
+ghost use Rattle.cert_judge.specs.Certified.{IsCertifiedText, told};
 ghost use Rattle.cert_inverse.specs.Inverse.{AreCitable};
 ghost use Rattle.refusal_laws.specs.Lines.{StopsAt};
 ghost use Rattle.refusal_laws.specs.Papers.{IsPaper, IsWorded, refused};
 ghost use Rattle.refusal_laws.specs.Heads.{IsHeaded, refused_head};
 ghost use Rattle.refusal_laws.specs.Judged.{StopsFor};
 ghost use Rattle.refusal_laws.specs.PaperKinds.{IsRefusedFor};
+ghost use Rattle.refusal_laws.specs.HeadKinds.{IsHeadRefusedFor};
+ghost use Rattle.refusal_laws.specs.JudgedKinds.{IsJudgedFor};
+ghost use Rattle.refusal_laws.specs.Routings.{SaysRouting};
 ghost use Rattle.refusal_laws.specs.CertKinds.{IsLineFault, gap_form, phases_form, scale_form, value_form, path_form, length_form, potential_form};
 
 /// Where a text is refused, the lines before begin the text of some certificate or routing of these
@@ -69,4 +78,39 @@ pub fn line_kinds_say_why()
 pub fn paper_kinds_say_why()
     ensures { (sheets : Sheets) (text : List ℕ) (r : CertRefusal)
         → paper_in sheets (lines_of text) ≡ refused r → IsRefusedFor sheets (lines_of text) r }
+{}
+
+/// The same of the first lines of a text, which say no kind and form, or behind them no verdict or no
+/// mode.
+pub fn head_kinds_say_why()
+    ensures { (text : List ℕ) (r : CertRefusal) → head_in (lines_of text) ≡ refused_head r
+        → IsHeadRefusedFor (lines_of text) r }
+{}
+
+/// The same of a text that is judged on the rows of a network: of its first lines, or of the whole with
+/// the names of the rows and of their network.
+pub fn judged_kinds_say_why()
+    ensures { (rows : NetRows) (text : List ℕ) (r : CertRefusal)
+        → IsJudgement rows text (CertRefused r) → IsJudgedFor rows text r }
+{}
+
+/// Two reasons for which one line of a text is refused have one kind, under the same names: what is said
+/// of a refusal of that kind is said of no other. The same of the first lines.
+pub fn paper_refusals_are_one()
+    ensures papers { (sheets : Sheets) (lines : List Line) (r e : CertRefusal) → IsRefusedFor sheets lines r
+        → IsRefusedFor sheets lines e → r.line ≡ e.line → r.kind ≡ e.kind }
+    ensures heads { (lines : List Line) (r e : CertRefusal) → IsHeadRefusedFor lines r
+        → IsHeadRefusedFor lines e → r.line ≡ e.line → r.kind ≡ e.kind }
+{}
+
+/// Where the headers of certificates alone are known, a text with that of a routing is refused at its
+/// first line, as one without a header. Any other is read the same as where both are known, and what
+/// is refused of it or of the network is refused the same where it is judged.
+pub fn certified_refusals()
+    ensures routings { (rows : NetRows) (text : List ℕ) → SaysRouting (lines_of text)
+        → paper_on Certificates rows text ≡ Err (Cert (record { line = 1; kind = NoHeader })) }
+    ensures others { (rows : NetRows) (text : List ℕ) → ¬ (SaysRouting (lines_of text))
+        → paper_on Certificates rows text ≡ paper_on Both rows text }
+    ensures judged { (rows : NetRows) (text : List ℕ) (r : Refusal) → ¬ (SaysRouting (lines_of text))
+        → IsCertifiedText rows text (told r) → IsJudgement rows text (said r) }
 {}

@@ -2,11 +2,13 @@
 
 ghost use Rattle.std.specs.Prelude.{◌≡◌, ◌⊎◌, ◌<◌, ℕ, List, [], Err, length};
 ghost use Rattle.sndlib_grammar.specs.Tokens.{Lexeme, lexemes};
+ghost use Rattle.script.specs.declared.refusal.ScriptKind.{ScriptKind};
 ghost use Rattle.script.specs.declared.refusal.ScriptRefusal.{ScriptRefusal};
+ghost use Rattle.script.specs.declared.word.Expected.{Expected};
 ghost use Rattle.script.specs.declared.word.Expected.TheVariants.{Command};
 ghost use Rattle.script.specs.Reading.{Terms, at_start, end_of, scan, script_of, terms_of};
 ghost use Rattle.refusal_laws.specs.Scripts.{CanGoOn, IsStoppedAt};
-ghost use Rattle.refusal_laws.specs.ScriptKinds.{IsOfToken, IsOfEnd};
+ghost use Rattle.refusal_laws.specs.ScriptKinds.{IsFault, IsOfToken, IsOfEnd};
 
 use sndlib_read::RawNet;
 use unit_scale::Scaled;
@@ -29,8 +31,22 @@ pub fn script_kinds_say_why()
         → IsOfToken terms caps tokens r ⊎ IsOfEnd terms caps tokens end r }
 {}
 
-/// The same of a script's text on a network that was read and has a link: there a command can
-/// always go on.
+/// And the other way: a script is refused so for each such reason. So it has no two, be it of another line or
+/// of another kind.
+pub fn script_reasons_refuse()
+    ensures { (terms : Terms) (end : ℕ) (caps : List ℕ) (tokens : List Lexeme) (r : ScriptRefusal)
+        → IsOfToken terms caps tokens r ⊎ IsOfEnd terms caps tokens end r
+        → scan terms end (record { expected = Command; caps = caps; steps = [] }) tokens ≡ Err r }
+{}
+
+/// Two faults of one token, where the same has to stand and links have the same capacities, have one kind.
+pub fn script_faults_are_one()
+    ensures { (terms : Terms) (caps : List ℕ) (t : Lexeme) (next : Expected) (k l : ScriptKind)
+        → IsFault terms caps t next k → IsFault terms caps t next l → k ≡ l }
+{}
+
+/// A script's text on a network that was read and has a link stops there to be one, too: there a command
+/// can always go on.
 pub fn script_texts_stop_there(rows: &RawNet<'_>, net: &Scaled)
     requires { 0 < length rows.now.links }
     ensures { (text : List ℕ) (r : ScriptRefusal) → script_of rows.now net.now text ≡ Err r
