@@ -70,7 +70,7 @@ all-divide net both own sides n h =
     (All-weaker (λ (side : Side). is_crossed net both side ≡ true) (λ (side : Side). 1 ≤ (upper_of net (cut_dual net both side)).den)
     (λ side is. crossed-divides net both side n is) (filter (is_crossed net both) sides) (filter_passes (is_crossed net both) sides)))
 
-All-front : {X : Type 0} (P : X → Type 0) (xs ys : List X) → All P (xs ++ ys) → All P xs
+pub All-front : {X : Type 0} (P : X → Type 0) (xs ys : List X) → All P (xs ++ ys) → All P xs
 All-front P xs ys h = λ i d l. subst P (get_or_append_left xs ys d i l) (h i d (omega (arith, length-append xs ys)))
 
 pub best-not-above : (net : Network) (both : Bool) (own : List DualRows) (best : DualRows) → IsNetwork net → All (λ d. DistanceDivides net d) own → IsBestDual net both own best

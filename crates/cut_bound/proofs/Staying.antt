@@ -19,8 +19,8 @@ use Rattle.flow_paths.specs.Least.{least_by}
 use Rattle.cut_bound.specs.Cuts.{Side, crosses, cut_dual, cut_value, leaves, side_potential, side_row}
 use Rattle.cut_bound.specs.Candidates.{candidates, front, fronts, is_crossed, node_sides, no_dual, rows_in, AreLevels, IsBestDual}
 use Rattle.cut_bound.specs.Laws.{GoBothWays}
-use Rattle.cut_bound.specs.Tightened.{duals, IsGiven, IsMadeOf, IsTightened}
-use Rattle.cut_bound.proofs.Bounding.{all-divide}
+use Rattle.cut_bound.specs.Tightened.{duals, IsCertificateOf, IsMadeOf, IsTightened}
+use Rattle.cut_bound.proofs.Bounding.{All-front, all-divide}
 use Rattle.cut_bound.proofs.CutDuals.{at-node, cut-value}
 use Rattle.cut_bound.proofs.Leasts.{le-test, least-below, least-one}
 use Rattle.cut_bound.proofs.Making.{dual-same, range-below}
@@ -28,10 +28,6 @@ use Rattle.cut_bound.proofs.Tightening.{unmapped}
 use Rattle.cut_bound.proofs.Unique.{levels-one, made-one}
 
 -- ---- lists
-
-All-front : {X : Type 0} (P : X → Type 0) (xs ys : List X) → All P (xs ++ ys) → All P xs
-All-front P [] ys h = λ i d l. absurd (omega arith)
-All-front P (x ∷ xs) ys h = All-cons P x xs (All-head P x (xs ++ ys) h) (All-front P xs ys (All-tail P x (xs ++ ys) h))
 
 All-back : {X : Type 0} (P : X → Type 0) (xs ys : List X) → All P (xs ++ ys) → All P ys
 All-back P [] ys h = h
@@ -202,7 +198,7 @@ module _ (net : Network) (both : Bool) (best : DualRows) where
 
 -- ---- again
 
-divides-of : (net : Network) (p : Proof) → IsGiven net p → 1 ≤ (upper_of net p.dual).den
+divides-of : (net : Network) (p : Proof) → IsCertificateOf net p → 1 ≤ (upper_of net p.dual).den
 divides-of net p g = let some = g.valid.distance.divides in omega (arith, some)
 
 stays-best : (net : Network) (both : Bool) (own : List DualRows) (best again : DualRows) → IsNetwork net → GoBothWays net both → 1 ≤ length own
@@ -250,7 +246,7 @@ stays-best net both own best again n go some divide is next =
     above-best = subst (λ (d : DualRows). All (AreAbove net both best) d.potentials) (sym is.best_is)
         (one-of own (map (cut_dual net both) (filter (is_crossed net both) sides)) some own-rows cut-rows)
 
-pub stays : (net : Network) (both : Bool) (first : Proof) (others : List Proof) (best again : Proof) → IsNetwork net → GoBothWays net both → All (IsGiven net) (first ∷ others)
+pub stays : (net : Network) (both : Bool) (first : Proof) (others : List Proof) (best again : Proof) → IsNetwork net → GoBothWays net both → All (IsCertificateOf net) (first ∷ others)
     → IsTightened net both first others best → IsTightened net both best [] again → again ≡ best
 stays net both first others best again n go h t u =
     made-one net best.gap best.routing best.dual again best made

@@ -21,7 +21,7 @@ use Rattle.cut_bound.specs.Cuts.{Side, cut_value, cut_dual, length_rows, leaves,
 use Rattle.cut_bound.specs.Candidates.{fronts, is_crossed, node_sides, no_dual, rows_in, IsBestDual}
 use Rattle.cut_bound.specs.Laws.{GoBothWays, IsBetter}
 use Rattle.cut_bound.specs.Search.{IsDualOf}
-use Rattle.cut_bound.specs.Tightened.{duals, greatest_routing, routings, HasFraction, IsGiven, IsMadeOf, IsTightened}
+use Rattle.cut_bound.specs.Tightened.{duals, greatest_routing, routings, HasFraction, IsCertificateOf, IsMadeOf, IsTightened}
 use Rattle.cut_bound.proofs.Leasts.{le-trans, least-one, test-gt, test-le}
 use Rattle.cut_bound.proofs.Bounding.{best-not-above}
 use Rattle.cut_bound.proofs.CutDuals.{cut-valid}
@@ -115,27 +115,27 @@ pub given-routing : (P : Routing → Type 0) (first : Proof) (second : Option Pr
 given-routing P first None a b = a
 given-routing P first (Some p) a b = greatest-has P first.routing (p.routing ∷ []) a (All-cons P p.routing [] b (λ i d l. absurd (omega arith)))
 
-pub some-given : (net : Network) (P : Routing → Type 0) → ((p : Proof) → IsGiven net p → P p.routing) → (second : Option Proof) → IfSome second (IsGiven net) → IfSome second (λ (p : Proof). P p.routing)
+pub some-given : (net : Network) (P : Routing → Type 0) → ((p : Proof) → IsCertificateOf net p → P p.routing) → (second : Option Proof) → IfSome second (IsCertificateOf net) → IfSome second (λ (p : Proof). P p.routing)
 some-given net P f None h = tt
 some-given net P f (Some p) h = f p h
 
-pub given-sound : (net : Network) (p : Proof) → IsGiven net p → IsSound net p.dual
+pub given-sound : (net : Network) (p : Proof) → IsCertificateOf net p → IsSound net p.dual
 given-sound net p g = record {
   dual = record { cells = g.valid.lengths; sources = g.valid.sources; distance = g.valid.distance; numbers = g.fits.lengths; rows = g.fits.potentials };
   potentials = g.valid.potentials;
 }
 
-pub given-all : (net : Network) (first : Proof) (second : Option Proof) → IsGiven net first → IfSome second (IsGiven net) → All (IsGiven net) (first ∷ option_to_list second)
-given-all net first None a b = All-cons (IsGiven net) first [] a (λ i d l. absurd (omega arith))
-given-all net first (Some p) a b = All-cons (IsGiven net) first (p ∷ []) a (All-cons (IsGiven net) p [] b (λ i d l. absurd (omega arith)))
+pub given-all : (net : Network) (first : Proof) (second : Option Proof) → IsCertificateOf net first → IfSome second (IsCertificateOf net) → All (IsCertificateOf net) (first ∷ option_to_list second)
+given-all net first None a b = All-cons (IsCertificateOf net) first [] a (λ i d l. absurd (omega arith))
+given-all net first (Some p) a b = All-cons (IsCertificateOf net) first (p ∷ []) a (All-cons (IsCertificateOf net) p [] b (λ i d l. absurd (omega arith)))
 
-sound-all : (net : Network) (ps : List Proof) → All (IsGiven net) ps → All (IsSound net) (duals ps)
-sound-all net ps h = All-map (IsSound net) (λ (p : Proof). p.dual) ps (All-weaker (IsGiven net) (λ (p : Proof). IsSound net p.dual) (λ p g. given-sound net p g) ps h)
+sound-all : (net : Network) (ps : List Proof) → All (IsCertificateOf net) ps → All (IsSound net) (duals ps)
+sound-all net ps h = All-map (IsSound net) (λ (p : Proof). p.dual) ps (All-weaker (IsCertificateOf net) (λ (p : Proof). IsSound net p.dual) (λ p g. given-sound net p g) ps h)
 
 pub has-fraction : (net : Network) (r : Routing) → IsRoutingOf net r → IsValidRouting net r → HasFraction r
 has-fraction net r a b = record { phases = a.phases; scale_cap = a.scale_cap; scale_load = a.scale_load; divides = b.scale }
 
-pub best-of-given : (net : Network) (both : Bool) (ps : List Proof) (p : Proof) (dual : DualRows) → IsNetwork net → GoBothWays net both → All (IsGiven net) (p ∷ ps)
+pub best-of-given : (net : Network) (both : Bool) (ps : List Proof) (p : Proof) (dual : DualRows) → IsNetwork net → GoBothWays net both → All (IsCertificateOf net) (p ∷ ps)
     → IsBestDual net both (duals (p ∷ ps)) dual → IsSound net dual
 best-of-given net both ps p dual n go h is = best-sound net both (duals (p ∷ ps)) dual n go (omega arith) (sound-all net (p ∷ ps) h) is
 
@@ -155,7 +155,7 @@ tightened-is net both first second r dual p e best made = record {
 -- ---- what is tightened
 
 pub tightened-best : (net : Network) (both : Bool) (first : Proof) (others : List Proof) (best : Proof) → IsNetwork net → GoBothWays net both
-    → All (IsGiven net) (first ∷ others) → IsTightened net both first others best → IsBetter net first others best
+    → All (IsCertificateOf net) (first ∷ others) → IsTightened net both first others best → IsBetter net first others best
 tightened-best net both first others best n go h t = record {
   given = record {
     fits = t.made.fits;
@@ -168,7 +168,7 @@ tightened-best net both first others best n go h t = record {
     sound = subst (IsSound net) (sym t.made.dual) (best-of-given net both others first t.dual n go h t.best_dual)
 
     rows : All (λ (p : Proof). IsValidRouting net p.routing) (first ∷ others)
-    rows = All-weaker (IsGiven net) (λ (p : Proof). IsValidRouting net p.routing) (λ p g. g.valid.routing) (first ∷ others) h
+    rows = All-weaker (IsCertificateOf net) (λ (p : Proof). IsValidRouting net p.routing) (λ p g. g.valid.routing) (first ∷ others) h
 
     of-routings : (P : Routing → Type 0) → All (λ (p : Proof). P p.routing) (first ∷ others) → All P (first.routing ∷ routings others)
     of-routings P q = All-map P (λ (p : Proof). p.routing) (first ∷ others) q
@@ -191,7 +191,7 @@ tightened-best net both first others best n go h t = record {
 
     upper : All (λ (p : Proof). FractionLe (upper_of net best.dual) (upper_of net p.dual)) (first ∷ others)
     upper =
-        let divide = All-map (λ (d : DualRows). DistanceDivides net d) (λ (p : Proof). p.dual) (first ∷ others) (All-weaker (IsGiven net) (λ (p : Proof). DistanceDivides net p.dual) (λ p g. g.valid.distance) (first ∷ others) h) in
+        let divide = All-map (λ (d : DualRows). DistanceDivides net d) (λ (p : Proof). p.dual) (first ∷ others) (All-weaker (IsCertificateOf net) (λ (p : Proof). DistanceDivides net p.dual) (λ p g. g.valid.distance) (first ∷ others) h) in
         let below = best-not-above net both (duals (first ∷ others)) t.dual n divide t.best_dual in
         unmapped (λ (d : DualRows). FractionLe (upper_of net best.dual) (upper_of net d)) (λ (p : Proof). p.dual) (first ∷ others)
         (subst (λ (b : DualRows). All (λ (d : DualRows). FractionLe (upper_of net b) (upper_of net d)) (duals (first ∷ others))) (sym t.made.dual) below)

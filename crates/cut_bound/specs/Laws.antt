@@ -9,7 +9,7 @@ use Rattle.flow_paths.specs.declared.certificate.Proof.{Proof}
 use Rattle.flow_paths.specs.Certificate.{lower_of, upper_of, CellsHaveLengths, SourcesHaveRows, RowsArePotentials, DistanceDivides}
 use Rattle.cut_bound.specs.Cuts.{Side, cut_value, cut_dual}
 use Rattle.cut_bound.specs.Candidates.{IsBestDual}
-use Rattle.cut_bound.specs.Tightened.{IsGiven, IsTightened}
+use Rattle.cut_bound.specs.Tightened.{IsCertificateOf, IsTightened}
 
 -- where cells are said to go both ways, all of them do
 abbrev pub GoBothWays : Network → Bool → Type 0
@@ -51,12 +51,12 @@ pub record IsNoWorse (net : Network) (best p : Proof) : Type 0 where
 
 -- of valid certificates comes a valid one that is no worse than any of them
 pub record IsBetter (net : Network) (first : Proof) (others : List Proof) (best : Proof) : Type 0 where
-  pub given : IsGiven net best
+  pub given : IsCertificateOf net best
   pub no_worse : All (IsNoWorse net best) (first ∷ others)
 
 abbrev pub TightenedIsBest : Type 0
 TightenedIsBest = (net : Network) (both : Bool) (first : Proof) (others : List Proof) (best : Proof) → IsNetwork net
-    → GoBothWays net both → All (IsGiven net) (first ∷ others) → IsTightened net both first others best
+    → GoBothWays net both → All (IsCertificateOf net) (first ∷ others) → IsTightened net both first others best
     → IsBetter net first others best
 
 -- there is one such certificate
@@ -67,5 +67,5 @@ TightenedIsUnique = (net : Network) (both : Bool) (first : Proof) (others : List
 -- tightened again it stays as it is
 abbrev pub TightenedStays : Type 0
 TightenedStays = (net : Network) (both : Bool) (first : Proof) (others : List Proof) (best again : Proof)
-    → IsNetwork net → GoBothWays net both → All (IsGiven net) (first ∷ others)
+    → IsNetwork net → GoBothWays net both → All (IsCertificateOf net) (first ∷ others)
     → IsTightened net both first others best → IsTightened net both best [] again → again ≡ best

@@ -29,7 +29,7 @@ abbrev pub duals : List Proof → List DualRows
 duals proofs = map (λ (p : Proof). p.dual) proofs
 
 -- a valid certificate, whose numbers are within the limits of a text
-pub record IsGiven (net : Network) (proof : Proof) : Type 0 where
+pub record IsCertificateOf (net : Network) (proof : Proof) : Type 0 where
   pub fits : IsProofOf net proof
   pub valid : IsValid net proof
 

@@ -7,7 +7,7 @@ ghost use Rattle.flow_paths.specs.Evaluation.{fraction_le};
 ghost use Rattle.cut_bound.specs.Laws.{GoBothWays};
 ghost use Rattle.cut_bound.specs.Candidates.{IsBestDual};
 ghost use Rattle.cut_bound.specs.Search.{IsDualOf};
-ghost use Rattle.cut_bound.specs.Tightened.{duals, greatest_routing, HasFraction, IsGiven, IsMadeOf, IsTightened};
+ghost use Rattle.cut_bound.specs.Tightened.{duals, greatest_routing, HasFraction, IsCertificateOf, IsMadeOf, IsTightened};
 
 use crate::best::best_dual;
 use crate::own::own_value;
@@ -118,8 +118,8 @@ pub fn tightened(
     second: Option<Proof>,
 ) -> Result<Proof, AllocError>
     requires ways { GoBothWays net.now both }
-    requires first { IsGiven net.now first }
-    requires second { IfSome second (IsGiven net.now) }
+    requires first { IsCertificateOf net.now first }
+    requires second { IfSome second (IsCertificateOf net.now) }
     ensures { IfOk result (IsTightened net.now both first (option_to_list second)) }
 {
     let _cells = net.cells();
