@@ -88,14 +88,7 @@ fn phase_over<G: Gate, R: Threads + Sync>(
         powers: on.powers,
         setting,
     };
-    let words = Loads::new(
-        alloc,
-        on.net,
-        on.groups,
-        setting,
-        loads,
-        hands.len() as u16,
-    )?;
+    let words = Loads::new(alloc, on.net, on.groups, setting, loads, hands.len() as u16)?;
     match phase(rt, alloc, &input, words, loads, hands, gate) {
         Ok(()) => Ok(()),
         Err(_) => Err(AllocError),
