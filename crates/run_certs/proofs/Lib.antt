@@ -1,2 +1,2 @@
 pub mod Certifying
-pub mod Tightening
+pub mod BestCertificates

@@ -40,7 +40,7 @@ use Rattle.run_base.specs.declared.ended.Ended.{Ended}
 use Rattle.run_base.specs.declared.outcome.Outcome.TheVariants as outcomes
 use Rattle.run_base.specs.Answer.{Answer, answer_of}
 use Rattle.run_certs.specs.Tighten.{IsBestOf, WritesBest, best_answer, go_both_ways, OnBoth, OnFirst, OnFirstRead}
-use Rattle.run_certs.proofs.Tightening.{best_certificate, better_of, given_of, ways_of}
+use Rattle.run_certs.proofs.BestCertificates.{best_certificate, better_of, given_of, ways_of}
 use Rattle.mcf_cli.specs.Run.{file_at, file_if}
 use Rattle.run_laws.specs.Accepted.{IsNetFile, IsPaperFile}
 use Rattle.run_laws.specs.Checked.{IsCheckedRun}
