@@ -89,10 +89,11 @@ passes options head x e = by (same_links head.links options.links) refl (same_mo
         → by_tests head a b ≡ Ok x → (head ≡ x) × (options_of head ≡ options)
     by true p true q h =
         let links = links_are head.links options.links p in
-        let modules = modules_are head.modules options.modules q in
-        (ok_is {E = CertRefusal} head x h,
-        ap (λ (l : LinkMode). record { links = l; modules = head.modules }) links
-        ∙ ap (λ (m : ModuleMode). record { links = options.links; modules = m }) modules)
+        let modules = modules_are head.modules options.modules q in (
+          ok_is {E = CertRefusal} head x h,
+          ap (λ (l : LinkMode). record { links = l; modules = head.modules }) links
+              ∙ ap (λ (m : ModuleMode). record { links = options.links; modules = m }) modules,
+        )
     by true p false q h = absurd cc
     by false p b q h = absurd cc
 
@@ -132,9 +133,10 @@ module _ (options : NetOptions) (lines : List Line) where
   opened o e =
       let a = bind_ok (opened_by Certificates lines) (λ x. under options x.0.0 >>= kept x) o e in
       let b = bind_ok (under options a.0.0.0) (kept a.0) o a.2 in
-      let is = ok_is {E = CertRefusal} a.0 o b.2 in
-      (a.1 ∙ ap (λ x. Ok x) is,
-      subst (λ (x : Opening). options_of x.0.0 ≡ options) is (passes options a.0.0.0 b.0 b.1).1)
+      let is = ok_is {E = CertRefusal} a.0 o b.2 in (
+        a.1 ∙ ap (λ x. Ok x) is,
+        subst (λ (x : Opening). options_of x.0.0 ≡ options) is (passes options a.0.0.0 b.0 b.1).1,
+      )
 
 -- ---- the chain
 
@@ -208,9 +210,10 @@ module _ (rows : NetRows) (net : ScaledNet) (text : List ℕ) (scaled : scaled_o
       })
 
 pub seconds_of_one : SecondsAreOfOneNetwork
-seconds_of_one rows net other text paper scaled =
-    (second_stages rows net text scaled other paper,
-    λ both. subst (λ (n : ScaledNet). second_on rows net.options text ≡ Ok (n, paper)) (sym both.0) (stages_second rows net text scaled paper both.1))
+seconds_of_one rows net other text paper scaled = (
+  second_stages rows net text scaled other paper,
+  λ both. subst (λ (n : ScaledNet). second_on rows net.options text ≡ Ok (n, paper)) (sym both.0) (stages_second rows net text scaled paper both.1),
+)
 
 -- no routing is read
 pub no_second_routing : (rows : NetRows) (net : ScaledNet) (text : List ℕ) (other : ScaledNet) (r : RoutingIs) → scaled_of rows net.options ≡ Ok net

@@ -124,11 +124,7 @@ pub fn tell_script_refusal<K: Sink>(out: &mut K, refusal: ScriptRefusal) -> Ende
 }
 
 // Writes the line of a refusal of a certificate's text, whose file is named so.
-fn tell_text_refusal<K: Sink>(
-    out: &mut K,
-    paper: &'static [u8],
-    refusal: CertRefusal,
-) -> Ended
+fn tell_text_refusal<K: Sink>(out: &mut K, paper: &'static [u8], refusal: CertRefusal) -> Ended
     ensures { Writes (K.seen out.old) (K.seen out.new) result
         (line_answer 3 (text_refused paper.now refusal)) }
 {

@@ -32,10 +32,10 @@ use Rattle.run_certs.specs.Tighten.{IsBestOf, go_both_ways}
 
 -- ---- how cells go
 
-link_both : (mode : LinkMode) (source target cap : ℕ) → IsTrue (go_both_ways mode) → All (λ (cell : Cell). cell.both ≡ true) (link_cells mode source target cap)
-link_both Directed source target cap t = absurd t
-link_both Undirected source target cap t = All-cons (λ (cell : Cell). cell.both ≡ true) (cell_going source target cap Both) [] refl (λ i d l. absurd (omega arith))
-link_both Bidirected source target cap t = absurd t
+link_both : (mode : LinkMode) (source target amount : ℕ) → IsTrue (go_both_ways mode) → All (λ (cell : Cell). cell.both ≡ true) (link_cells mode source target amount)
+link_both Directed source target amount t = absurd cc
+link_both Undirected source target amount t = All-cons (λ (cell : Cell). cell.both ≡ true) (cell_going source target amount Both) [] refl (λ i d l. absurd (omega arith))
+link_both Bidirected source target amount t = absurd cc
 
 cells_both : (o : NetOptions) (s : ℕ) (links : List NetLink) → IsTrue (go_both_ways o.links) → All (λ (cell : Cell). cell.both ≡ true) (flat_map (cells_of_link o s) links)
 cells_both o s [] t = λ i d l. absurd (omega arith)

@@ -214,19 +214,20 @@ module _ (files again : Holding) (tighten other : Request) (text more : List ℕ
       let c : IsBestOf t.net t.best [] u.best = subst (λ (ps : List Proof). IsBestOf t.net t.best ps u.best) none b in
       let givens : All (IsCertificateOf t.net.net) (t.first ∷ t.others) =
       All-weaker (IsCertificate t.rows t.net) (IsCertificateOf t.net.net) (given_of t.rows t.net) (t.first ∷ t.others) t.given in
-      let best : u.best ≡ t.best = stays t.net.net (go_both_ways t.net.options.links) t.first t.others t.best u.best t.certificate.network (ways_of t.rows t.net t.certificate.names) givens t.is_best c in
-      (u.is ∙ ap (λ (p : Proof). certificate_text (sheet_of u.rows u.net) p) best ∙ ap (λ (n : ScaledNet). certificate_text (sheet_of u.rows n) t.best) same.0
-      ∙ ap (λ (x : NetRows). certificate_text (sheet_of x t.net) t.best) (same_rows u.rows u.net_file) ∙ sym t.is,
-      u.status ∙ ap (λ (p : Proof). if p.closed then 0 else 1) best ∙ sym t.status)
+      let best : u.best ≡ t.best = stays t.net.net (go_both_ways t.net.options.links) t.first t.others t.best u.best t.certificate.network (ways_of t.rows t.net t.certificate.names) givens t.is_best c in (
+        u.is ∙ ap (λ (p : Proof). certificate_text (sheet_of u.rows u.net) p) best ∙ ap (λ (n : ScaledNet). certificate_text (sheet_of u.rows n) t.best) same.0
+            ∙ ap (λ (x : NetRows). certificate_text (sheet_of x t.net) t.best) (same_rows u.rows u.net_file) ∙ sym t.is,
+        u.status ∙ ap (λ (p : Proof). if p.closed then 0 else 1) best ∙ sym t.status,
+      )
 
 pub best_stays : TightenedRunsStay
-best_stays files again tighten other text more first second run then = by (are_best files tighten text first run)
+best_stays files again tighten other text more first second run later = by (are_best files tighten text first run)
   where
     last : Tightens files tighten text first → TellsFault again other more ⊎ Tightens again other more second → (more ≡ text) × (second.status ≡ first.status)
-    last t (inl (inl f)) = absurd (no_first files again tighten other text more first second t then f)
-    last t (inl (inr s)) = absurd (no_second files again tighten other text more first second t then s)
-    last t (inr u) = again_same files again tighten other text more first second t then u
+    last t (inl (inl f)) = absurd (no_first files again tighten other text more first second t later f)
+    last t (inl (inr s)) = absurd (no_second files again tighten other text more first second t later s)
+    last t (inr u) = again_same files again tighten other text more first second t later u
 
     by : TellsFault files tighten text ⊎ Tightens files tighten text first → TellsFault files tighten text ⊎ ((more ≡ text) × (second.status ≡ first.status))
     by (inl fault) = inl fault
-    by (inr t) = inr (last t (are_best again other more second then.run))
+    by (inr t) = inr (last t (are_best again other more second later.run))
