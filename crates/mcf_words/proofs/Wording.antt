@@ -15,15 +15,16 @@ use Rattle.mcf_limits.specs.declared.TheConstants.{DEFAULT_WORKERS, MAX_GAP, MAX
 use Rattle.sndlib_grammar.specs.Number.{Number, behind_digits, behind_whole, front_digits, number_of, plain}
 use Rattle.unit_scale.specs.Modes.{link_word, module_word}
 use Rattle.mcf_words.specs.declared.request.Command.{Command}
-use Rattle.mcf_words.specs.declared.request.Command.TheVariants.{Solve, Check, WhatIf, Upgrade, Sweep, SweepSolve, Print, Gen, Trial}
+use Rattle.mcf_words.specs.declared.request.Command.TheVariants.{Solve, Check, WhatIf, Upgrade, Tighten, Sweep, SweepSolve, Print, Gen, Trial}
 use Rattle.mcf_words.specs.declared.request.Request.{Request}
 use Rattle.mcf_words.specs.Items.{Setting}
 use Rattle.mcf_words.specs.Values.{values_of}
-use Rattle.mcf_words.specs.Request.{IsBudget, IsWithinLimits, file_count, options_of, one_worker_options, solver_options}
+use Rattle.mcf_words.specs.Request.{IsBudget, IsFileCount, IsWithinLimits, least_files, options_of, one_worker_options, solver_options}
 use Rattle.mcf_words.specs.Parts.{Apart, AreParts, MayStand, words_of, plain_of, settings_of}
 use Rattle.mcf_words.specs.WordValues.{IsGapWord, IsNumberWord, IsPhasesWord, Says}
 use Rattle.mcf_words.specs.Spelled.{IsSpelled, NameFiles, NameNumbers, OptionsSay}
 use Rattle.mcf_words.specs.Words.{AreFour, HasDefaults, IsRequest, gap_word, option_words, options_for, phases_words, plain_for, takes_workers, words_for, workers_words}
+use Rattle.mcf_words.proofs.FileCounts.{no_file_counted}
 use Rattle.mcf_words.proofs.PartsRead.{IsKnown}
 use Rattle.mcf_words.proofs.Saying.{values_absent, values_once}
 
@@ -182,6 +183,7 @@ settings_for Solve r = settings_with true r r.phases
 settings_for Check r = []
 settings_for WhatIf r = []
 settings_for Upgrade r = []
+settings_for Tighten r = []
 settings_for Sweep r = []
 settings_for SweepSolve r = settings_with false r r.phases
 settings_for Print r = []
@@ -193,6 +195,7 @@ parts_for Solve r plain = with_options true Solve r plain (by_place Solve refl)
 parts_for Check r plain = without_options Check plain
 parts_for WhatIf r plain = without_options WhatIf plain
 parts_for Upgrade r plain = without_options Upgrade plain
+parts_for Tighten r plain = without_options Tighten plain
 parts_for Sweep r plain = without_options Sweep plain
 parts_for SweepSolve r plain = with_options false SweepSolve r plain (by_place_alone SweepSolve refl)
 parts_for Print r plain = without_options Print plain
@@ -262,6 +265,7 @@ module _ (r : Request) (limits : IsWithinLimits r) where
   options_said Check none alone = none_said (none refl)
   options_said WhatIf none alone = none_said (none refl)
   options_said Upgrade none alone = none_said (none refl)
+  options_said Tighten none alone = none_said (none refl)
   options_said Sweep none alone = none_said (none refl)
   options_said SweepSolve none alone = all_said false r.phases (λ e. alone refl) refl
   options_said Print none alone = none_said (none refl)
@@ -315,7 +319,7 @@ empty : (n : ℕ) → 1 ≤ n → n ≡ 0 → ⊥
 empty n some e = omega arith
 
 module _ (r : Request) (is : IsRequest r) where
-  by_numbers : file_count r.command ≡ 0 → NameNumbers (plain_for r) r
+  by_numbers : least_files r.command ≡ 0 → NameNumbers (plain_for r) r
   by_numbers none =
       let f : FourFacts r.numbers = four_facts r.numbers (is.drawn none) in
       let seed_fits : f.seed < 2 ^ 64 = f.seed_fits in
@@ -324,7 +328,7 @@ module _ (r : Request) (is : IsRequest r) where
       let few_demands : f.demands ≤ MAX_DEMANDS = f.few_demands in
       record {
         none = none;
-        no_files = no_names r.names (is.files ∙ none);
+        no_files = no_names r.names (no_file_counted r.command (length r.names) none is.files);
         seed_word = decimal f.seed;
         nodes_word = decimal f.nodes;
         links_word = decimal f.links;
@@ -333,7 +337,7 @@ module _ (r : Request) (is : IsRequest r) where
         nodes = f.nodes;
         links = f.links;
         demands = f.demands;
-        words = ap (λ b. cond b (map decimal r.numbers) r.names) (eq-eqb (file_count r.command) 0 none) ∙ ap (map decimal) f.are;
+        words = ap (λ b. cond b (map decimal r.numbers) r.names) (eq-eqb (least_files r.command) 0 none) ∙ ap (map decimal) f.are;
         numbers = f.are;
         seed_is = number_word 0 (2 ^ 64 - 1) f.seed (omega arith) (omega arith) seed_fits;
         nodes_are = number_word 2 MAX_NODES f.nodes f.some_nodes few_nodes (omega arith);
@@ -345,13 +349,13 @@ module _ (r : Request) (is : IsRequest r) where
       no_names [] e = refl
       no_names (x ∷ xs) e = absurd (empty (length (x ∷ xs)) (omega arith) e)
 
-  by_files : (file_count r.command ≡ 0 → ⊥) → NameFiles (plain_for r) r
+  by_files : (least_files r.command ≡ 0 → ⊥) → NameFiles (plain_for r) r
   by_files some =
-      let plain_is : plain_for r ≡ r.names = ap (λ b. cond b (map decimal r.numbers) r.names) (ne_eqb (file_count r.command) 0 some) in
-      let one : 1 ≤ file_count r.command = from (file_count r.command) some in
+      let plain_is : plain_for r ≡ r.names = ap (λ b. cond b (map decimal r.numbers) r.names) (ne_eqb (least_files r.command) 0 some) in
+      let one : 1 ≤ least_files r.command = from (least_files r.command) some in
       record {
         some = one;
-        count = ap length plain_is ∙ is.files;
+        count = subst (λ (ns : List (List ℕ)). IsFileCount r.command (length ns)) (sym plain_is) is.files;
         files = sym plain_is;
         no_numbers = is.not_drawn one;
       }
@@ -360,11 +364,11 @@ module _ (r : Request) (is : IsRequest r) where
       from n apart = omega arith
 
   positional_said : NameFiles (plain_for r) r ⊎ NameNumbers (plain_for r) r
-  positional_said = by (file_count r.command == 0) refl
+  positional_said = by (least_files r.command == 0) refl
     where
-      by : (b : Bool) → (file_count r.command == 0) ≡ b → NameFiles (plain_for r) r ⊎ NameNumbers (plain_for r) r
-      by true e = inr (by_numbers (eqb-true (file_count r.command) 0 e))
-      by false e = inl (by_files (eqb-false (file_count r.command) 0 e))
+      by : (b : Bool) → (least_files r.command == 0) ≡ b → NameFiles (plain_for r) r ⊎ NameNumbers (plain_for r) r
+      by true e = inr (by_numbers (eqb-true (least_files r.command) 0 e))
+      by false e = inl (by_files (eqb-false (least_files r.command) 0 e))
 
   pub words_spelled : IsSpelled (words_for r) r
   words_spelled = record {

@@ -7,9 +7,9 @@ use Rattle.unit_scale.specs.Modes.{link_word, module_word}
 use Rattle.unit_scale.specs.declared.modes.LinkMode.TheVariants.{Undirected}
 use Rattle.unit_scale.specs.declared.modes.ModuleMode.TheVariants.{Largest}
 use Rattle.mcf_words.specs.declared.request.Command.{Command}
-use Rattle.mcf_words.specs.declared.request.Command.TheVariants.{Solve, Check, WhatIf, Upgrade, Sweep, SweepSolve, Print, Gen, Trial}
+use Rattle.mcf_words.specs.declared.request.Command.TheVariants.{Solve, Check, WhatIf, Upgrade, Tighten, Sweep, SweepSolve, Print, Gen, Trial}
 use Rattle.mcf_words.specs.declared.request.Request.{Request}
-use Rattle.mcf_words.specs.Request.{AreDrawn, IsWithinLimits, file_count, form_of, options_of}
+use Rattle.mcf_words.specs.Request.{AreDrawn, IsFileCount, IsWithinLimits, least_files, form_of, options_of}
 
 -- what the options of a request say is the default
 pub record HasDefaults (r : Request) : Type 0 where
@@ -35,9 +35,9 @@ pub record IsRequest (r : Request) : Type 0 where
   pub limits : IsWithinLimits r
   pub options : options_of r.command ≡ [] → HasDefaults r
   pub workers : takes_workers r.command ≡ false → r.workers ≡ DEFAULT_WORKERS
-  pub files : length r.names ≡ file_count r.command
-  pub drawn : file_count r.command ≡ 0 → AreFour r.numbers
-  pub not_drawn : 1 ≤ file_count r.command → r.numbers ≡ 0 ∷ 0 ∷ 0 ∷ 0 ∷ []
+  pub files : IsFileCount r.command (length r.names)
+  pub drawn : least_files r.command ≡ 0 → AreFour r.numbers
+  pub not_drawn : 1 ≤ least_files r.command → r.numbers ≡ 0 ∷ 0 ∷ 0 ∷ 0 ∷ []
 
 abbrev pub phases_words : Option ℕ → List (List ℕ)
 phases_words None = []
@@ -63,6 +63,7 @@ options_for Solve r = option_words true r
 options_for Check r = []
 options_for WhatIf r = []
 options_for Upgrade r = []
+options_for Tighten r = []
 options_for Sweep r = []
 options_for SweepSolve r = option_words false r
 options_for Print r = []
@@ -71,7 +72,7 @@ options_for Trial r = option_words true r
 
 -- the files, or the numbers where the command reads no file
 abbrev pub plain_for : Request → List (List ℕ)
-plain_for r = if file_count r.command == 0 then map decimal r.numbers else r.names
+plain_for r = if least_files r.command == 0 then map decimal r.numbers else r.names
 
 -- Words for the request: its command, every option of it, and behind `--` the positional words.
 abbrev pub words_for : Request → List (List ℕ)

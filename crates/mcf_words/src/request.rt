@@ -1,6 +1,7 @@
 //! What the words ask for.
 
-ghost use Rattle.std.specs.Prelude.{◌≡◌, ◌<◌, ℕ, [], ◌∷◌, ◌++◌, length, string_bytes, slice_index_or, OnOk, OnErr};
+ghost use Rattle.std.specs.Prelude.{◌≡◌, ◌<◌, ℕ, [], ◌∷◌, ◌++◌, length, string_bytes, slice_get, slice_index_or, OnOk, OnErr};
+ghost use Rattle.std.specs.Option.{option_map};
 ghost use Rattle.mcf_words.specs.declared.request.WordsEnd.TheVariants.{Memory};
 
 use std::alloc::{AllocError, AllocFailed, Global};
@@ -14,6 +15,7 @@ pub enum Command {
     Check,
     WhatIf,
     Upgrade,
+    Tighten,
     Sweep,
     SweepSolve,
     Print,
@@ -60,6 +62,16 @@ impl Names {
         ensures { result ≡ length self.now }
     {
         self.items.len()
+    }
+
+    /// The name at that place, if there is one.
+    pub fn get(&self, i: usize) -> Option<&str>
+        ensures { option_map (λ w. w.now) result ≡ slice_get self.now i }
+    {
+        match self.items.get(i) {
+            Some(name) => Some(name.as_str()),
+            None => None,
+        }
     }
 
     /// The name at that place.
