@@ -2,7 +2,7 @@
 use Rattle.std.proofs.Common.{◌≡◌, ◌∙◌, ◌-◌, ◌^◌, ◌≤◌, ◌⊎◌, inl, inr, ℕ, Bool, cond, true, false, refl, sym, ap, ap₂, subst, arith, List, [], ◌∷◌, length, Option, Some, None, option_map, codes, eqb-true, eq-eqb}
 use Rattle.std.specs.Prelude.{◌==◌}
 use Rattle.std.proofs.lemmas.Bool.{eqb-false, ne_eqb}
-use Rattle.mcf_limits.specs.declared.TheConstants.{DEFAULT_GAP, DEFAULT_STEP, DEFAULT_WORKERS, MAX_NODES, MAX_LINKS, MAX_DEMANDS, MAX_PHASES, MAX_WORKERS, MAX_STEP}
+use Rattle.mcf_limits.specs.declared.TheConstants.{DEFAULT_GAP, DEFAULT_STEP, MAX_NODES, MAX_LINKS, MAX_DEMANDS, MAX_PHASES, MAX_WORKERS, MAX_STEP}
 use Rattle.unit_scale.specs.Modes.{link_mode_of, module_mode_of}
 use Rattle.unit_scale.specs.declared.modes.LinkMode.{LinkMode}
 use Rattle.unit_scale.specs.declared.modes.LinkMode.TheVariants.{Undirected}
@@ -22,12 +22,12 @@ use Rattle.mcf_words.proofs.Basics.{bind_some, none_is, some_is}
 use Rattle.mcf_words.proofs.FileCounts.{counted, counts}
 use Rattle.mcf_words.proofs.PartsRead.{known_settings, known_test, parts_read}
 use Rattle.mcf_words.proofs.PartsFound.{parts_found}
-use Rattle.mcf_words.proofs.Saying.{choice_says, gaps_agree, links_agree, modules_agree, numbers_agree, phases_agree, says_choice}
+use Rattle.mcf_words.proofs.Saying.{choice_says, gaps_agree, links_agree, modules_agree, numbers_agree, phases_agree, says_choice, workers_agree}
 
 -- ---- options
 
 module _ (ss : List Setting) where
-  abbrev pub made : LinkMode → ModuleMode → ℕ → Option ℕ → ℕ → ℕ → Choices
+  abbrev pub made : LinkMode → ModuleMode → ℕ → Option ℕ → Option ℕ → ℕ → Choices
   made links modules gap phases workers step = record { net = record { links = links; modules = modules }; gap = gap; phases = phases; workers = workers; step = step }
 
   abbrev links_in : Option LinkMode
@@ -42,13 +42,13 @@ module _ (ss : List Setting) where
   abbrev phases_in : Option (Option ℕ)
   phases_in = choice (λ w. option_map Some (number_in 1 MAX_PHASES w)) None (values_of (codes "--phases") ss)
 
-  abbrev workers_in : Option ℕ
-  workers_in = choice (number_in 1 MAX_WORKERS) DEFAULT_WORKERS (values_of (codes "--workers") ss)
+  abbrev workers_in : Option (Option ℕ)
+  workers_in = choice (λ w. option_map Some (number_in 1 MAX_WORKERS w)) None (values_of (codes "--workers") ss)
 
   abbrev step_in : Option ℕ
   step_in = choice (number_in 1 MAX_STEP) DEFAULT_STEP (values_of (codes "--step") ss)
 
-  abbrev with_workers : LinkMode → ModuleMode → ℕ → Option ℕ → ℕ → Option Choices
+  abbrev with_workers : LinkMode → ModuleMode → ℕ → Option ℕ → Option ℕ → Option Choices
   with_workers l m g p w = step_in >>= λ s. Some (made l m g p w s)
 
   abbrev with_phases : LinkMode → ModuleMode → ℕ → Option ℕ → Option Choices
@@ -96,7 +96,7 @@ module _ (ss : List Setting) where
     modules = says_choice (codes "--modules") module_mode_of _ modules_agree Largest ss r.net.modules say.modules;
     gap = says_choice (codes "--gap") gap_of _ gaps_agree DEFAULT_GAP ss r.gap say.gap;
     phases = says_choice (codes "--phases") (λ w. option_map Some (number_in 1 MAX_PHASES w)) _ phases_agree None ss r.phases say.phases;
-    workers = says_choice (codes "--workers") (number_in 1 MAX_WORKERS) _ (numbers_agree 1 MAX_WORKERS) DEFAULT_WORKERS ss r.workers say.workers;
+    workers = says_choice (codes "--workers") (λ w. option_map Some (number_in 1 MAX_WORKERS w)) _ workers_agree None ss r.workers say.workers;
     step = says_choice (codes "--step") (number_in 1 MAX_STEP) _ (numbers_agree 1 MAX_STEP) DEFAULT_STEP ss r.step say.step;
   }
 
@@ -106,7 +106,7 @@ module _ (ss : List Setting) where
     modules = choice_says (codes "--modules") module_mode_of _ modules_agree Largest ss r.net.modules is.modules;
     gap = choice_says (codes "--gap") gap_of _ gaps_agree DEFAULT_GAP ss r.gap is.gap;
     phases = choice_says (codes "--phases") (λ w. option_map Some (number_in 1 MAX_PHASES w)) _ phases_agree None ss r.phases is.phases;
-    workers = choice_says (codes "--workers") (number_in 1 MAX_WORKERS) _ (numbers_agree 1 MAX_WORKERS) DEFAULT_WORKERS ss r.workers is.workers;
+    workers = choice_says (codes "--workers") (λ w. option_map Some (number_in 1 MAX_WORKERS w)) _ workers_agree None ss r.workers is.workers;
     step = choice_says (codes "--step") (number_in 1 MAX_STEP) _ (numbers_agree 1 MAX_STEP) DEFAULT_STEP ss r.step is.step;
   }
 

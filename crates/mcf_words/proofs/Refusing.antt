@@ -5,7 +5,7 @@ use Rattle.std.specs.Char.{is_ascii_digit}
 use Rattle.std.specs.List.{cons_option, list_all, list_any}
 use Rattle.std.specs.Str.{bytes_eq}
 use Rattle.std.proofs.lemmas.Bool.{and_parts, and_right, eqb-true, false≢true, not-false, or_cases}
-use Rattle.mcf_limits.specs.declared.TheConstants.{DEFAULT_GAP, DEFAULT_STEP, DEFAULT_WORKERS, MAX_PHASES, MAX_WORKERS, MAX_STEP}
+use Rattle.mcf_limits.specs.declared.TheConstants.{DEFAULT_GAP, DEFAULT_STEP, MAX_PHASES, MAX_WORKERS, MAX_STEP}
 use Rattle.unit_scale.specs.Modes.{link_mode_of, module_mode_of}
 use Rattle.unit_scale.specs.declared.modes.LinkMode.{LinkMode}
 use Rattle.unit_scale.specs.declared.modes.LinkMode.TheVariants.{Undirected}
@@ -87,8 +87,8 @@ module _ (settings : List Setting) where
   abbrev phases : Option (Option ℕ)
   phases = choice (λ w. option_map Some (number_in 1 MAX_PHASES w)) None (values_of (codes "--phases") settings)
 
-  abbrev workers : Option ℕ
-  workers = choice (number_in 1 MAX_WORKERS) DEFAULT_WORKERS (values_of (codes "--workers") settings)
+  abbrev workers : Option (Option ℕ)
+  workers = choice (λ w. option_map Some (number_in 1 MAX_WORKERS w)) None (values_of (codes "--workers") settings)
 
   abbrev step : Option ℕ
   step = choice (number_in 1 MAX_STEP) DEFAULT_STEP (values_of (codes "--step") settings)
@@ -118,7 +118,8 @@ module _ (settings : List Setting) where
 
   workers_fail : (name : List ℕ) → Fails name → list_any (bytes_eq name) (codes "--workers" ∷ codes "--step" ∷ []) ≡ true → (workers ≡ None) ⊎ (step ≡ None)
   workers_fail name f e = elim (here_or name (codes "--workers") (codes "--step" ∷ []) e) [
-    | inl h ↦ inl (no_choice (number_in 1 MAX_WORKERS) DEFAULT_WORKERS (values_of (codes "--workers") settings) (no_number 1 MAX_WORKERS) (fails_at name _ h f))
+    | inl h ↦ inl (no_choice (λ w. option_map Some (number_in 1 MAX_WORKERS w)) None (values_of (codes "--workers") settings)
+        (λ v d. ap (option_map Some) (no_number 1 MAX_WORKERS v d)) (fails_at name _ h f))
     | inr h ↦ inr (step_fails name f h)
   ]
 

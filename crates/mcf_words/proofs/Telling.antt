@@ -15,7 +15,7 @@ use Rattle.clap.specs.declared.error.kind.ErrorKind.TheVariants.{OutOfMemory}
 use Rattle.clap.specs.declared.parser.matches.ArgMatches.{ArgMatches}
 use Rattle.clap.specs.declared.parser.matches.Found.{Found}
 use Rattle.clap.proofs.WalkLemmas.{first_value-rows, raw_values-rows}
-use Rattle.mcf_limits.specs.declared.TheConstants.{DEFAULT_GAP, DEFAULT_STEP, DEFAULT_WORKERS, MAX_PHASES, MAX_WORKERS, MAX_STEP}
+use Rattle.mcf_limits.specs.declared.TheConstants.{DEFAULT_GAP, DEFAULT_STEP, MAX_PHASES, MAX_WORKERS, MAX_STEP}
 use Rattle.unit_scale.specs.Modes.{link_mode_of, module_mode_of}
 use Rattle.unit_scale.specs.declared.modes.LinkMode.TheVariants.{Undirected}
 use Rattle.unit_scale.specs.declared.modes.ModuleMode.TheVariants.{Largest}
@@ -148,7 +148,7 @@ module _ (command : Command) (items : Items) (found : Found) (t : Tells command 
   unfolding choices_of choices_in
   choices_told = λ i. said (codes "links") link_mode_of Undirected refl i >>= λ links. said (codes "modules") module_mode_of Largest refl i >>= λ modules.
       said (codes "gap") gap_of DEFAULT_GAP refl i >>= λ gap. said (codes "phases") (λ w. option_map Some (number_in 1 MAX_PHASES w)) None refl i >>= λ phases.
-      said (codes "workers") (number_in 1 MAX_WORKERS) DEFAULT_WORKERS refl i >>= λ workers. said (codes "step") (number_in 1 MAX_STEP) DEFAULT_STEP refl i >>= λ step.
+      said (codes "workers") (λ w. option_map Some (number_in 1 MAX_WORKERS w)) None refl i >>= λ workers. said (codes "step") (number_in 1 MAX_STEP) DEFAULT_STEP refl i >>= λ step.
       Some (record { net = record { links = links; modules = modules }; gap = gap; phases = phases; workers = workers; step = step })
 
   request_told : request_from command items ≡ request_in command found

@@ -3,7 +3,7 @@ use Rattle.std.specs.Prelude.{ℕ, IfSome, ◌≤◌, ◌^◌, ◌-◌, Bool, Li
 use Rattle.std.specs.List.{find, list_all, list_any}
 use Rattle.std.specs.Option.{option_map}
 use Rattle.std.specs.Str.{bytes_eq}
-use Rattle.mcf_limits.specs.declared.TheConstants.{DEFAULT_GAP, DEFAULT_STEP, DEFAULT_WORKERS, MAX_GAP, MAX_NODES, MAX_LINKS, MAX_DEMANDS, MAX_PHASES, MAX_WORKERS, MAX_STEP}
+use Rattle.mcf_limits.specs.declared.TheConstants.{DEFAULT_GAP, DEFAULT_STEP, MAX_GAP, MAX_NODES, MAX_LINKS, MAX_DEMANDS, MAX_PHASES, MAX_WORKERS, MAX_STEP}
 use Rattle.unit_scale.specs.declared.modes.LinkMode.TheVariants.{Undirected}
 use Rattle.unit_scale.specs.declared.modes.ModuleMode.TheVariants.{Largest}
 use Rattle.unit_scale.specs.declared.options.NetOptions.{NetOptions}
@@ -23,12 +23,15 @@ None >>= f = None
 abbrev pub IsBudget : Option ℕ → Type 0
 IsBudget phases = IfSome phases (λ p. (1 ≤ p) × (p ≤ MAX_PHASES))
 
+-- the number of workers, where one was given, is within its limits
+abbrev pub AreWorkers : Option ℕ → Type 0
+AreWorkers workers = IfSome workers (λ w. (1 ≤ w) × (w ≤ MAX_WORKERS))
+
 -- gap, phase budget, workers and step are within their limits
-pub record AreWithinLimits (gap : ℕ) (phases : Option ℕ) (workers step : ℕ) : Type 0 where
+pub record AreWithinLimits (gap : ℕ) (phases workers : Option ℕ) (step : ℕ) : Type 0 where
   pub gap_limit : gap ≤ MAX_GAP
   pub budget : IsBudget phases
-  pub some_worker : 1 ≤ workers
-  pub workers_limit : workers ≤ MAX_WORKERS
+  pub workers_limit : AreWorkers workers
   pub some_step : 1 ≤ step
   pub step_limit : step ≤ MAX_STEP
 
@@ -108,7 +111,7 @@ pub record Choices : Type 0 where
   pub net : NetOptions
   pub gap : ℕ
   pub phases : Option ℕ
-  pub workers : ℕ
+  pub workers : Option ℕ
   pub step : ℕ
 
 unfoldable pub choices_of : List Setting → Option Choices
@@ -117,7 +120,7 @@ choices_of settings = do
   modules ← choice module_mode_of Largest (values_of (codes "--modules") settings)
   gap ← choice gap_of DEFAULT_GAP (values_of (codes "--gap") settings)
   phases ← choice (λ w. option_map Some (number_in 1 MAX_PHASES w)) None (values_of (codes "--phases") settings)
-  workers ← choice (number_in 1 MAX_WORKERS) DEFAULT_WORKERS (values_of (codes "--workers") settings)
+  workers ← choice (λ w. option_map Some (number_in 1 MAX_WORKERS w)) None (values_of (codes "--workers") settings)
   step ← choice (number_in 1 MAX_STEP) DEFAULT_STEP (values_of (codes "--step") settings)
   Some (record { net = record { links = links; modules = modules }; gap = gap; phases = phases; workers = workers; step = step })
 

@@ -5,7 +5,7 @@ ghost use Rattle.std.specs.Option.{option_map};
 ghost use Rattle.clap.specs.Words.{found_of};
 ghost use Rattle.mcf_words.specs.Answers.{Answers};
 ghost use Rattle.mcf_words.specs.Parse.{choices_in, read_in, request_in, words_in};
-ghost use Rattle.mcf_words.specs.Request.{IsFileCount, least_files as least_files_lem, IsBudget, AreWithinLimits, IsWithinLimits, AreDrawn, four_numbers as four_numbers_lem, numbers_of as numbers_of_lem, files_of as files_of_lem, request_of};
+ghost use Rattle.mcf_words.specs.Request.{IsFileCount, least_files as least_files_lem, IsBudget, AreWorkers, AreWithinLimits, IsWithinLimits, AreDrawn, four_numbers as four_numbers_lem, numbers_of as numbers_of_lem, files_of as files_of_lem, request_of};
 ghost use Rattle.mcf_words.specs.Values.{gap_of as gap_of_lem, number_in as number_in_lem};
 ghost use Rattle.unit_scale.specs.Modes.{link_mode_of as link_mode_of_lem, module_mode_of as module_mode_of_lem};
 ghost use Rattle.mcf_words.specs.Views.{choices_view};
@@ -18,8 +18,8 @@ use crate::request::{Command, Names, Request, WordsEnd};
 use crate::values::{gap_of, number_in};
 use clap::ArgMatches;
 use mcf_limits::{
-    DEFAULT_GAP, DEFAULT_STEP, DEFAULT_WORKERS, MAX_DEMANDS, MAX_GAP, MAX_LINKS, MAX_NODES,
-    MAX_PHASES, MAX_STEP, MAX_WORKERS,
+    DEFAULT_GAP, DEFAULT_STEP, MAX_DEMANDS, MAX_GAP, MAX_LINKS, MAX_NODES, MAX_PHASES, MAX_STEP,
+    MAX_WORKERS,
 };
 use std::alloc::{AllocError, Global};
 use unit_scale::{LinkMode, ModuleMode, NetOptions, link_mode_of, module_mode_of};
@@ -30,7 +30,7 @@ pub struct Choices {
     pub net: NetOptions,
     pub gap: u64,
     pub phases: Option<u32>,
-    pub workers: u16,
+    pub workers: Option<u16>,
     pub step: u32,
 }
 
@@ -89,14 +89,18 @@ fn phases_choice(matches: &ArgMatches<'_>) -> Option<Option<u32>>
     }
 }
 
-fn workers_choice(matches: &ArgMatches<'_>) -> Option<u16>
+// The number of workers, if one is asked.
+fn workers_choice(matches: &ArgMatches<'_>) -> Option<Option<u16>>
     ensures value { result ≡ read_in (found_of matches.now) WORKERS.now
-        (number_in_lem 1 MAX_WORKERS) DEFAULT_WORKERS }
-    ensures limits { IfSome result (λ n. (1 ≤ n) × (n ≤ MAX_WORKERS)) }
+        (λ w. option_map Some (number_in_lem 1 MAX_WORKERS w)) None }
+    ensures limits { IfSome result AreWorkers }
 {
-    match number_choice(matches, WORKERS, MAX_WORKERS as u64, DEFAULT_WORKERS as u64) {
-        Some(workers) => Some(workers as u16),
-        None => None,
+    match matches.get_str(WORKERS) {
+        Some(value) => match number_in(1, MAX_WORKERS as u64, value.as_bytes()) {
+            Some(workers) => Some(Some(workers as u16)),
+            None => None,
+        },
+        None => Some(None),
     }
 }
 

@@ -96,7 +96,8 @@ pub struct Request {
     pub gap: u64,
     /// `None` where the words leave the phase budget open.
     pub phases: Option<u32>,
-    pub workers: u16,
+    /// `None` where the words leave the number of workers open.
+    pub workers: Option<u16>,
     pub step: u32,
 }
 
