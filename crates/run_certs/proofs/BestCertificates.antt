@@ -1,5 +1,5 @@
 -- The best certificate of valid ones: it is a certificate, and can be written.
-use Rattle.std.proofs.Common.{◌≡◌, ◌≤◌, ◌<◌, ℕ, zero, suc, ◌+◌, Bool, true, false, cond, List, [], ◌∷◌, ◌++◌, length, get_or, Option, Some, None, refl, sym, ap, subst, ◌∙◌, arith}
+use Rattle.std.proofs.Common.{◌≡◌, ◌≤◌, ◌<◌, ℕ, zero, suc, ◌+◌, Bool, true, false, cond, List, [], ◌∷◌, ◌++◌, length, get_or, Option, Some, None, inl, inr, refl, sym, ap, subst, ◌∙◌, arith}
 use Rattle.std.specs.Prelude.{All, IfSome, IsTrue, map, option_to_list}
 use Rattle.std.specs.List.{AllByRecursion, filter_map, flat_map}
 use Rattle.std.proofs.lemmas.List.Elements.{All-append, All-cons, All-from_recursion, All-head, All-weaker}
@@ -28,7 +28,10 @@ use Rattle.cert_judge.specs.Certified.{IsCertificate}
 use Rattle.cert_judge.proofs.Fitting.{is_scaled, sized}
 use Rattle.net_solve.proofs.Figures.{lower-fits, upper-fits}
 use Rattle.net_solve.proofs.Written.{each, length-fits, potential-fits}
-use Rattle.run_certs.specs.Tighten.{IsBestOf, go_both_ways}
+use Rattle.cert_judge.specs.declared.second.Second.TheVariants.{Valid}
+use Rattle.cert_judge.specs.Second.{IsSecondText, with_net}
+use Rattle.run_base.specs.Answer.{Answer, OrWant}
+use Rattle.run_certs.specs.Tighten.{IsBestOf, OnSecond, WritesBest, go_both_ways}
 
 -- ---- how cells go
 
@@ -110,3 +113,11 @@ module _ (rows : NetRows) (net : ScaledNet) (first : Proof) (others : List Proof
     fits = best_fits;
     counted = own.counted;
   }
+
+-- ---- what is answered
+
+-- want of memory, or the best of both, answers behind a valid second certificate
+pub both_came : (rows : NetRows) (net : ScaledNet) (first second : Proof) (text : List ℕ) (answer : Answer) → IsSecondText rows net.options text (with_net net (Valid second))
+    → OrWant (WritesBest rows net first (second ∷ [])) answer → OrWant (OnSecond rows net first text) answer
+both_came rows net first second text answer is (inl memory) = inl memory
+both_came rows net first second text answer is (inr writes) = inr (Valid second, is, writes)
