@@ -1,5 +1,5 @@
 -- The matrices that a text spells over the rows of a network, or its first refusal before anything is scaled.
-use Rattle.std.specs.Prelude.{◌≡◌, ◌⊎◌, ℕ, List, map, Option, Some, None, Result, Ok, Err}
+use Rattle.std.specs.Prelude.{◌≡◌, ◌⊎◌, ℕ, List, [], map, Option, Some, None, Result, Ok, Err}
 use Rattle.std.specs.Option.{option_map}
 use Rattle.sndlib_grammar.specs.Tokens.{Lexeme}
 use Rattle.sndlib_grammar.specs.Grammar.{Word}
