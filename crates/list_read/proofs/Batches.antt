@@ -105,7 +105,7 @@ read_is_unique rows text (Ok a) (Err r) (ms, is, none, same) (inr (ns, are, faul
 read_is_unique rows text (Err r) (Ok b) (inl (line, stands, why)) (ms, is, none, same) = absurd (not_both (tokens_of text) (end_of text) line ms is stands)
 read_is_unique rows text (Err r) (Ok b) (inr (ns, are, fault)) (ms, is, none, same) =
     let one = same_matrices (tokens_of text) ms ns is are in
-    let both : None ≡ Some r = sym none ∙ ap (entry_fault rows) (sym one) ∙ fault in
+    let both : None ≡ Some r = sym none ∙ ap (entry_fault rows) one ∙ fault in
     absurd cc
 read_is_unique rows text (Err r) (Err s) (inl (line, stands, why)) (inl (other, holds, also)) =
     let one = syntax_once (tokens_of text) (end_of text) line other stands holds in

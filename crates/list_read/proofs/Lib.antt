@@ -5,3 +5,4 @@ pub mod Naming
 pub mod Numbering
 pub mod AllDemands
 pub mod Batches
+pub mod Answering

@@ -18,7 +18,7 @@ returns-then-not-added c =
     let known = c.loop-demand.ids.keys in
     let found = old_id known ds c.loop-demand.demand-index no_demand c.loop-demand-test.true (not_false _ (sym c.in-Ok.ensures.added ∙ c.if-not-added.true)) in
     subst (λ (e : ReadListEnd). IsEnd Duplicate (line_of (first_repeated [] (demand_ids (map demand_view ds)))) e) (sym c.duplicate.ensures)
-        (ap (λ (o : Option Word). at_line Duplicate (line_of o)) (sym c.loop-demand.invariant ∙ found))
+    (ap (λ (o : Option Word). at_line Duplicate (line_of o)) (sym c.loop-demand.invariant ∙ found))
 
 pub loop-demand-preserved : goal.loop-demand-preserved
 loop-demand-preserved c =

@@ -18,7 +18,7 @@ returns-then-not-added c =
     let ms = c.args.matrices.now in
     let found = old_name c.loop-matrix.names.keys ms c.loop-matrix.matrix-index c.matrix-item.result c.loop-matrix-test.true c.matrix-item.is (not_false _ (sym c.in-Ok.ensures.added ∙ c.if-not-added.true)) in
     subst (λ (e : ReadListEnd). IsEnd Duplicate (repeated [] (map entry_view ms)) e) (sym c.duplicate.ensures)
-        (ap (at_line Duplicate) (sym c.loop-matrix.invariant ∙ found))
+    (ap (at_line Duplicate) (sym c.loop-matrix.invariant ∙ found))
 
 pub returns-in-Err-check_ids : goal.returns-in-Err-check_ids
 returns-in-Err-check_ids c =
@@ -28,7 +28,7 @@ returns-in-Err-check_ids c =
     let own = line_of (first_repeated [] (demand_ids (map demand_view m.demands.items))) in
     let left = new_name c.loop-matrix.names.keys ms c.loop-matrix.matrix-index m own c.loop-matrix-test.true c.matrix-item.is new refl in
     repeated_id own _ _ c.in-Err-check_ids.e (sym c.loop-matrix.invariant ∙ left)
-        (subst (λ (l : List DemandWords). IsEnd Duplicate (line_of (first_repeated [] (demand_ids (map demand_view l)))) c.in-Err-check_ids.e) c.deref.ensures.value c.in-Err-check_ids.ensures)
+    (subst (λ (l : List DemandWords). IsEnd Duplicate (line_of (first_repeated [] (demand_ids (map demand_view l)))) c.in-Err-check_ids.e) c.deref.ensures.value c.in-Err-check_ids.ensures)
 
 pub loop-matrix-preserved : goal.loop-matrix-preserved
 loop-matrix-preserved c =
