@@ -1,5 +1,5 @@
 -- The answer to a text from what is kept of it, and its words.
-use Rattle.std.proofs.Common.{◌≡◌, ℕ, ◌≤◌, List, [], ◌∷◌, length, map, drop, refl, ap, sym, subst, ◌∙◌, Option, Some, None, Result, Ok, Err, inl, inr}
+use Rattle.std.proofs.Common.{◌≡◌, ℕ, List, [], ◌∷◌, map, drop, refl, ap, sym, subst, ◌∙◌, Option, Some, None, Result, Ok, Err, inl, inr}
 use Rattle.std.specs.Prelude.{All, IfOk}
 use Rattle.std.specs.List.{AllByRecursion}
 use Rattle.std.specs.declared.vec.Vec.{Vec}
@@ -16,7 +16,7 @@ use Rattle.sndlib_grammar.proofs.RowWords.{through, on_demand}
 use Rattle.list_grammar.specs.Grammar.{MatrixEntry, spelled, tokens_of}
 use Rattle.list_grammar.specs.declared.refusal.ListKind.TheVariants.{TooMany, Duplicate, UnknownNode, BadNumber}
 use Rattle.list_grammar.specs.declared.refusal.ListRefusal.{ListRefusal}
-use Rattle.list_grammar.specs.Faults.{lesser_line, too_many, repeated, unknown_node, bad_number}
+use Rattle.list_grammar.specs.Faults.{too_many, repeated, unknown_node, bad_number}
 use Rattle.list_grammar.proofs.Words.{first_matrix, matrices_slices}
 use Rattle.list_read.specs.declared.mode.Mode.TheVariants.{Between}
 use Rattle.list_read.specs.declared.sofar.Sofar.{Sofar as SofarWords}

@@ -1,7 +1,5 @@
 -- What is read and then scaled is the batch; its rows are sound; a text is read in one way.
-use Rattle.std.proofs.Common.{◌≡◌, ℕ, ◌≤◌, List, [], ◌∷◌, length, map, refl, ap, sym, subst, ◌∙◌, Option, Some, None, Result, Ok, Err, inl, inr}
-use Rattle.std.specs.List.{AllByRecursion, list_any, list_all}
-use Rattle.std.specs.Prelude.{if◌then◌else◌}
+use Rattle.std.proofs.Common.{◌≡◌, ℕ, List, [], ◌∷◌, map, refl, ap, sym, subst, ◌∙◌, Option, Some, None, Ok, Err, inl, inr}
 use Rattle.sndlib_grammar.specs.Faults.{first_of}
 use Rattle.sndlib_grammar.specs.Rows.{NetRows, AreNetRows}
 use Rattle.sndlib_grammar.specs.Text.{end_of}
@@ -9,18 +7,17 @@ use Rattle.sndlib_grammar.proofs.RowWords.{through}
 use Rattle.unit_scale.specs.declared.options.NetOptions.{NetOptions}
 use Rattle.unit_scale.specs.Scaling.{or_else}
 use Rattle.list_grammar.specs.Grammar.{MatrixEntry, tokens_of}
-use Rattle.list_grammar.specs.declared.refusal.ListKind.{ListKind}
 use Rattle.list_grammar.specs.declared.refusal.ListKind.TheVariants.{Syntax, TooMany, Duplicate, UnknownNode, BadNumber, TooFine, TooLarge, NoDemand}
 use Rattle.list_grammar.specs.declared.refusal.ListRefusal.{ListRefusal}
-use Rattle.list_grammar.specs.Refusals.{BatchRefusal, InNet, InList, AreMatricesOf}
-use Rattle.list_grammar.specs.Matrices.{Matrix, matrix_of, rows_of}
-use Rattle.list_grammar.specs.Faults.{all_demands, too_many, repeated, unknown_node, bad_number, fine_link, fine_in, large_in, empty_in, in_list, in_net, batch_fault}
+use Rattle.list_grammar.specs.Refusals.{BatchRefusal, InList, AreMatricesOf}
+use Rattle.list_grammar.specs.Matrices.{matrix_of}
+use Rattle.list_grammar.specs.Faults.{too_many, repeated, unknown_node, bad_number, fine_link, fine_in, large_in, empty_in, in_list, in_net, batch_fault}
 use Rattle.list_grammar.specs.Batch.{IsBatch}
 use Rattle.list_grammar.proofs.Words.{matrices_words}
 use Rattle.list_grammar.proofs.Sound.{IsSoundEntry, all_counted, sound_entries, rows_are}
 use Rattle.list_grammar.proofs.Only.{same_matrices, syntax_once, not_both}
-use Rattle.list_read.specs.Lists.{NamedDemands, named_demands, at_line, entry_fault, IsRead}
-use Rattle.list_read.specs.Scaled.{own_rows, AreOwnRows, fine_demand, large_row, no_commodity, scaling_fault, scaled_matrix, unless_fault, batch_of, ReadIsScaled, ReadRowsAreSound, ReadIsUnique}
+use Rattle.list_read.specs.Lists.{NamedDemands, named_demands, at_line, entry_fault}
+use Rattle.list_read.specs.Scaled.{own_rows, AreOwnRows, fine_demand, large_row, no_commodity, scaling_fault, scaled_matrix, unless_fault, ReadIsScaled, ReadRowsAreSound, ReadIsUnique}
 
 -- ---- the faults of a batch: those of its entries, and those of scaling
 

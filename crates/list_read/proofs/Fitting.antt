@@ -1,7 +1,6 @@
 -- What is kept of matrices fits them, token by token.
-use Rattle.std.proofs.Common.{◌≡◌, ℕ, zero, suc, ◌+◌, ◌<◌, ◌≤◌, List, [], ◌∷◌, ◌++◌, length, map, min, refl, ap, sym, subst, ◌∙◌, arith, append_assoc, append-nil, Option, Some, None, Bool, true, false}
+use Rattle.std.proofs.Common.{◌≡◌, ℕ, zero, suc, ◌+◌, ◌≤◌, List, [], ◌∷◌, ◌++◌, length, min, refl, ap, sym, subst, ◌∙◌, arith, append_assoc, append-nil, Some, None, Bool, true, false}
 use Rattle.std.specs.Prelude.{nat_lt, slice_get, if◌then◌else◌}
-use Rattle.std.specs.List.{flat_map}
 use Rattle.std.proofs.lemmas.List.{map-append, length-map, length-append}
 use Rattle.std.proofs.lemmas.Bool.{ltb-false, ltb-true}
 use Rattle.std.proofs.lemmas.Option.{slice_get_past}
@@ -12,7 +11,7 @@ use Rattle.sndlib_grammar.specs.declared.token.TokenKind.TheVariants as kinds
 use Rattle.sndlib_grammar.specs.Grammar.{Word, DemandEntry}
 use Rattle.sndlib_grammar.specs.Faults.{or_else, line_of}
 use Rattle.list_grammar.specs.Grammar.{MatrixEntry}
-use Rattle.list_grammar.specs.Faults.{all_demands, lesser_line, too_many}
+use Rattle.list_grammar.specs.Faults.{all_demands, lesser_line}
 use Rattle.list_grammar.proofs.Sound.{all_counted, names_counted}
 use Rattle.list_read.specs.declared.mode.Mode.{Mode}
 use Rattle.list_read.specs.declared.mode.Mode.TheVariants.{Between, Opening, Inside, Ends, Source, Target, EndsClose, Unit as Units, Value, Longest}

@@ -1,14 +1,13 @@
 -- Names of matrices and ids of demands, kept in a set.
-use Rattle.std.proofs.Common.{◌≡◌, ℕ, ◌+◌, ◌<◌, Bool, true, false, List, [], ◌∷◌, ◌++◌, length, get_or, drop, refl, ap, sym, ◌∙◌, Bor, Option, Some, None}
+use Rattle.std.proofs.Common.{◌≡◌, ℕ, ◌+◌, ◌<◌, Bool, true, false, List, [], ◌∷◌, ◌++◌, length, get_or, drop, ap, sym, ◌∙◌, Bor, Option, Some, None}
 use Rattle.std.specs.Prelude.{map, if◌then◌else◌}
 use Rattle.std.specs.List.{list_any}
 use Rattle.std.specs.Str.{bytes_eq}
 use Rattle.std.proofs.lemmas.List.{drop_more, map-append}
-use Rattle.sndlib_grammar.specs.Grammar.{Word, DemandEntry}
+use Rattle.sndlib_grammar.specs.Grammar.{Word}
 use Rattle.sndlib_grammar.specs.Faults.{first_repeated, is_among, line_of}
 use Rattle.sndlib_read.specs.Views.{bytes_of}
 use Rattle.sndlib_read.proofs.Naming.{any-bytes_of}
-use Rattle.list_grammar.specs.Grammar.{MatrixEntry}
 use Rattle.list_grammar.specs.Faults.{repeated, line_if_among}
 use Rattle.unit_scale.specs.Scaling.{or_else}
 use Rattle.list_read.specs.declared.kept.Word.{Word as WordSlice}

@@ -1,5 +1,5 @@
 -- Where reading stands, as the grammar's laws have it; what is read of tokens is what the grammar says of them.
-use Rattle.std.proofs.Common.{◌≡◌, ◌⊎◌, ℕ, List, [], ◌∷◌, ◌++◌, length, map, refl, ap, sym, subst, ◌∙◌, arith, append_assoc, append-nil, Option, Some, None, Result, Ok, Err, Bool, true, false, inl, inr}
+use Rattle.std.proofs.Common.{◌≡◌, ℕ, List, [], ◌∷◌, ◌++◌, length, refl, ap, sym, subst, ◌∙◌, arith, append_assoc, append-nil, Option, Some, None, Result, Ok, Err, Bool, true, false, inl, inr}
 use Rattle.std.specs.Prelude.{nat_lt, option_and_then, if◌then◌else◌}
 use Rattle.std.specs.Option.{option_map, option_map_or}
 use Rattle.std.specs.List.{flat_map, AllByRecursion}
@@ -19,7 +19,7 @@ use Rattle.list_grammar.proofs.Modes.{Mode as Place, walk, walk-append, list_wal
 use Rattle.list_grammar.proofs.Modes as places
 use Rattle.list_read.specs.declared.mode.Mode.{Mode}
 use Rattle.list_read.specs.declared.mode.Mode.TheVariants.{Between, Opening, Inside, Ends, Source, Target, EndsClose, Unit as Units, Value, Longest}
-use Rattle.list_read.specs.Reading.{after, Draft, Sofar, kept, kept_by, word_of, scan, finished, refused, nothing_read}
+use Rattle.list_read.specs.Reading.{after, Sofar, kept, kept_by, word_of, scan, finished, refused, nothing_read}
 
 abbrev place_of : Mode → Place
 place_of Between = places.Between

@@ -4,7 +4,7 @@ use Rattle.std.specs.declared.vec.Vec.{Vec}
 use Rattle.std.specs.declared.alloc.Global.{Global}
 use Rattle.sndlib_grammar.specs.Grammar.{DemandEntry}
 use Rattle.sndlib_grammar.specs.Faults.{or_else, first_of, unknown_of_demand}
-use Rattle.sndlib_grammar.specs.Rows.{NetDemand, NetRows, names_of_nodes, net_demand}
+use Rattle.sndlib_grammar.specs.Rows.{NetRows, names_of_nodes, net_demand}
 use Rattle.sndlib_read.specs.declared.row.DemandRow.{DemandRow}
 use Rattle.sndlib_read.specs.RowViews.{demand_row_view}
 use Rattle.list_grammar.specs.Grammar.{MatrixEntry}

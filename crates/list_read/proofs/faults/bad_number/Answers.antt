@@ -1,7 +1,6 @@
-use Rattle.std.proofs.Common.{◌≡◌, Option, Some, None, ap, sym, ◌∙◌, map, drop, ◌+◌}
-use Rattle.sndlib_grammar.specs.Faults.{or_else, first_of, bad_of_demand}
-use Rattle.list_grammar.specs.Faults.{bad_number}
-use Rattle.list_read.specs.Views.{demand_view, entry_view}
+use Rattle.std.proofs.Common.{◌≡◌, Some, None, ap, sym, ◌∙◌, map}
+use Rattle.sndlib_grammar.specs.Faults.{first_of, bad_of_demand}
+use Rattle.list_read.specs.Views.{demand_view}
 use Rattle.list_read.proofs.AllDemands.{first_left}
 use Rattle.list_read.proofs.faults.bad_number.Goals as goal
 

@@ -1,9 +1,8 @@
-use Rattle.std.proofs.Common.{◌≡◌, List, None, Ok, Err, ap, sym, subst, ◌∙◌, map}
-use Rattle.sndlib_grammar.specs.Grammar.{DemandEntry, Word}
-use Rattle.sndlib_grammar.specs.Faults.{first_of, unknown_of_demand}
-use Rattle.sndlib_grammar.specs.Rows.{NetDemand, names_of_nodes, net_demand}
+use Rattle.std.proofs.Common.{List, None, Ok, Err, ap, sym, subst, ◌∙◌, map}
+use Rattle.sndlib_grammar.specs.Grammar.{Word}
+use Rattle.sndlib_grammar.specs.Faults.{unknown_of_demand}
+use Rattle.sndlib_grammar.specs.Rows.{NetDemand, names_of_nodes}
 use Rattle.list_read.specs.declared.kept.DemandWords.{DemandWords}
-use Rattle.list_read.specs.Lists.{NamedDemands}
 use Rattle.list_read.specs.Names.{AreRows}
 use Rattle.list_read.specs.Views.{word_view, demand_view}
 use Rattle.list_read.proofs.AllDemands.{first_left, unknown_end, more_rows}
