@@ -108,7 +108,7 @@ pub fn route_fault(alloc: Global, net: &Net, routing: &Routing) -> Result<Option
     Ok(None)
 }
 
-// The fraction that a routing carries.
+/// The fraction of every amount that a routing carries.
 pub fn lower(routing: &Routing) -> Frac
     requires phases { routing.now.phases ≤ MAX_PHASES }
     requires scale_cap { routing.now.scale_cap ≤ MAX_UNITS }

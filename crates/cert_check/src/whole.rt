@@ -3,7 +3,7 @@
 ghost use Rattle.std.specs.Prelude.{◌≡◌, ◌*◌, ◌+◌, ◌≤◌, ◌<◌, ◌^◌, ◌↔◌, IsTrue, IfOk, MatchOption, All, length};
 ghost use Rattle.gap_fraction.specs.Fraction.{Fraction};
 ghost use Rattle.gap_fraction.specs.Decimals.{millionths_down, millionths_up};
-ghost use Rattle.flow_paths.specs.Certificate.{IsProofOf, IsPotentialOf, CellsHaveLengths, SourcesHaveRows, RowsArePotentials, IsPrinted, FractionsArePrinted, lengths_in, distances_in, lower_of, upper_of};
+ghost use Rattle.flow_paths.specs.Certificate.{IsProofOf, IsValid, IsPotentialOf, CellsHaveLengths, SourcesHaveRows, RowsArePotentials, IsPrinted, FractionsArePrinted, lengths_in, distances_in, lower_of, upper_of};
 ghost use Rattle.flow_model.specs.Bound.{IsPotential, weighted_distance};
 ghost use Rattle.flow_paths.specs.DualRows.{potential_at};
 ghost use Rattle.cert_check.specs.Verdict.{IsVerdictOn, CertifiesIfValid};
@@ -89,6 +89,17 @@ fn distance(alloc: Global, net: &Net, dual: &Dual) -> Result<u128, AllocError>
 {
     let places = row_places(alloc, net.nodes() as usize, dual)?;
     Ok(weighted_distance(net.commodities(), &places, dual))
+}
+
+/// The bound that a valid certificate proves: the volume of its lengths over the sum of amount times distance.
+pub fn upper(alloc: Global, net: &Net, proof: &Proof) -> Result<Frac, AllocError>
+    requires named { IsProofOf net.now proof.now }
+    requires valid { IsValid net.now proof.now }
+    ensures { IfOk result (λ f. f ≡ upper_of net.now proof.now.dual) }
+{
+    let lengths = lengths(alloc, net, &proof.dual)?;
+    let distance = distance(alloc, net, &proof.dual)?;
+    Ok(Frac::new(volume(net.cells(), &lengths), distance))
 }
 
 /// Whether the fraction is printed with its own parts, not reduced, and with these decimals: a whole part, and millionths

@@ -5,4 +5,5 @@ pub mod Scanning
 pub mod Bounds
 pub mod RowAt
 pub mod Whole
+pub mod Demands
 pub mod Answering

@@ -8,16 +8,14 @@ use Rattle.std.proofs.lemmas.List.{length-map}
 use Rattle.std.proofs.lemmas.Bool.{ltb-true, ltb-false}
 use Rattle.sndlib_grammar.specs.Grammar.{Word}
 use Rattle.sndlib_grammar.specs.Faults.{is_among, line_of, first_unknown}
-use Rattle.sndlib_grammar.specs.Rows.{NetNode, NetLink, node_number, net_demand, no_node, no_link, no_demand}
+use Rattle.sndlib_grammar.specs.Rows.{NetNode, NetLink, node_number, no_node, no_link}
 use Rattle.sndlib_read.specs.declared.kept.NodeWords.{NodeWords}
 use Rattle.sndlib_read.specs.declared.kept.LinkWords.{LinkWords}
-use Rattle.sndlib_read.specs.declared.kept.DemandWords.{DemandWords}
 use Rattle.sndlib_read.specs.declared.row.LinkRow.{LinkRow}
-use Rattle.sndlib_read.specs.declared.row.DemandRow.{DemandRow}
 use Rattle.sndlib_read.specs.declared.ends.Ends.{Ends}
-use Rattle.sndlib_read.specs.Numbering.{node_of, link_of, link_ends_of, demand_ends_of}
-use Rattle.sndlib_read.specs.Views.{node_view, link_view, demand_view, slices_view}
-use Rattle.sndlib_read.specs.RowViews.{link_row_view, demand_row_view}
+use Rattle.sndlib_read.specs.Numbering.{node_of, link_of, link_ends_of}
+use Rattle.sndlib_read.specs.Views.{node_view, link_view, slices_view}
+use Rattle.sndlib_read.specs.RowViews.{link_row_view}
 
 -- ---- rows
 
@@ -53,14 +51,6 @@ link_at_is known ls ends i l e lt is all here =
     let at = twice_at (link_of known) link_view ls i l no_link lt is in
     ap (λ (x : Ends). link_row_view (link_row l x) (get_or (map (link_of known) (map link_view ls)) i no_link).modules) (image_at (link_ends_of known) link_view ls ends i l e lt is all here)
     ∙ ap (λ (r : NetLink). link_row_view (link_row l (link_ends_of known (link_view l))) r.modules) at ∙ sym at
-
-abbrev demand_row : DemandWords → Ends → DemandRow
-demand_row d e = record { id = d.id.text; source = e.source; target = e.target; unit = d.unit.text; value = d.value.text; longest = d.longest.text; line = d.id.line }
-
-pub demand_at_is : (known : List (List ℕ)) (ds : List DemandWords) (ends : List Ends) (i : ℕ) (d : DemandWords) (e : Ends) → i < length ds → d ≡ get_or ds i d → ends ≡ map (demand_ends_of known) (map demand_view ds) → e ≡ get_or ends i e
-    → demand_row_view (demand_row d e) ≡ get_or (map (net_demand known) (map demand_view ds)) i no_demand
-demand_at_is known ds ends i d e lt is all here =
-    ap (λ (x : Ends). demand_row_view (demand_row d x)) (image_at (demand_ends_of known) demand_view ds ends i d e lt is all here) ∙ sym (twice_at (net_demand known) demand_view ds i d no_demand lt is)
 
 -- ---- ends
 

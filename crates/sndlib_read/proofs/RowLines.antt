@@ -4,7 +4,7 @@ use Rattle.std.specs.Prelude.{map, slice_get}
 use Rattle.std.specs.Option.{option_map}
 use Rattle.std.proofs.lemmas.Option.{slice_get-map, slice_get-get_or, slice_get_past}
 use Rattle.sndlib_grammar.specs.Grammar.{Word}
-use Rattle.sndlib_grammar.specs.Faults.{line_of, texts}
+use Rattle.sndlib_grammar.specs.Faults.{line_of}
 
 at_row : {Y X : Type 0} (id : X → Word) (view : Y → X) (xs : List Y) (i : ℕ) → slice_get (map id (map view xs)) i ≡ option_map id (option_map view (slice_get xs i))
 at_row id view xs i = slice_get-map id (map view xs) i ∙ ap (option_map id) (slice_get-map view xs i)

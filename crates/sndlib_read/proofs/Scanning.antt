@@ -1,5 +1,5 @@
 -- The loop over tokens.
-use Rattle.std.proofs.Common.{◌≡◌, ℕ, ◌+◌, ◌<◌, ◌≤◌, List, [], ◌∷◌, length, refl, ap, sym, ◌∙◌, arith, Option, Some, None, Ok, Bool, true, false}
+use Rattle.std.proofs.Common.{◌≡◌, ℕ, ◌+◌, ◌<◌, ◌≤◌, List, ◌∷◌, length, refl, ap, sym, ◌∙◌, arith, Option, Some, Bool, true, false}
 use Rattle.std.specs.Prelude.{nat_lt, if◌then◌else◌}
 use Rattle.std.specs.Option.{option_map_or}
 use Rattle.std.proofs.lemmas.Bool.{ltb-false, ltb-true}
@@ -9,13 +9,12 @@ use Rattle.sndlib_grammar.specs.declared.refusal.NetKind.TheVariants as netkinds
 use Rattle.sndlib_grammar.specs.declared.mode.Part.TheVariants as parts
 use Rattle.sndlib_grammar.specs.declared.mode.Mode.{Mode}
 use Rattle.sndlib_grammar.specs.declared.mode.Mode.TheVariants.{Between}
-use Rattle.sndlib_grammar.specs.Grammar.{Entries, symbol}
+use Rattle.sndlib_grammar.specs.Grammar.{symbol}
 use Rattle.sndlib_grammar.specs.Modes.{depth_of}
-use Rattle.sndlib_grammar.specs.Reading.{Sofar, scan, at_start, mode_after, kept, finished, refused}
+use Rattle.sndlib_grammar.specs.Reading.{Sofar, scan, at_start, mode_after, kept, refused}
 use Rattle.sndlib_read.specs.declared.sofar.Sofar.{Sofar as SofarWords}
-use Rattle.sndlib_read.specs.Stored.{Partial, partial, put}
-use Rattle.sndlib_read.specs.Steps.{IsKept}
-use Rattle.sndlib_read.specs.Views.{sofar_view, kept_view}
+use Rattle.sndlib_read.specs.Stored.{partial, put}
+use Rattle.sndlib_read.specs.Views.{sofar_view}
 use Rattle.sndlib_read.proofs.StoredLaws.{partial-kept}
 
 -- what is left to read gives what all of it gives, from a state of which this is kept

@@ -4,6 +4,7 @@ pub mod Steps
 pub mod Numbering
 pub mod Names
 pub mod OfText
+pub mod Parts
 pub mod Net
 pub mod RowViews
 pub mod Answer

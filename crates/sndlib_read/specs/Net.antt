@@ -1,19 +1,21 @@
 -- A network that was read: its rows, and the numbers of their names.
-use Rattle.std.specs.Prelude.{◌≡◌, map}
+use Rattle.std.specs.Prelude.{◌≡◌, ℕ, List}
+use Rattle.std.specs.Arc.{arc_value}
 use Rattle.sndlib_read.specs.declared.net.RawNet.TheInside.{Inside}
-use Rattle.sndlib_grammar.specs.Faults.{texts}
-use Rattle.sndlib_grammar.specs.Rows.{NetRows, AreNetRows}
-use Rattle.sndlib_read.specs.Numbering.{stored_nodes, stored_links, stored_demands, stored_rows, link_ends_of, demand_ends_of}
+use Rattle.sndlib_read.specs.declared.part.NetPart.{NetPart}
+use Rattle.sndlib_read.specs.declared.row.DemandRow.{DemandRow}
+use Rattle.sndlib_grammar.specs.Rows.{NetRows, names_of_demands, AreNetRows}
 use Rattle.sndlib_read.specs.Names.{names_of}
-use Rattle.sndlib_read.specs.Views.{kept_view}
+use Rattle.sndlib_read.specs.Parts.{rows_with, IsNetPart}
 
 abbrev pub rows_in : Inside → NetRows
-rows_in n = stored_rows n.end_line (kept_view n.rows)
+rows_in n = rows_with (arc_value n.part) n.demands.items
 
-pub record IsRawNet (n : Inside) : Type 0 where
-  pub rows : AreNetRows (rows_in n)
-  pub nodes : names_of n.names.nodes ≡ texts (stored_nodes (kept_view n.rows))
-  pub links : names_of n.names.links ≡ texts (stored_links (kept_view n.rows))
-  pub demands : names_of n.names.demands ≡ texts (stored_demands (kept_view n.rows))
-  pub link_ends : n.link_ends.items ≡ map (link_ends_of (texts (stored_nodes (kept_view n.rows)))) (kept_view n.rows).links
-  pub demand_ends : n.demand_ends.items ≡ map (demand_ends_of (texts (stored_nodes (kept_view n.rows)))) (kept_view n.rows).demands
+-- the rows of both parts are sound, and what is kept beside them is theirs
+pub record AreRawParts (p : NetPart) (demands : List DemandRow) (names : List (List ℕ)) : Type 0 where
+  pub rows : AreNetRows (rows_with p demands)
+  pub beside : IsNetPart p (rows_with p demands)
+  pub demand_names : names ≡ names_of_demands (rows_with p demands)
+
+abbrev pub IsRawNet : Inside → Type 0
+IsRawNet n = AreRawParts (arc_value n.part) n.demands.items (names_of n.demand_names)

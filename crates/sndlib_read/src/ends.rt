@@ -1,15 +1,17 @@
 //! The ends of links and demands, by the numbers of their nodes.
 
 ghost use Rattle.std.specs.Prelude.{◌≡◌, ◌≤◌, ◌∷◌, [], map, length};
-ghost use Rattle.sndlib_grammar.specs.Faults.{first_unknown, unknown_of_demand};
+ghost use Rattle.sndlib_grammar.specs.Faults.{first_unknown};
 ghost use Rattle.sndlib_grammar.specs.Rows.{node_number};
-ghost use Rattle.sndlib_read.specs.Numbering.{unknown_of_stored, link_ends_of, demand_ends_of};
+ghost use Rattle.sndlib_read.specs.Numbering.{unknown_of_stored, link_ends_of};
 ghost use Rattle.sndlib_read.specs.Names.{names_of, AreEnds, IsEnds};
-ghost use Rattle.sndlib_read.specs.Views.{word_view, link_view, demand_view};
+ghost use Rattle.sndlib_read.specs.Parts.{AreDemandRows};
+ghost use Rattle.sndlib_read.specs.Views.{word_view, link_view};
 
 use crate::kept::{DemandWords, LinkWords, Word};
 use crate::names::number_of;
 use crate::refusal::ReadNetEnd;
+use crate::row::DemandRow;
 use indexmap::IndexSet;
 use mcf_limits::MAX_NODES;
 use sndlib_grammar::{NetKind, NetRefusal};
@@ -79,26 +81,34 @@ pub fn link_ends(
     Ok(ends)
 }
 
-/// The ends of the demands, or the line of the first that is no node.
-pub fn demand_ends(
+/// The rows of the demands, or the line of the first end that is no node.
+pub fn demand_rows<'a>(
     alloc: Global,
     names: &IndexSet<&[u8]>,
-    demands: &[DemandWords<'_>],
-) -> Result<Vec<Ends>, ReadNetEnd>
+    demands: &[DemandWords<'a>],
+) -> Result<Vec<DemandRow<'a>>, ReadNetEnd>
     requires { length (names_of names.now) ≤ MAX_NODES }
-    ensures { AreEnds (unknown_of_demand (names_of names.now)) (demand_ends_of (names_of names.now))
-        (map demand_view demands.now) result }
+    ensures { AreDemandRows (names_of names.now) demands.now result }
 {
-    let mut ends = Vec::new(alloc);
+    let mut rows = Vec::new(alloc);
     for demand in demands {
         let pair = match ends_of(names, &demand.source, &demand.target) {
             Ok(pair) => pair,
             Err(line) => return Err(unknown(line)),
         };
-        match ends.push(pair) {
+        let row = DemandRow {
+            id: demand.id.text,
+            source: pair.source,
+            target: pair.target,
+            unit: demand.unit.text,
+            value: demand.value.text,
+            longest: demand.longest.text,
+            line: demand.id.line,
+        };
+        match rows.push(row) {
             Ok(()) => {}
             Err(_) => return Err(ReadNetEnd::Memory),
         }
     }
-    Ok(ends)
+    Ok(rows)
 }

@@ -11,16 +11,18 @@ ghost use Rattle.sndlib_read.specs.Numbering.{stored_fault, stored_judged};
 ghost use Rattle.sndlib_read.specs.OfText.{IsOfText};
 ghost use Rattle.sndlib_read.specs.Views.{kept_view};
 
-use crate::ends::{demand_ends, link_ends};
+use crate::ends::{demand_rows, link_ends};
 use crate::faults::{bad_number, too_many};
 use crate::kept::Kept;
 use crate::names::names_of_rows;
 use crate::net::RawNet;
+use crate::part::NetPart;
 use crate::refusal::ReadNetEnd;
 use crate::text::read_words;
 use mcf_limits::MAX_NET_BYTES;
 use sndlib_grammar::{NetKind, NetRefusal, end_line};
 use std::alloc::Global;
+use std::sync::Arc;
 
 fn refusal(kind: NetKind, line: u32) -> ReadNetEnd
     ensures { result ≡ ReadNetEnd.Refused (record { line = line; kind = kind }) }
@@ -45,20 +47,30 @@ fn judge<'a>(alloc: Global, rows: Kept<'a>, end: u32) -> Result<RawNet<'a>, Read
         Ok(ends) => ends,
         Err(e) => return Err(e),
     };
-    let demand_ends = match demand_ends(alloc, &names.nodes, &rows.demands) {
-        Ok(ends) => ends,
+    let demands = match demand_rows(alloc, &names.nodes, &rows.demands) {
+        Ok(demands) => demands,
         Err(e) => return Err(e),
     };
     if let Some(line) = bad_number(&rows) {
         return Err(refusal(NetKind::BadNumber, line));
     }
-    Ok(RawNet {
-        rows,
-        names,
+    let part = NetPart {
+        nodes: rows.nodes,
+        links: rows.links,
         link_ends,
-        demand_ends,
+        node_names: names.nodes,
+        link_names: names.links,
+        skipped: rows.skipped,
         end_line: end,
-    })
+    };
+    match Arc::new(alloc, part) {
+        Ok(part) => Ok(RawNet {
+            part,
+            demands,
+            demand_names: names.demands,
+        }),
+        Err(_) => Err(ReadNetEnd::Memory),
+    }
 }
 
 // The rows of a text, or its first refusal.

@@ -8,11 +8,13 @@ mod judge;
 mod kept;
 mod names;
 mod net;
+mod part;
 mod refusal;
 mod row;
 mod scan;
 mod sofar;
 mod text;
+mod with_demands;
 
 pub use judge::read_net;
 pub use net::RawNet;

@@ -3,10 +3,12 @@
 ghost use Rattle.std.specs.Prelude.{◌≡◌, map, IfOk, position};
 ghost use Rattle.std.specs.Str.{bytes_eq};
 ghost use Rattle.sndlib_read.specs.Names.{AreNamed, AreAllNamed, names_of as names_of_lem};
+ghost use Rattle.sndlib_read.specs.Parts.{id_of};
 ghost use Rattle.sndlib_read.specs.Views.{word_view, node_view, link_view, demand_view, kept_view};
 
 use crate::kept::{DemandWords, Kept, LinkWords, NodeWords, Word};
 use crate::refusal::ReadNetEnd;
+use crate::row::DemandRow;
 use indexmap::IndexSet;
 use sndlib_grammar::{NetKind, NetRefusal};
 use std::alloc::{AllocError, Global};
@@ -89,6 +91,31 @@ fn demand_names<'a>(
     ensures { AreNamed (map (λ d. d.id) (map demand_view demands.now)) result }
 {
     match demand_words(alloc, demands) {
+        Ok(ids) => names_of(alloc, &ids),
+        Err(_) => Err(ReadNetEnd::Memory),
+    }
+}
+
+fn row_ids<'a>(alloc: Global, demands: &[DemandRow<'a>]) -> Result<Vec<Word<'a>>, AllocError>
+    ensures { IfOk result (λ v. v.items ≡ map (λ d. record { text = d.id; line = d.line }) demands.now) }
+{
+    demands
+        .iter()
+        .map(|d| Word {
+            text: d.id,
+            line: d.line,
+        })
+        .collect(alloc)
+}
+
+/// The names of rows of demands, or the first id that an earlier one equals.
+pub fn names_of_demands<'a>(
+    alloc: Global,
+    demands: &[DemandRow<'a>],
+) -> Result<IndexSet<&'a [u8]>, ReadNetEnd>
+    ensures { AreNamed (map id_of demands.now) result }
+{
+    match row_ids(alloc, demands) {
         Ok(ids) => names_of(alloc, &ids),
         Err(_) => Err(ReadNetEnd::Memory),
     }

@@ -1,18 +1,17 @@
 //! A network that was read, as its rows.
 
-use crate::ends::Ends;
-use crate::kept::Kept;
-use crate::names::Names;
+use crate::part::NetPart;
+use crate::row::DemandRow;
+use indexmap::IndexSet;
 use std::marker::Model;
+use std::sync::Arc;
 
-/// The rows of a network text, whose words are slices of the text, and the numbers of their names. It is seen as three lists of rows, the number of skipped sections and the line of the end.
+/// The rows of a network, whose words are slices of texts, and the numbers of their names. Rows of nodes and links may be shared with networks of other demands. It is seen as three lists of rows, the number of skipped sections and the line of the end.
 #[derive(Drop)]
 pub struct RawNet<'a> {
-    pub(crate) rows: Kept<'a>,
-    pub(crate) names: Names<'a>,
-    pub(crate) link_ends: Vec<Ends>,
-    pub(crate) demand_ends: Vec<Ends>,
-    pub(crate) end_line: u32,
+    pub(crate) part: Arc<NetPart<'a>>,
+    pub(crate) demands: Vec<DemandRow<'a>>,
+    pub(crate) demand_names: IndexSet<&'a [u8]>,
 }
 
 impl<'a> Model for RawNet<'a> {

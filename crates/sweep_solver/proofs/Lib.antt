@@ -1,4 +1,3 @@
 pub mod Shutting
-pub mod Keeping
 pub mod Gathering
 pub mod Written

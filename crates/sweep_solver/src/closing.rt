@@ -1,9 +1,9 @@
 //! A network with a link closed, and what is kept of its solve.
 
-ghost use Rattle.std.specs.Prelude.{◌≡◌, ◌≢◌, ◌≤◌, ◌==◌, if◌then◌else◌, IfOk, length, map};
+ghost use Rattle.std.specs.Prelude.{◌≡◌, ◌≤◌, ◌==◌, if◌then◌else◌, IfOk, length, map};
 ghost use Rattle.unit_scale.specs.Closed.{closed, with_link};
 ghost use Rattle.unit_scale.specs.Names.{name_of as name_of_lem};
-ghost use Rattle.flow_paths.specs.Certificate.{IsProofOf, IsValid, lower_of, upper_of};
+ghost use Rattle.flow_paths.specs.Certificate.{IsProofOf, IsValid};
 ghost use Rattle.flow_paths.specs.Evaluation.{with_caps};
 ghost use Rattle.solver_run.specs.Options.{AreOptions};
 ghost use Rattle.sweep_solver.specs.Asked.{alone as alone_lem};
@@ -11,13 +11,12 @@ ghost use Rattle.sweep_solver.specs.Swept.{IsKeptOf, IsSwept};
 
 use crate::asked::{SweepOptions, alone};
 use crate::swept::Swept;
-use cert_check::cell_lengths;
+use cert_check::{lower, upper};
 use flow_model::{Cell, Net};
-use flow_paths::{Proof, Routing, volume};
+use flow_paths::Proof;
 use flow_solver::solve_in;
-use gap_fraction::Frac;
 use mcf_base::Gate;
-use mcf_limits::{MAX_CELLS, MAX_LENGTH, MAX_PHASES, MAX_UNITS};
+use mcf_limits::MAX_CELLS;
 use std::alloc::{AllocError, Global};
 use std::thread::Threads;
 use unit_scale::{LinkMode, name_of};
@@ -72,32 +71,6 @@ fn without(alloc: Global, net: &Net, mode: LinkMode, link: u16) -> Result<Net, A
     let cells = cells_without(alloc, net.cells(), mode, link)?;
     let commodities = Vec::from_slice(alloc, net.commodities())?;
     Ok(Net::new(net.nodes(), cells, commodities))
-}
-
-// The fraction of every amount that a routing carries.
-fn lower(routing: &Routing) -> Frac
-    requires phases { routing.now.phases ≤ MAX_PHASES }
-    requires scale_cap { routing.now.scale_cap ≤ MAX_UNITS }
-    requires scale_load { routing.now.scale_load ≤ MAX_LENGTH }
-    requires divides { routing.now.scale_load ≢ 0 }
-    ensures { result ≡ lower_of routing.now }
-{
-    Frac::new(
-        routing.phases as u128 * routing.scale_cap as u128,
-        routing.scale_load as u128,
-    )
-}
-
-// The bound of a valid certificate.
-fn upper(alloc: Global, net: &Net, proof: &Proof) -> Result<Frac, AllocError>
-    requires named { IsProofOf net.now proof.now }
-    requires valid { IsValid net.now proof.now }
-    ensures { IfOk result (λ f. f ≡ upper_of net.now proof.now.dual) }
-{
-    let _rows = proof.dual.rows();
-    let cells = net.cells();
-    let lengths = cell_lengths(alloc, cells.len(), &proof.dual)?;
-    Ok(Frac::new(volume(cells, &lengths), proof.upper.den))
 }
 
 // What is kept of a valid certificate.

@@ -11,7 +11,7 @@ use Rattle.flow_model.specs.declared.net.Commodity.{Commodity}
 use Rattle.flow_model.specs.Network.{Network}
 use Rattle.sndlib_grammar.specs.Rows.{NetLink, NetDemand, NetRows}
 use Rattle.sndlib_grammar.specs.declared.refusal.NetRefusal.{NetRefusal}
-use Rattle.sndlib_grammar.specs.declared.refusal.NetKind.TheVariants.{TooLarge, NoDemand}
+use Rattle.sndlib_grammar.specs.declared.refusal.NetKind.TheVariants.{TooFine, TooLarge, NoDemand}
 use Rattle.unit_scale.specs.declared.options.NetOptions.{NetOptions}
 use Rattle.unit_scale.specs.declared.modes.ModuleMode.{ModuleMode}
 use Rattle.unit_scale.specs.declared.links.LinkSize.{LinkSize}
@@ -19,10 +19,13 @@ use Rattle.unit_scale.specs.declared.demands.DemandSize.{DemandSize}
 use Rattle.unit_scale.specs.Sizes.{serves, AreDecimals, sizes, capacity, counted, amount, is_left_out, is_fine_link, is_fine_demand}
 use Rattle.unit_scale.specs.Seen.{Seen, SeenDemand, seen_size, seen_link, seen_amount, seen_demand}
 use Rattle.unit_scale.specs.Stages.{Faulted, AreLinkSizes, AreDemandSizes}
-use Rattle.unit_scale.specs.ScaleEnd.{ScalesByParts as Scales}
+use Rattle.unit_scale.specs.Sorts.{sorted, refused_row, IsRefusedRow, ScalesByParts as Scales, end_at}
+use Rattle.unit_scale.specs.declared.refusal.RowSort.{RowSort}
+use Rattle.unit_scale.specs.declared.refusal.RowSort.TheVariants.{Link, Demand, End}
+use Rattle.unit_scale.specs.declared.refusal.RowRefusal.{RowRefusal}
 use Rattle.unit_scale.specs.declared.refusal.ScaleEnd.{ScaleEnd}
 use Rattle.unit_scale.specs.declared.refusal.ScaleEnd.TheVariants.{Refused, Memory}
-use Rattle.unit_scale.specs.Scaling.{first_line, first_large, is_large_link, refused, refusal, no_demand, or_else, IsRefused, commodity_of}
+use Rattle.unit_scale.specs.Scaling.{first_line, first_large, is_large_link, refused, refusal, no_demand, or_else, commodity_of}
 
 -- a rest by a factor is told by the rest
 rest_of_rest : (n a b : ℕ) → n % (a * b) % a ≡ n % a
@@ -96,38 +99,55 @@ decimals_one xs s t a b = elim (cases_lt s t) [
 ]
 
 -- what is refused with these decimals is refused
-pub refused_at : (rows : NetRows) (o : NetOptions) (r : NetRefusal) (s : ℕ) → AreDecimals (sizes o.modules rows) s → refusal o.modules s rows ≡ Some r → IsRefused rows o r
-refused_at rows o r s d e t f = subst (λ x. refusal o.modules x rows ≡ Some r) (decimals_one (sizes o.modules rows) s t d f) e
+pub refused_at : (rows : NetRows) (o : NetOptions) (r : RowRefusal) (s : ℕ) → AreDecimals (sizes o.modules rows) s → refused_row o.modules s rows ≡ Some r → IsRefusedRow rows o r
+refused_at rows o r s d e t f = subst (λ x. refused_row o.modules x rows ≡ Some r) (decimals_one (sizes o.modules rows) s t d f) e
 
 -- no row has the fault of an earlier stage
 pub record AreFine (mode : ModuleMode) (rows : NetRows) : Type 0 where
   pub links : first_line (is_fine_link mode) (λ l. l.line) rows.links ≡ None
   pub demands : first_line is_fine_demand (λ d. d.line) rows.demands ≡ None
 
-some_first : (x y : Option ℕ) (z : Option NetRefusal) (r : NetRefusal) → refused TooLarge x ≡ Some r → or_else (refused TooLarge (or_else x y)) z ≡ Some r
-some_first None y z r e = cc
-some_first (Some n) y z r e = e
+abbrev at_sort : RowSort → NetRefusal → RowRefusal
+at_sort sort f = record { sort = sort; refusal = f }
 
-some_next : (x : Option ℕ) (z : Option NetRefusal) (r : NetRefusal) → refused TooLarge x ≡ Some r → or_else (refused TooLarge x) z ≡ Some r
-some_next None z r e = cc
-some_next (Some n) z r e = e
+-- what is refused first
+first_row : (sort : RowSort) (x : Option NetRefusal) (z : Option RowRefusal) (f : NetRefusal) → x ≡ Some f → or_else (sorted sort x) z ≡ Some (at_sort sort f)
+first_row sort x z f e = ap (λ (o : Option NetRefusal). or_else (sorted sort o) z) e
 
-pub large_link : (mode : ModuleMode) (rows : NetRows) (s : ℕ) (r : NetRefusal) → AreFine mode rows → refused TooLarge (first_line (is_large_link mode s) (λ l. l.line) rows.links) ≡ Some r → refusal mode s rows ≡ Some r
-large_link mode rows s r f e = rw (f.links, f.demands) (some_first _ _ _ r e)
+fine_link : (mode : ModuleMode) (rows : NetRows) (s : ℕ) (f : NetRefusal) → refused TooFine (first_line (is_fine_link mode) (λ l. l.line) rows.links) ≡ Some f → refused_row mode s rows ≡ Some (at_sort Link f)
+fine_link mode rows s f e = first_row Link _ _ f e
 
-pub large_demand : (mode : ModuleMode) (rows : NetRows) (s : ℕ) (r : NetRefusal) → AreFine mode rows → first_line (is_large_link mode s) (λ l. l.line) rows.links ≡ None → refused TooLarge (first_large s 0 rows.demands) ≡ Some r → refusal mode s rows ≡ Some r
-large_demand mode rows s r f n e = rw (f.links, f.demands, n) (some_next _ _ r e)
+fine_demand : (mode : ModuleMode) (rows : NetRows) (s : ℕ) (f : NetRefusal) → first_line (is_fine_link mode) (λ l. l.line) rows.links ≡ None → refused TooFine (first_line is_fine_demand (λ d. d.line) rows.demands) ≡ Some f → refused_row mode s rows ≡ Some (at_sort Demand f)
+fine_demand mode rows s f n e = rw n (first_row Demand _ _ f e)
 
+large_link : (mode : ModuleMode) (rows : NetRows) (s : ℕ) (f : NetRefusal) → AreFine mode rows → refused TooLarge (first_line (is_large_link mode s) (λ l. l.line) rows.links) ≡ Some f → refused_row mode s rows ≡ Some (at_sort Link f)
+large_link mode rows s f fine e = rw (fine.links, fine.demands) (first_row Link _ _ f e)
+
+large_demand : (mode : ModuleMode) (rows : NetRows) (s : ℕ) (f : NetRefusal) → AreFine mode rows → first_line (is_large_link mode s) (λ l. l.line) rows.links ≡ None → refused TooLarge (first_large s 0 rows.demands) ≡ Some f → refused_row mode s rows ≡ Some (at_sort Demand f)
+large_demand mode rows s f fine n e = rw (fine.links, fine.demands, n) (first_row Demand _ _ f e)
+
+none_kept_row : (mode : ModuleMode) (rows : NetRows) (s : ℕ) → AreFine mode rows → first_line (is_large_link mode s) (λ l. l.line) rows.links ≡ None → first_large s 0 rows.demands ≡ None → refused_row mode s rows ≡ sorted End (refused NoDemand (no_demand rows))
+none_kept_row mode rows s f n m = rw (f.links, f.demands, n, m) refl
+
+-- nothing is refused before the end
 pub none_large : (mode : ModuleMode) (rows : NetRows) (s : ℕ) → AreFine mode rows → first_line (is_large_link mode s) (λ l. l.line) rows.links ≡ None → first_large s 0 rows.demands ≡ None → refusal mode s rows ≡ refused NoDemand (no_demand rows)
 none_large mode rows s f n m = rw (f.links, f.demands, n, m) refl
 
-pub cells_end : (rows : NetRows) (o : NetOptions) (s : ℕ) (end : ScaleEnd) → AreFine o.modules rows → AreDecimals (sizes o.modules rows) s → Faulted TooLarge (first_line (is_large_link o.modules s) (λ l. l.line) rows.links) end → Scales rows o (Err end)
-cells_end rows o s Memory f d e = tt
-cells_end rows o s (Refused r) f d e = refused_at rows o r s d (large_link o.modules rows s r f e)
+pub links_end : (rows : NetRows) (o : NetOptions) (end : ScaleEnd) → Faulted TooFine (first_line (is_fine_link o.modules) (λ l. l.line) rows.links) end → Scales rows o (Err (end_at Link end))
+links_end rows o Memory e = tt
+links_end rows o (Refused f) e = λ s d. fine_link o.modules rows s f e
 
-pub demands_end : (rows : NetRows) (o : NetOptions) (s : ℕ) (end : ScaleEnd) → AreFine o.modules rows → AreDecimals (sizes o.modules rows) s → first_line (is_large_link o.modules s) (λ l. l.line) rows.links ≡ None → Faulted TooLarge (first_large s 0 rows.demands) end → Scales rows o (Err end)
+pub fine_end : (rows : NetRows) (o : NetOptions) (end : ScaleEnd) → first_line (is_fine_link o.modules) (λ l. l.line) rows.links ≡ None → Faulted TooFine (first_line is_fine_demand (λ d. d.line) rows.demands) end → Scales rows o (Err (end_at Demand end))
+fine_end rows o Memory n e = tt
+fine_end rows o (Refused f) n e = λ s d. fine_demand o.modules rows s f n e
+
+pub cells_end : (rows : NetRows) (o : NetOptions) (s : ℕ) (end : ScaleEnd) → AreFine o.modules rows → AreDecimals (sizes o.modules rows) s → Faulted TooLarge (first_line (is_large_link o.modules s) (λ l. l.line) rows.links) end → Scales rows o (Err (end_at Link end))
+cells_end rows o s Memory f d e = tt
+cells_end rows o s (Refused r) f d e = refused_at rows o (at_sort Link r) s d (large_link o.modules rows s r f e)
+
+pub demands_end : (rows : NetRows) (o : NetOptions) (s : ℕ) (end : ScaleEnd) → AreFine o.modules rows → AreDecimals (sizes o.modules rows) s → first_line (is_large_link o.modules s) (λ l. l.line) rows.links ≡ None → Faulted TooLarge (first_large s 0 rows.demands) end → Scales rows o (Err (end_at Demand end))
 demands_end rows o s Memory f d n e = tt
-demands_end rows o s (Refused r) f d n e = refused_at rows o r s d (large_demand o.modules rows s r f n e)
+demands_end rows o s (Refused r) f d n e = refused_at rows o (at_sort Demand r) s d (large_demand o.modules rows s r f n e)
 
 -- no commodity exactly where all demands are left out
 none_left : (s : ℕ) (d : NetDemand) (ds : List NetDemand) (b : Bool) → is_left_out d ≡ b → filter_map (commodity_of s) (d ∷ ds) ≡ [] → (b ≡ true) × (filter_map (commodity_of s) ds ≡ [])
@@ -173,8 +193,8 @@ pub empty_list : (ks : List Commodity) → true ≡ (length ks == 0) → ks ≡ 
 empty_list [] e = refl
 empty_list (k ∷ ks) e = absurd (true_false (length (k ∷ ks) == 0) (sym e) (grind (arith, nat_tests)))
 
-pub empty_end : (rows : NetRows) (o : NetOptions) (s : ℕ) (ks : List Commodity) (end : ScaleEnd) → AreFine o.modules rows → AreDecimals (sizes o.modules rows) s → first_line (is_large_link o.modules s) (λ l. l.line) rows.links ≡ None → first_large s 0 rows.demands ≡ None → ks ≡ filter_map (commodity_of s) rows.demands → true ≡ (length ks == 0) → end ≡ Refused (record { line = rows.end_line; kind = NoDemand }) → Scales rows o (Err end)
+pub empty_end : (rows : NetRows) (o : NetOptions) (s : ℕ) (ks : List Commodity) (end : ScaleEnd) → AreFine o.modules rows → AreDecimals (sizes o.modules rows) s → first_line (is_large_link o.modules s) (λ l. l.line) rows.links ≡ None → first_large s 0 rows.demands ≡ None → ks ≡ filter_map (commodity_of s) rows.demands → true ≡ (length ks == 0) → end ≡ Refused (record { line = rows.end_line; kind = NoDemand }) → Scales rows o (Err (end_at End end))
 empty_end rows o s ks end f d n m e h is =
     let r : NetRefusal = record { line = rows.end_line; kind = NoDemand } in
     let z : refused NoDemand (no_demand rows) ≡ Some r = rw (no_demand_at s rows ks e (empty_list ks h)) refl in
-    subst (λ end. Scales rows o (Err end)) (sym is) (refused_at rows o r s d (none_large o.modules rows s f n m ∙ z))
+    subst (λ end. Scales rows o (Err (end_at End end))) (sym is) (refused_at rows o (at_sort End r) s d (none_kept_row o.modules rows s f n m ∙ ap (sorted End) z))

@@ -1,5 +1,5 @@
 -- The network of rows and options, computed.
-use Rattle.std.proofs.Common.{◌≡◌, ◌≢◌, ℕ, ◌+◌, ◌≤◌, ◌<◌, List, [], ◌∷◌, length, get_or, Some, None, Result, Ok, Err, true, false, Bool, arith, refl, ap, sym, subst, ◌∙◌, ◌==◌, if◌then◌else◌, nat_lt, inl, inr}
+use Rattle.std.proofs.Common.{◌≡◌, ◌≢◌, ℕ, ◌+◌, ◌≤◌, ◌<◌, List, [], ◌∷◌, length, get_or, Option, Some, None, Result, Ok, Err, true, false, Bool, arith, refl, ap, sym, subst, ◌∙◌, ◌==◌, if◌then◌else◌, nat_lt, inl, inr}
 use Rattle.std.specs.Prelude.{position}
 use Rattle.std.specs.List.{list_all}
 use Rattle.std.proofs.lemmas.List.Sums.{position_or_len_is}
@@ -12,11 +12,19 @@ use Rattle.std.specs.List.Sorted.{IsBinarySearchResult}
 use Rattle.std.proofs.lemmas.List.Sorted.{searched}
 use Rattle.unit_scale.specs.ScaledFacts.{AreKeptRows}
 use Rattle.unit_scale.specs.declared.options.NetOptions.{NetOptions}
-use Rattle.unit_scale.specs.declared.refusal.ScaleEnd.{ScaleEnd}
-use Rattle.unit_scale.specs.declared.refusal.ScaleEnd.TheVariants.{Refused, Memory}
-use Rattle.unit_scale.specs.Sizes.{serves, sizes, first_serving, decimals_of, AreDecimals}
-use Rattle.unit_scale.specs.Scaling.{ScaledNet, net_of, scaled_with, unless_refused, refusal}
-use Rattle.unit_scale.specs.ScaleEnd.{Scales, ScalesByParts}
+use Rattle.std.specs.Option.{option_map}
+use Rattle.sndlib_grammar.specs.declared.refusal.NetRefusal.{NetRefusal}
+use Rattle.sndlib_grammar.specs.declared.refusal.NetKind.{NetKind}
+use Rattle.sndlib_grammar.specs.declared.refusal.NetKind.TheVariants.{TooFine, TooLarge, NoDemand}
+use Rattle.unit_scale.specs.declared.modes.ModuleMode.{ModuleMode}
+use Rattle.unit_scale.specs.declared.refusal.RowSort.{RowSort}
+use Rattle.unit_scale.specs.declared.refusal.RowSort.TheVariants.{Link, Demand, End}
+use Rattle.unit_scale.specs.declared.refusal.RowRefusal.{RowRefusal}
+use Rattle.unit_scale.specs.declared.refusal.RowEnd.{RowEnd}
+use Rattle.unit_scale.specs.declared.refusal.RowEnd.TheVariants.{Refused, Memory}
+use Rattle.unit_scale.specs.Sizes.{serves, sizes, first_serving, decimals_of, AreDecimals, is_fine_link, is_fine_demand}
+use Rattle.unit_scale.specs.Scaling.{ScaledNet, net_of, scaled_with, scaled_of, unless_refused, refusal, refused, first_line, first_large, is_large_link, no_demand, or_else}
+use Rattle.unit_scale.specs.Sorts.{sorted, refused_row, unless_refused_row, scaled_at, ScalesAt, ScalesByParts}
 use Rattle.unit_scale.proofs.Decimals.{six_serves}
 use Rattle.unit_scale.proofs.Composition.{decimals_one}
 
@@ -55,17 +63,73 @@ scaled_is rows o n s a b c d e f =
     ∙ ap (λ (x : ℕ). record { options = m.options; net = m.net; decimals = m.decimals; kept = m.kept; left = x; hops = n.hops }) e
     ∙ ap (λ (x : ℕ). record { options = m.options; net = m.net; decimals = m.decimals; kept = m.kept; left = m.left; hops = x }) f
 
-pub scales : (rows : NetRows) (o : NetOptions) (r : Result ScaledNet ScaleEnd) → ScalesByParts rows o r → Scales rows o r
+-- ---- with the sort of row, and without
+
+without_sort : (sort : RowSort) (x : Option NetRefusal) (y : Option NetRefusal) (z : Option RowRefusal) → y ≡ option_map (λ (r : RowRefusal). r.refusal) z → or_else x y ≡ option_map (λ (r : RowRefusal). r.refusal) (or_else (sorted sort x) z)
+without_sort sort None y z e = e
+without_sort sort (Some f) y z e = refl
+
+both_rows : (kind : NetKind) (x y : Option ℕ) (z : Option NetRefusal) → or_else (refused kind (or_else x y)) z ≡ or_else (refused kind x) (or_else (refused kind y) z)
+both_rows kind None y z = refl
+both_rows kind (Some n) y z = refl
+
+end_sort : (x : Option NetRefusal) → x ≡ option_map (λ (r : RowRefusal). r.refusal) (sorted End x)
+end_sort None = refl
+end_sort (Some f) = refl
+
+-- the refusal is that of the row
+refusal-row : (mode : ModuleMode) (s : ℕ) (rows : NetRows) → refusal mode s rows ≡ option_map (λ (r : RowRefusal). r.refusal) (refused_row mode s rows)
+refusal-row mode s rows =
+    let fl = first_line (is_fine_link mode) (λ l. l.line) rows.links in
+    let fd = first_line is_fine_demand (λ d. d.line) rows.demands in
+    let ll = first_line (is_large_link mode s) (λ l. l.line) rows.links in
+    let ld = first_large s 0 rows.demands in
+    let last = refused NoDemand (no_demand rows) in
+    let end = end_sort last in
+    let d = without_sort Demand (refused TooLarge ld) last (sorted End last) end in
+    let l = both_rows TooLarge ll ld last ∙ without_sort Link (refused TooLarge ll) (or_else (refused TooLarge ld) last) (or_else (sorted Demand (refused TooLarge ld)) (sorted End last)) d in
+    let large = or_else (refused TooLarge (or_else ll ld)) last in
+    let rest = or_else (sorted Link (refused TooLarge ll)) (or_else (sorted Demand (refused TooLarge ld)) (sorted End last)) in
+    both_rows TooFine fl fd large ∙ without_sort Link (refused TooFine fl) (or_else (refused TooFine fd) large) (or_else (sorted Demand (refused TooFine fd)) rest) (without_sort Demand (refused TooFine fd) large rest l)
+
+none_row : (z : Option RowRefusal) → option_map (λ (r : RowRefusal). r.refusal) z ≡ None → z ≡ None
+none_row None e = refl
+none_row (Some r) e = cc
+
+some_row : (n : ScaledNet) (z : Option RowRefusal) (r : RowRefusal) → unless_refused_row n z ≡ Err r → z ≡ Some r
+some_row n None r e = cc
+some_row n (Some f) r e = (let same : f ≡ r = cc in ap (λ (x : RowRefusal). Some x) same)
+
+no_row : (n m : ScaledNet) (z : Option RowRefusal) → unless_refused_row n z ≡ Ok m → (z ≡ None) × (n ≡ m)
+no_row n m None e = (refl, cc)
+no_row n m (Some f) e = cc
+
+pub scales : (rows : NetRows) (o : NetOptions) (r : Result ScaledNet RowEnd) → ScalesByParts rows o r → ScalesAt rows o r
 scales rows o (Ok n) h =
     let s = decimals_of (sizes o.modules rows) in
     let is : n.decimals ≡ s = decimals_unique (sizes o.modules rows) n.decimals h.decimals in
     let fine : refusal o.modules s rows ≡ None = subst (λ k. refusal o.modules k rows ≡ None) is h.accepted in
+    let none : refused_row o.modules s rows ≡ None = none_row (refused_row o.modules s rows) (sym (refusal-row o.modules s rows) ∙ fine) in
     let net : n ≡ scaled_with o s rows = scaled_is rows o n s h.options (h.net ∙ ap (λ k. net_of o k rows) is) is h.kept h.left h.hops in
-    ap (unless_refused (scaled_with o s rows)) fine ∙ ap (λ (m : ScaledNet). Ok m) (sym net)
+    ap (unless_refused_row (scaled_with o s rows)) none ∙ ap (λ (m : ScaledNet). Ok m) (sym net)
 scales rows o (Err Memory) h = tt
 scales rows o (Err (Refused r)) h =
     let s = decimals_of (sizes o.modules rows) in
-    ap (unless_refused (scaled_with o s rows)) (h s (decimals_are (sizes o.modules rows)))
+    ap (unless_refused_row (scaled_with o s rows)) (h s (decimals_are (sizes o.modules rows)))
+
+-- what is scaled with the sort of its row is scaled without it
+pub accepted_at : (rows : NetRows) (o : NetOptions) (n : ScaledNet) → scaled_at rows o ≡ Ok n → scaled_of rows o ≡ Ok n
+accepted_at rows o n h =
+    let s = decimals_of (sizes o.modules rows) in
+    let is = no_row (scaled_with o s rows) n (refused_row o.modules s rows) h in
+    ap (unless_refused (scaled_with o s rows)) (refusal-row o.modules s rows ∙ ap (option_map (λ (r : RowRefusal). r.refusal)) is.0) ∙ ap (λ (m : ScaledNet). Ok m) is.1
+
+pub refused_at_row : (rows : NetRows) (o : NetOptions) (r : RowRefusal) (found : Result ScaledNet RowEnd) → ScalesAt rows o found → found ≡ Err (Refused r) → scaled_of rows o ≡ Err r.refusal
+refused_at_row rows o r found has e =
+    let h : scaled_at rows o ≡ Err r = subst (ScalesAt rows o) e has in
+    let s = decimals_of (sizes o.modules rows) in
+    let is = some_row (scaled_with o s rows) (refused_row o.modules s rows) r h in
+    ap (unless_refused (scaled_with o s rows)) (refusal-row o.modules s rows ∙ ap (option_map (λ (x : RowRefusal). x.refusal)) is)
 
 -- ---- a commodity by its demand
 

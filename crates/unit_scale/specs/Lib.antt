@@ -3,6 +3,7 @@ pub mod Short
 pub mod Sizes
 pub mod Scaling
 pub mod ScaleEnd
+pub mod Sorts
 pub mod Seen
 pub mod ScaledFacts
 pub mod Largest

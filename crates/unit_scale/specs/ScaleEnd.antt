@@ -1,7 +1,7 @@
 -- What scaling answers.
 use Rattle.std.specs.Prelude.{◌≡◌, Result, Ok, Err}
 use Rattle.sndlib_grammar.specs.Rows.{NetRows}
-use Rattle.unit_scale.specs.Scaling.{ScaledNet, scaled_of, IsScaled, IsRefused}
+use Rattle.unit_scale.specs.Scaling.{ScaledNet, scaled_of}
 use Rattle.unit_scale.specs.declared.options.NetOptions.{NetOptions}
 use Rattle.unit_scale.specs.declared.refusal.ScaleEnd.{ScaleEnd}
 use Rattle.unit_scale.specs.declared.refusal.ScaleEnd.TheVariants.{Refused, Memory}
@@ -11,9 +11,3 @@ abbrev pub Scales : NetRows → NetOptions → Result ScaledNet ScaleEnd → Typ
 Scales rows o (Ok scaled) = scaled_of rows o ≡ Ok scaled
 Scales rows o (Err Memory) = Unit {0}
 Scales rows o (Err (Refused r)) = scaled_of rows o ≡ Err r
-
--- the same by its parts
-abbrev pub ScalesByParts : NetRows → NetOptions → Result ScaledNet ScaleEnd → Type 0
-ScalesByParts rows o (Ok scaled) = IsScaled rows o scaled
-ScalesByParts rows o (Err Memory) = Unit {0}
-ScalesByParts rows o (Err (Refused r)) = IsRefused rows o r

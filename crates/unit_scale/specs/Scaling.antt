@@ -147,7 +147,3 @@ pub record IsScaled (rows : NetRows) (o : NetOptions) (scaled : ScaledNet) : Typ
   pub kept : scaled.kept ≡ kept_from 0 rows.demands
   pub left : scaled.left ≡ count_by is_left_out rows.demands
   pub hops : scaled.hops ≡ count_by has_hops rows.demands
-
--- this is the first refusal of the rows
-abbrev pub IsRefused : NetRows → NetOptions → NetRefusal → Type 0
-IsRefused rows o r = (s : ℕ) → AreDecimals (sizes o.modules rows) s → refusal o.modules s rows ≡ Some r

@@ -30,5 +30,5 @@ pub use modes::{
 };
 pub use names::{CellName, cell_of, cells_of, name_of};
 pub use options::NetOptions;
-pub use refusal::ScaleEnd;
-pub use scaled::{Scaled, scale};
+pub use refusal::{RowEnd, RowRefusal, RowSort, ScaleEnd};
+pub use scaled::{Scaled, scale, scale_at};

@@ -1,6 +1,7 @@
 //! Why rows give no network.
 
 ghost use Rattle.std.specs.Prelude.{◌≡◌};
+ghost use Rattle.unit_scale.specs.Sorts.{end_at};
 
 use sndlib_read::{NetKind, NetRefusal};
 
@@ -16,4 +17,36 @@ pub fn refused(kind: NetKind, line: u32) -> ScaleEnd
     ensures { result ≡ ScaleEnd.Refused (record { line = line; kind = kind }) }
 {
     ScaleEnd::Refused(NetRefusal { line, kind })
+}
+
+/// The sort of row at which rows are refused: a link, a demand, or none of them, at the end.
+#[derive(Clone, Copy, Debug, PartialEq, Eq)]
+pub enum RowSort {
+    Link,
+    Demand,
+    End,
+}
+
+/// A refusal, and the sort of row at which it lies.
+#[derive(Clone, Copy, Debug, PartialEq, Eq)]
+pub struct RowRefusal {
+    pub sort: RowSort,
+    pub refusal: NetRefusal,
+}
+
+/// Why rows give no network: they are refused at a row of some sort, or memory ran out.
+#[derive(Clone, Copy, Debug, PartialEq, Eq)]
+pub enum RowEnd {
+    Refused(RowRefusal),
+    Memory,
+}
+
+/// The end of a stage that looks at rows of that sort.
+pub fn at_row(sort: RowSort, end: ScaleEnd) -> RowEnd
+    ensures { result ≡ end_at sort end }
+{
+    match end {
+        ScaleEnd::Refused(refusal) => RowEnd::Refused(RowRefusal { sort, refusal }),
+        ScaleEnd::Memory => RowEnd::Memory,
+    }
 }

@@ -1,14 +1,15 @@
 //! The network of a text, in whole units.
 
 ghost use Rattle.std.specs.Prelude.{◌≡◌};
-ghost use Rattle.unit_scale.specs.ScaleEnd.{Scales, ScalesByParts};
+ghost use Rattle.unit_scale.specs.ScaleEnd.{Scales};
+ghost use Rattle.unit_scale.specs.Sorts.{ScalesAt, ScalesByParts};
 
 use crate::NetOptions;
 use crate::cells::cells_of;
 use crate::commodities::{hop_count, kept_demands};
 use crate::demands::demand_sizes;
 use crate::links::link_sizes;
-use crate::refusal::{ScaleEnd, refused};
+use crate::refusal::{RowEnd, RowSort, ScaleEnd, at_row, refused};
 use crate::sizes::least_decimals;
 use flow_model::Net;
 use sndlib_read::{NetKind, RawNet};
@@ -39,28 +40,29 @@ impl Model for Scaled {
 }
 
 // The network of the rows, stage by stage.
-fn scale_by_parts(alloc: Global, raw: &RawNet<'_>, options: NetOptions) -> Result<Scaled, ScaleEnd>
+fn scale_by_parts(alloc: Global, raw: &RawNet<'_>, options: NetOptions) -> Result<Scaled, RowEnd>
     ensures { ScalesByParts raw.now options result }
 {
     let links = match link_sizes(alloc, raw, options.modules) {
         Ok(links) => links,
-        Err(end) => return Err(end),
+        Err(end) => return Err(at_row(RowSort::Link, end)),
     };
     let demands = match demand_sizes(alloc, raw) {
         Ok(demands) => demands,
-        Err(end) => return Err(end),
+        Err(end) => return Err(at_row(RowSort::Demand, end)),
     };
     let decimals = least_decimals(&links, &demands);
     let cells = match cells_of(alloc, raw, options, &links, decimals) {
         Ok(cells) => cells,
-        Err(end) => return Err(end),
+        Err(end) => return Err(at_row(RowSort::Link, end)),
     };
     let kept = match kept_demands(alloc, raw, &demands, decimals) {
         Ok(kept) => kept,
-        Err(end) => return Err(end),
+        Err(end) => return Err(at_row(RowSort::Demand, end)),
     };
     if kept.commodities.as_slice().is_empty() {
-        return Err(refused(NetKind::NoDemand, raw.end_line()));
+        let end = refused(NetKind::NoDemand, raw.end_line());
+        return Err(at_row(RowSort::End, end));
     }
     Ok(Scaled {
         options,
@@ -72,11 +74,22 @@ fn scale_by_parts(alloc: Global, raw: &RawNet<'_>, options: NetOptions) -> Resul
     })
 }
 
+/// The network that the rows stand for under the options, as `scale`; or the first refusal, with the sort of row at which it lies: a link or a demand (N8, N9), or the end (N10).
+pub fn scale_at(alloc: Global, raw: &RawNet<'_>, options: NetOptions) -> Result<Scaled, RowEnd>
+    ensures { ScalesAt raw.now options result }
+{
+    scale_by_parts(alloc, raw, options)
+}
+
 /// The network that the rows stand for under the options, with the least number of decimals; or the first refusal: a number, capacity or amount that is no whole number of millionths (N8), one that is over its limit (N9), no commodity (N10).
 pub fn scale(alloc: Global, raw: &RawNet<'_>, options: NetOptions) -> Result<Scaled, ScaleEnd>
     ensures { Scales raw.now options result }
 {
-    scale_by_parts(alloc, raw, options)
+    match scale_at(alloc, raw, options) {
+        Ok(scaled) => Ok(scaled),
+        Err(RowEnd::Refused(row)) => Err(ScaleEnd::Refused(row.refusal)),
+        Err(RowEnd::Memory) => Err(ScaleEnd::Memory),
+    }
 }
 
 impl Scaled {
