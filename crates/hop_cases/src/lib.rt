@@ -3,6 +3,8 @@
 
 #[cfg(test)]
 mod certificates;
+#[cfg(test)]
+mod limits;
 mod triangle;
 #[cfg(test)]
 mod walks;
