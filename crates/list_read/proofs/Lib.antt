@@ -1,0 +1,5 @@
+pub mod Walking
+pub mod Fitting
+pub mod Scanning
+pub mod Naming
+pub mod Numbering
