@@ -10,13 +10,13 @@ use unit_scale::{Scaled, link_word, module_word, name_of, old_link_word};
 /// units, which takes no memory. In form 1 there are no words for bidirected links: names of form 1
 /// serve reading alone.
 #[derive(Drop)]
-pub struct Names<'a> {
-    rows: &'a RawNet<'a>,
+pub struct Names<'a, 'n> {
+    rows: &'a RawNet<'n>,
     net: &'a Scaled,
     form: Form,
 }
 
-impl<'a> Model for Names<'a> {
+impl<'a, 'n> Model for Names<'a, 'n> {
     ghost use Rattle.cert_lines.specs.Sheet.{Sheet, sheets_of, sheet_for, IsOf};
 
     ghost Value = { Sheet };
@@ -26,13 +26,13 @@ impl<'a> Model for Names<'a> {
     ghost invariant = { λ s. IsOf s.rows.now s.net.now };
 }
 
-impl<'a> Names<'a> {
+impl<'a, 'n> Names<'a, 'n> {
     ghost use Rattle.std.specs.Prelude.{◌≡◌, ◌<◌, ◌++◌, length};
     ghost use Rattle.cert_lines.specs.Sheet.{node_word, cell_word, cell_sign, cell_id};
     ghost use Rattle.cert_lines.specs.Sheet.{commodity_word, place_of, sheets_of, sheet_for, IsOf, IsWithin};
 
     /// The words of these rows and of their network in units, in this form.
-    pub fn new(rows: &'a RawNet<'a>, net: &'a Scaled, form: Form) -> Self
+    pub fn new(rows: &'a RawNet<'n>, net: &'a Scaled, form: Form) -> Self
         requires { IsOf rows.now net.now }
         ensures { result ≡ sheet_for (sheets_of rows.now net.now) form }
     {

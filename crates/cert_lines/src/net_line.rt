@@ -209,7 +209,7 @@ ghost use Rattle.cert_lines.specs.HeadLines.{are_counts};
 
 /// Whether these are the counts of the network: else the first thing that is wrong.
 #[tactic(auto, unfolding(crate::specs::HeadLines::counts_line))]
-pub fn counts_line(names: &Names<'_>, line: &[u8]) -> Result<(), CertKind>
+pub fn counts_line(names: &Names<'_, '_>, line: &[u8]) -> Result<(), CertKind>
     ensures { result ≡ counts_line names.now (words_of line.now) }
 {
     let (first, last) = match count_words(line) {

@@ -16,7 +16,11 @@ use text_lines::split_word;
 const PATH: &[u8] = b"path";
 
 // The cells of the words, put into `cells`, and how many they are.
-fn cells_of(names: &Names<'_>, words: Option<&[u8]>, cells: &mut [u16]) -> Result<usize, CertKind>
+fn cells_of(
+    names: &Names<'_, '_>,
+    words: Option<&[u8]>,
+    cells: &mut [u16],
+) -> Result<usize, CertKind>
     requires { length cells.old ≡ MAX_PATH_CELLS }
     ensures exact { seen (λ n. take n cells.new) result
         ≡ cells_from names.now 0 (words_in (option_map (λ w. w.now) words.entry)) }
@@ -45,7 +49,7 @@ fn cells_of(names: &Names<'_>, words: Option<&[u8]>, cells: &mut [u16]) -> Resul
 /// The commodity, the weight and the number of cells of a path row, its cells at the front of `cells`.
 #[tactic(auto, unfolding(crate::specs::Rows::path_row))]
 pub fn path_row(
-    names: &Names<'_>,
+    names: &Names<'_, '_>,
     line: &[u8],
     cells: &mut [u16],
 ) -> Result<(u32, u64, usize), CertKind>

@@ -84,7 +84,11 @@ pub fn potentials_of(words: Option<&[u8]>, values: &mut [u64]) -> Result<(), Cer
 
 /// The node of a potential row, its potentials in `values`.
 #[tactic(auto, unfolding(crate::specs::Rows::potential_row))]
-pub fn potential_row(names: &Names<'_>, line: &[u8], values: &mut [u64]) -> Result<u16, CertKind>
+pub fn potential_row(
+    names: &Names<'_, '_>,
+    line: &[u8],
+    values: &mut [u64],
+) -> Result<u16, CertKind>
     requires { length values.old ≡ length names.now.nodes }
     ensures exact { seen (λ n. record { node = n; values = values.new }) result
         ≡ potential_row names.now (words_of line.now) }

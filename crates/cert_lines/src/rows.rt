@@ -15,7 +15,7 @@ const LENGTH: &[u8] = b"length";
 
 /// The cell and the length of a length row.
 #[tactic(auto, unfolding(crate::specs::Rows::length_row))]
-pub fn length_row(names: &Names<'_>, line: &[u8]) -> Result<(u16, u64), CertKind>
+pub fn length_row(names: &Names<'_, '_>, line: &[u8]) -> Result<(u16, u64), CertKind>
     ensures exact { seen (λ p. record { cell = p.0; value = p.1 }) result
         ≡ length_row names.now (words_of line.now) }
     ensures within { IfOk result (λ p. p.1 ≤ MAX_LENGTH) }

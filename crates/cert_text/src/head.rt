@@ -56,7 +56,7 @@ const MODULES: &[u8] = b"modules";
 
 /// The lines that say how links and modules are read.
 #[tactic(auto, unfolding(crate::specs::Papers::modes_at))]
-pub fn next_modes<'a>(names: &Names<'_>, place: Place<'a>) -> Result<Place<'a>, CertEnd>
+pub fn next_modes<'a>(names: &Names<'_, '_>, place: Place<'a>) -> Result<Place<'a>, CertEnd>
     requires { HasRoom place }
     ensures exact { Gives place_view result (modes_at names.now (place_view place.entry)) }
     ensures room { IfOk result HasRoom }
@@ -91,7 +91,7 @@ fn next_verdict<'a>(place: Place<'a>) -> Result<(bool, Place<'a>), CertEnd>
 
 // The counts of the network.
 #[tactic(auto, using(crate::proofs::LineSteps::has_line), unfolding(crate::specs::Reading::next_line))]
-fn next_counts<'a>(names: &Names<'_>, place: Place<'a>) -> Result<((), Place<'a>), CertEnd>
+fn next_counts<'a>(names: &Names<'_, '_>, place: Place<'a>) -> Result<((), Place<'a>), CertEnd>
     requires { HasRoom place }
     ensures exact { Gives (λ x. (x.0, place_view x.1)) result
         (next_line (counts_line names.now) (place_view place.entry)) }
@@ -225,7 +225,7 @@ pub fn next_values(place: Place<'_>) -> Result<((Printed, Printed), Place<'_>), 
 /// That verdict and the gap, behind the line of counts.
 #[tactic(auto, unfolding(crate::specs::Papers::counted_at))]
 pub fn next_counted<'a>(
-    names: &Names<'_>,
+    names: &Names<'_, '_>,
     closed: bool,
     place: Place<'a>,
 ) -> Result<((bool, u64), Place<'a>), CertEnd>
@@ -247,7 +247,7 @@ pub fn next_counted<'a>(
 /// Whether the verdict is closed, and the gap, behind the lines of modes and counts.
 #[tactic(auto, unfolding(crate::specs::Papers::opening_at))]
 pub fn next_opening<'a>(
-    names: &Names<'_>,
+    names: &Names<'_, '_>,
     place: Place<'a>,
 ) -> Result<((bool, u64), Place<'a>), CertEnd>
     requires { HasRoom place }

@@ -30,7 +30,7 @@ pub enum Paper {
 // The path rows, and the place behind them.
 fn paths_of<'a>(
     alloc: Global,
-    names: &Names<'_>,
+    names: &Names<'_, '_>,
     place: Place<'a>,
 ) -> Result<(PathStore, Place<'a>), CertEnd>
     requires { HasRoom place }
@@ -54,7 +54,7 @@ ghost use Rattle.cert_text.specs.Reading.{rows_at};
 #[tactic(auto, unfolding(crate::specs::Papers::dual_at))]
 fn dual_of<'a>(
     alloc: Global,
-    names: &Names<'_>,
+    names: &Names<'_, '_>,
     place: Place<'a>,
 ) -> Result<(Dual, Place<'a>), CertEnd>
     requires { HasRoom place }
@@ -79,7 +79,7 @@ fn dual_of<'a>(
 
 // What follows the modes of a routing.
 #[tactic(auto, unfolding(crate::specs::Papers::routing_from))]
-fn routing_from(alloc: Global, names: &Names<'_>, place: Place<'_>) -> Result<Routing, CertEnd>
+fn routing_from(alloc: Global, names: &Names<'_, '_>, place: Place<'_>) -> Result<Routing, CertEnd>
     requires { HasRoom place }
     ensures { Gives (λ x. x) result (routing_from names.now (place_view place.entry)) }
 {
@@ -106,7 +106,7 @@ fn routing_from(alloc: Global, names: &Names<'_>, place: Place<'_>) -> Result<Ro
 #[tactic(auto, unfolding(crate::specs::Papers::proof_from))]
 fn proof_from(
     alloc: Global,
-    names: &Names<'_>,
+    names: &Names<'_, '_>,
     opening: (bool, u64),
     place: Place<'_>,
 ) -> Result<Proof, CertEnd>
@@ -152,7 +152,7 @@ fn proof_from(
 #[tactic(auto, unfolding(crate::specs::Whole::rest_at))]
 fn proof_of(
     alloc: Global,
-    names: &Names<'_>,
+    names: &Names<'_, '_>,
     closed: bool,
     place: Place<'_>,
 ) -> Result<Paper, CertEnd>
@@ -173,7 +173,7 @@ fn proof_of(
 #[tactic(auto, unfolding(crate::specs::Whole::rest_at))]
 fn paper_of(
     alloc: Global,
-    names: &Names<'_>,
+    names: &Names<'_, '_>,
     closed: Option<bool>,
     place: Place<'_>,
 ) -> Result<Paper, CertEnd>
@@ -193,7 +193,7 @@ fn paper_of(
 /// under the modes that it says, in its form; or the first line with a fault.
 pub fn read_rest<'a>(
     alloc: Global,
-    rows: &'a RawNet<'a>,
+    rows: &'a RawNet<'_>,
     net: &'a Scaled,
     opened: Opened<'_>,
 ) -> Result<Paper, CertEnd>

@@ -19,7 +19,7 @@ const POTENTIAL: &[u8] = b"potential";
 
 /// Reads the path rows at the front, and answers the place behind them. `cells` is a buffer for the cells of one path.
 pub fn next_paths<'a>(
-    names: &Names<'_>,
+    names: &Names<'_, '_>,
     place: Place<'a>,
     cells: &mut [u16],
     paths: &mut PathStore,
@@ -55,7 +55,7 @@ pub fn next_paths<'a>(
 
 /// Reads the length rows at the front, and answers the place behind them.
 pub fn next_lengths<'a>(
-    names: &Names<'_>,
+    names: &Names<'_, '_>,
     place: Place<'a>,
     dual: &mut Dual,
 ) -> Result<Place<'a>, CertEnd>
@@ -92,7 +92,7 @@ pub fn next_lengths<'a>(
 /// one row.
 pub fn next_potentials<'a>(
     alloc: Global,
-    names: &Names<'_>,
+    names: &Names<'_, '_>,
     place: Place<'a>,
     values: &mut [u64],
     dual: &mut Dual,

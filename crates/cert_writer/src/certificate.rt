@@ -51,7 +51,7 @@ pub fn put_modes<'a, K: Sink>(
 fn put_opening<K: Sink>(
     buffer: &mut Buffer,
     out: &mut K,
-    names: &Names<'_>,
+    names: &Names<'_, '_>,
     proof: &Proof,
 ) -> Result<(), WriteFault>
     ensures { Puts (K.seen out.old) (K.seen out.new) buffer.old buffer.new result
@@ -66,7 +66,7 @@ fn put_opening<K: Sink>(
 }
 
 // One count, as a word.
-fn count_word(names: &Names<'_>, i: usize) -> Word
+fn count_word(names: &Names<'_, '_>, i: usize) -> Word
     requires { i < 7 }
     ensures { result ≡ count_at names.now i }
 {
@@ -78,7 +78,7 @@ fn count_word(names: &Names<'_>, i: usize) -> Word
 pub fn put_counts<K: Sink>(
     buffer: &mut Buffer,
     out: &mut K,
-    names: &Names<'_>,
+    names: &Names<'_, '_>,
 ) -> Result<(), WriteFault>
     ensures { Puts (K.seen out.old) (K.seen out.new) buffer.old buffer.new result
         (text_of (counts_words names.now ∷ [])) }
@@ -160,7 +160,7 @@ pub fn put_end<K: Sink>(buffer: &mut Buffer, out: &mut K) -> Result<(), WriteFau
 fn put_from_potentials<K: Sink>(
     buffer: &mut Buffer,
     out: &mut K,
-    names: &Names<'_>,
+    names: &Names<'_, '_>,
     proof: &Proof,
 ) -> Result<(), WriteFault>
     requires { IsWritable names.now proof.now }
@@ -178,7 +178,7 @@ fn put_from_potentials<K: Sink>(
 fn put_from_lengths<K: Sink>(
     buffer: &mut Buffer,
     out: &mut K,
-    names: &Names<'_>,
+    names: &Names<'_, '_>,
     proof: &Proof,
 ) -> Result<(), WriteFault>
     requires { IsWritable names.now proof.now }
@@ -196,7 +196,7 @@ fn put_from_lengths<K: Sink>(
 fn put_from_paths<K: Sink>(
     buffer: &mut Buffer,
     out: &mut K,
-    names: &Names<'_>,
+    names: &Names<'_, '_>,
     proof: &Proof,
 ) -> Result<(), WriteFault>
     requires { IsWritable names.now proof.now }
@@ -214,7 +214,7 @@ fn put_from_paths<K: Sink>(
 fn put_from_figures<K: Sink>(
     buffer: &mut Buffer,
     out: &mut K,
-    names: &Names<'_>,
+    names: &Names<'_, '_>,
     proof: &Proof,
 ) -> Result<(), WriteFault>
     requires { IsWritable names.now proof.now }
@@ -232,7 +232,7 @@ fn put_from_figures<K: Sink>(
 fn put_from_counts<K: Sink>(
     buffer: &mut Buffer,
     out: &mut K,
-    names: &Names<'_>,
+    names: &Names<'_, '_>,
     proof: &Proof,
 ) -> Result<(), WriteFault>
     requires { IsWritable names.now proof.now }
@@ -250,7 +250,7 @@ fn put_from_counts<K: Sink>(
 fn put_certificate<K: Sink>(
     buffer: &mut Buffer,
     out: &mut K,
-    names: &Names<'_>,
+    names: &Names<'_, '_>,
     proof: &Proof,
 ) -> Result<(), WriteFault>
     requires { IsWritable names.now proof.now }
@@ -268,7 +268,7 @@ fn put_certificate<K: Sink>(
 fn put_whole<K: Sink>(
     buffer: &mut Buffer,
     out: &mut K,
-    names: &Names<'_>,
+    names: &Names<'_, '_>,
     proof: &Proof,
 ) -> Result<(), WriteFault>
     requires proof { IsWritable names.now proof.now }
@@ -285,7 +285,11 @@ fn put_whole<K: Sink>(
 
 /// Appends the text of the certificate, in form 2. The names are of that form: form 1 is read, and never written. After a fault
 /// some front of the text was appended. It takes no memory.
-pub fn write_cert<K: Sink>(names: &Names<'_>, proof: &Proof, out: &mut K) -> Result<(), WriteFault>
+pub fn write_cert<K: Sink>(
+    names: &Names<'_, '_>,
+    proof: &Proof,
+    out: &mut K,
+) -> Result<(), WriteFault>
     requires form { names.now.form ≡ codes "2" }
     requires fits { FitsProof names.now proof.now }
     ensures { Wrote (K.seen out.old) (K.seen out.new) result

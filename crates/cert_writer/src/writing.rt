@@ -65,7 +65,7 @@ pub fn put_front<K: Sink>(
 fn put_cell<K: Sink>(
     buffer: &mut Buffer,
     out: &mut K,
-    names: &Names<'_>,
+    names: &Names<'_, '_>,
     cell: u16,
 ) -> Result<(), WriteFault>
     requires { cell < length names.now.cells }
@@ -84,7 +84,7 @@ fn put_cell_front<K: Sink>(
     buffer: &mut Buffer,
     out: &mut K,
     first: &[u8],
-    names: &Names<'_>,
+    names: &Names<'_, '_>,
     cell: u16,
 ) -> Result<(), WriteFault>
     requires { cell < length names.now.cells }
@@ -102,7 +102,7 @@ fn put_cell_front<K: Sink>(
 fn put_cells<K: Sink>(
     buffer: &mut Buffer,
     out: &mut K,
-    names: &Names<'_>,
+    names: &Names<'_, '_>,
     cells: &[u16],
 ) -> Result<(), WriteFault>
     requires { All (λ c. c < length names.now.cells) cells.now }
@@ -146,7 +146,7 @@ const POTENTIAL: &[u8] = b"potential";
 fn put_path<K: Sink>(
     buffer: &mut Buffer,
     out: &mut K,
-    names: &Names<'_>,
+    names: &Names<'_, '_>,
     paths: &PathStore,
     row: u32,
 ) -> Result<(), WriteFault>
@@ -173,7 +173,7 @@ fn put_path<K: Sink>(
 fn put_potential<K: Sink>(
     buffer: &mut Buffer,
     out: &mut K,
-    names: &Names<'_>,
+    names: &Names<'_, '_>,
     dual: &Dual,
     row: usize,
 ) -> Result<(), WriteFault>
@@ -198,7 +198,7 @@ fn put_potential<K: Sink>(
 fn put_length<K: Sink>(
     buffer: &mut Buffer,
     out: &mut K,
-    names: &Names<'_>,
+    names: &Names<'_, '_>,
     dual: &Dual,
     row: usize,
 ) -> Result<(), WriteFault>
@@ -223,7 +223,7 @@ fn put_length<K: Sink>(
 pub fn put_paths<K: Sink>(
     buffer: &mut Buffer,
     out: &mut K,
-    names: &Names<'_>,
+    names: &Names<'_, '_>,
     paths: &PathStore,
 ) -> Result<(), WriteFault>
     requires commodities { All (λ r. r.commodity < length names.now.commodities) paths.now }
@@ -244,7 +244,7 @@ pub fn put_paths<K: Sink>(
 pub fn put_lengths<K: Sink>(
     buffer: &mut Buffer,
     out: &mut K,
-    names: &Names<'_>,
+    names: &Names<'_, '_>,
     dual: &Dual,
 ) -> Result<(), WriteFault>
     requires { All (λ r. r.cell < length names.now.cells) dual.now.lengths }
@@ -264,7 +264,7 @@ pub fn put_lengths<K: Sink>(
 pub fn put_potentials<K: Sink>(
     buffer: &mut Buffer,
     out: &mut K,
-    names: &Names<'_>,
+    names: &Names<'_, '_>,
     dual: &Dual,
 ) -> Result<(), WriteFault>
     requires { All (λ r. r.node < length names.now.nodes) dual.now.potentials }

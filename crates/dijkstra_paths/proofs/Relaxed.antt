@@ -11,7 +11,7 @@ use Rattle.flow_model.specs.Lengths.{AreLengths}
 use Rattle.flow_model.specs.Walk.{PassesOver}
 use Rattle.dijkstra_paths.specs.declared.search.Step.{Step}
 use Rattle.dijkstra_paths.specs.Heap.{AreInverse, SameOpen}
-use Rattle.dijkstra_paths.specs.Tree.{step_at, arc_at, ArcsDone, IsReached, IsTree, IsDone, IsUnderWay}
+use Rattle.dijkstra_paths.specs.Tree.{step_at, arc_at, ArcsDone, IsReached, IsTree, IsDone, AreUnderWay}
 use Rattle.mcf_limits.specs.declared.TheConstants.{MAX_LENGTH}
 
 at-same : (xs : List ℕ) (i k x : ℕ) → k ≡ i → i < length xs → get_or (set xs i x) k 0 ≡ x
@@ -70,10 +70,10 @@ tree-relaxed cells lengths from node dist steps c x there lens t ln lx p e less 
     }
 
 pub state-relaxed : (cells : List Cell) (lengths : List ℕ) (from node : ℕ) (dist : List ℕ) (steps : List Step) (order place order' place' : List ℕ) (count count' c x there : ℕ)
-    → AreLengths cells lengths → IsUnderWay cells lengths from node dist steps order place count → node < length dist → x < length dist → PassesOver cells c node x
+    → AreLengths cells lengths → AreUnderWay cells lengths from node dist steps order place count → node < length dist → x < length dist → PassesOver cells c node x
     → there ≡ get_or dist node 0 + get_or lengths c 0 → there < get_or dist x 0
     → AreInverse order' place' → length order' ≡ length order → get_or place' x 0 < count' → SameOpen place count place' count' x → count' ≤ length order
-    → IsUnderWay cells lengths from node (set dist x there) (set steps x (record { cell = c; from = node })) order' place' count'
+    → AreUnderWay cells lengths from node (set dist x there) (set steps x (record { cell = c; from = node })) order' place' count'
 state-relaxed cells lengths from node dist steps order place order' place' count count' c x there lens s ln lx p e less inv long opened others few =
     let same : length (set dist x there) ≡ length dist = length-set dist x there in
     let falls = at-falls dist x there lx (omega arith) in
@@ -100,7 +100,7 @@ state-relaxed cells lengths from node dist steps order place order' place' count
 
 -- the node is done
 pub state-closed : (cells : List Cell) (lengths : List ℕ) (from node : ℕ) (dist : List ℕ) (steps : List Step) (order place : List ℕ) (count : ℕ)
-    → IsUnderWay cells lengths from node dist steps order place count → IsDone cells lengths dist node → IsUnderWay cells lengths from (length dist) dist steps order place count
+    → AreUnderWay cells lengths from node dist steps order place count → IsDone cells lengths dist node → AreUnderWay cells lengths from (length dist) dist steps order place count
 state-closed cells lengths from node dist steps order place count s d = record {
   tree = s.tree;
   inverse = s.inverse;
@@ -113,11 +113,35 @@ state-closed cells lengths from node dist steps order place count s d = record {
   ];
 }
 
+-- an open node is taken out, and worked on
+pub state-popped : (cells : List Cell) (lengths : List ℕ) (from node : ℕ) (dist : List ℕ) (steps : List Step) (order place order' place' : List ℕ) (count : ℕ)
+    → AreUnderWay cells lengths from (length dist) dist steps order place count → AreInverse order' place' → length order' ≡ length order → 0 < count
+    → count ≤ get_or place' node 0 + 1 → SameOpen place count place' (count - 1) node
+    → AreUnderWay cells lengths from node dist steps order' place' (count - 1)
+state-popped cells lengths from node dist steps order place order' place' count s inv long some shut others =
+    let places : length place ≡ length dist = s.inverse.same ∙ s.nodes in
+    record {
+      tree = s.tree;
+      inverse = inv;
+      nodes = long ∙ s.nodes;
+      few = omega (arith, s.few);
+      opened = λ v l q. elim (cases_eq v node) [
+        | inl e ↦ absurd (omega (arith, ap (λ (n : ℕ). get_or place' n 0) e))
+        | inr n ↦ s.opened v l ((others v (omega (arith, places)) n).1 q)
+      ];
+      done = λ u l apart near shut'.
+          let was_shut : count ≤ get_or place u 0 = elim (cases_lt (get_or place u 0) count) [
+            | inl q ↦ absurd (omega (arith, (others u (omega (arith, places)) apart).0 q))
+            | inr q ↦ q
+          ] in
+          s.done u l (λ (e : u ≡ length dist). absurd (omega (arith, e))) near was_shut;
+    }
+
 -- only the first node is open
 pub state-first : (cells : List Cell) (lengths : List ℕ) (from : ℕ) (dist : List ℕ) (steps : List Step) (order place place₀ : List ℕ) (count : ℕ)
     → length steps ≡ length dist → AreInverse order place → length order ≡ length dist → length place₀ ≡ length dist → count ≤ length dist → from < length dist
     → ((v : ℕ) → v < length dist → get_or dist v 0 ≡ MAX_LENGTH) → get_or place from 0 < count → SameOpen place₀ 0 place count from
-    → IsUnderWay cells lengths from (length (set dist from 0)) (set dist from 0) steps order place count
+    → AreUnderWay cells lengths from (length (set dist from 0)) (set dist from 0) steps order place count
 state-first cells lengths from dist steps order place place₀ count sl inv nodes nodes₀ few lf far opened others =
     let same : length (set dist from 0) ≡ length dist = length-set dist from 0 in
     let first : get_or (set dist from 0) from 0 ≡ 0 = at-same dist from from 0 refl lf in

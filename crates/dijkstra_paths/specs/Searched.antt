@@ -4,8 +4,8 @@ use Rattle.flow_model.specs.declared.net.Cell.{Cell}
 use Rattle.flow_model.specs.Walk.{PassesOver, PositiveWalk}
 use Rattle.flow_model.specs.Bound.{walk_length}
 use Rattle.dijkstra_paths.specs.declared.search.Step.{Step}
-use Rattle.dijkstra_paths.specs.Tree.{step_at}
-use Rattle.dijkstra_paths.specs.Heap.{AreInverse}
+use Rattle.dijkstra_paths.specs.declared.search.Front.{Front}
+use Rattle.dijkstra_paths.specs.Tree.{step_at, IsFront}
 use Rattle.flow_model.specs.Least.{AreDifferent}
 use Rattle.mcf_limits.specs.declared.TheConstants.{MAX_LENGTH}
 
@@ -40,16 +40,12 @@ dist_at s v = slice_index_or s.dists v None
 abbrev pub path_at : Searched → ℕ → Option (List ℕ)
 path_at s v = slice_index_or s.paths v None
 
--- all lists have an item for each node, and the order is one of all nodes
-pub record IsReady (nodes from : ℕ) (dist : List ℕ) (via : List Step) (order place keys path : List ℕ) : Type 0 where
-  pub dists : length dist ≡ nodes
-  pub steps : length via ≡ nodes
-  pub orders : length order ≡ nodes
-  pub keyed : length keys ≡ nodes
-  pub inverse : AreInverse order place
+-- all lists have an item for each node, and the steps lead back to the first node
+pub record IsReady (nodes from : ℕ) (front : Front) (path : List ℕ) : Type 0 where
+  pub fits : IsFront nodes front
   pub room : length path ≡ nodes
   pub first : nodes ≢ 0 → from < nodes
-  pub ends : (v : ℕ) → v < nodes → slice_index dist v < MAX_LENGTH → Ends via nodes from nodes v
+  pub ends : (v : ℕ) → v < nodes → slice_index front.dist.items v < MAX_LENGTH → Ends front.steps.items nodes from nodes v
 
 -- over a positive cell from a node with a distance, the next has one that is at most the cell's length more
 abbrev pub IsNear : List Cell → List ℕ → Searched → Type 0

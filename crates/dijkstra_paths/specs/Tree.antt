@@ -4,6 +4,7 @@ use Rattle.flow_model.specs.declared.net.Cell.{Cell}
 use Rattle.flow_model.specs.Walk.{PassesOver}
 use Rattle.dijkstra_paths.specs.declared.graph.Arc.{Arc}
 use Rattle.dijkstra_paths.specs.declared.search.Step.{Step}
+use Rattle.dijkstra_paths.specs.declared.search.Front.{Front}
 use Rattle.dijkstra_paths.specs.Heap.{AreInverse}
 use Rattle.mcf_limits.specs.declared.TheConstants.{MAX_LENGTH}
 
@@ -27,14 +28,27 @@ pub record IsTree (cells : List Cell) (lengths : List ℕ) (from : ℕ) (dist : 
 abbrev pub IsDone : List Cell → List ℕ → List ℕ → ℕ → Type 0
 IsDone cells lengths dist u = (c x : ℕ) → PassesOver cells c u x → slice_index dist x ≤ slice_index dist u + slice_index lengths c
 
+-- each list has an item for each node, and the order is one of all nodes
+pub record IsFront (nodes : ℕ) (front : Front) : Type 0 where
+  pub dists : length front.dist.items ≡ nodes
+  pub steps : length front.steps.items ≡ nodes
+  pub orders : length front.order.items ≡ nodes
+  pub keyed : length front.keys.items ≡ nodes
+  pub inverse : AreInverse front.order.items front.place.items
+
 -- every reached node that isn't open is done, but for one that is being worked on
-pub record IsUnderWay (cells : List Cell) (lengths : List ℕ) (from node : ℕ) (dist : List ℕ) (steps : List Step) (order place : List ℕ) (count : ℕ) : Type 0 where
+pub record AreUnderWay (cells : List Cell) (lengths : List ℕ) (from node : ℕ) (dist : List ℕ) (steps : List Step) (order place : List ℕ) (count : ℕ) : Type 0 where
   pub tree : IsTree cells lengths from dist steps
   pub inverse : AreInverse order place
   pub nodes : length order ≡ length dist
   pub few : count ≤ length dist
   pub opened : (v : ℕ) → v < length dist → slice_index place v < count → slice_index dist v < MAX_LENGTH
   pub done : (u : ℕ) → u < length dist → u ≢ node → slice_index dist u < MAX_LENGTH → count ≤ slice_index place u → IsDone cells lengths dist u
+
+-- so it is of the lists of a front
+abbrev pub IsUnderWay : List Cell → List ℕ → ℕ → ℕ → Front → ℕ → Type 0
+IsUnderWay cells lengths from node front count =
+    AreUnderWay cells lengths from node front.dist.items front.steps.items front.order.items front.place.items count
 
 abbrev pub arc_at : List Arc → ℕ → Arc
 arc_at arcs k = slice_index_or arcs k (record { cell = 0; to = 0 })

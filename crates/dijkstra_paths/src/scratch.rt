@@ -2,10 +2,11 @@
 
 ghost use Rattle.std.specs.Prelude.{◌≡◌, ℕ, ◌<◌, ◌≤◌, length, slice_index, IfOk, drop};
 ghost use Rattle.dijkstra_paths.specs.Searched.{trail, Ends};
+ghost use Rattle.dijkstra_paths.specs.Tree.{IsFront};
 ghost use Rattle.flow_model.specs.Lengths.{AreLengths};
 
 use crate::Graph;
-use crate::search::{Step, search};
+use crate::search::{Front, Step, search};
 use mcf_limits::MAX_LENGTH;
 use std::alloc::{AllocError, Global};
 use std::marker::Model;
@@ -17,11 +18,7 @@ pub struct Scratch {
     nodes: u16,
     cells: u16,
     from: u16,
-    dist: Vec<u64>,
-    steps: Vec<Step>,
-    order: Vec<u16>,
-    place: Vec<u16>,
-    keys: Vec<u64>,
+    front: Front,
     path: Vec<u16>,
 }
 
@@ -31,9 +28,9 @@ impl Model for Scratch {
 
     ghost Value = { Searched };
 
-    ghost view = { λ s. record { nodes = s.nodes; cells = s.cells; dists = map known s.dist.items; paths = paths_from s.steps.items s.from s.nodes 0 s.dist.items } };
+    ghost view = { λ s. record { nodes = s.nodes; cells = s.cells; dists = map known s.front.dist.items; paths = paths_from s.front.steps.items s.from s.nodes 0 s.front.dist.items } };
 
-    ghost invariant = { λ s. IsReady s.nodes s.from s.dist.items s.steps.items s.order.items s.place.items s.keys.items s.path.items };
+    ghost invariant = { λ s. IsReady s.nodes s.from s.front s.path.items };
 }
 
 /// The numbers below n in order.
@@ -57,6 +54,22 @@ fn unreached(alloc: Global, n: usize) -> Result<Vec<u64>, AllocError>
     Ok(dist)
 }
 
+/// A front of so many nodes, before any search.
+fn new_front(alloc: Global, nodes: u16) -> Result<Front, AllocError>
+    ensures front { IfOk result (IsFront nodes) }
+    ensures blank { IfOk result (λ f. (v : ℕ) → v < length f.dist.items
+        → slice_index f.dist.items v ≡ MAX_LENGTH) }
+{
+    let n = nodes as usize;
+    Ok(Front {
+        dist: unreached(alloc, n)?,
+        steps: vec![in alloc; Step { cell: 0, from: 0 }; n]?,
+        order: numbers(alloc, nodes)?,
+        place: numbers(alloc, nodes)?,
+        keys: vec![in alloc; 0; n]?,
+    })
+}
+
 impl Scratch {
     ghost use Rattle.std.specs.Prelude.{◌≡◌, ℕ, ◌<◌, ◌≤◌, None, length, IfOk, IfSome};
     ghost use Rattle.std.specs.Option.{option_map};
@@ -77,11 +90,7 @@ impl Scratch {
             nodes,
             cells,
             from: 0,
-            dist: unreached(alloc, n)?,
-            steps: vec![in alloc; Step { cell: 0, from: 0 }; n]?,
-            order: numbers(alloc, nodes)?,
-            place: numbers(alloc, nodes)?,
-            keys: vec![in alloc; 0; n]?,
+            front: new_front(alloc, nodes)?,
             path: vec![in alloc; 0; n]?,
         })
     }
@@ -101,16 +110,7 @@ impl Scratch {
     {
         let _nodes = graph.nodes();
         self.from = from;
-        search(
-            graph,
-            lengths,
-            from,
-            &mut self.dist,
-            &mut self.steps,
-            &mut self.order,
-            &mut self.place,
-            &mut self.keys,
-        );
+        search(graph, lengths, from, &mut self.front);
     }
 
     /// The least distance of the node, if it was reached.
@@ -119,7 +119,7 @@ impl Scratch {
         ensures value { result ≡ dist_at self.now node }
         ensures limit { IfSome result (λ d. d < MAX_LENGTH) }
     {
-        let dist = self.dist.as_slice()[node as usize];
+        let dist = self.front.dist.as_slice()[node as usize];
         if dist < MAX_LENGTH { Some(dist) } else { None }
     }
 
@@ -129,10 +129,10 @@ impl Scratch {
         ensures* keeps { sem 𝓛 (Keeps self.entry) }
         ensures value { option_map (λ path. path.now) result ≡ path_at self.old to }
     {
-        if self.dist.as_slice()[to as usize] >= MAX_LENGTH {
+        if self.front.dist.as_slice()[to as usize] >= MAX_LENGTH {
             return None;
         }
-        let start = trace(self.steps.as_slice(), self.from, to, &mut self.path);
+        let start = trace(self.front.steps.as_slice(), self.from, to, &mut self.path);
         Some(rest(&self.path, start))
     }
 }

@@ -3,9 +3,8 @@
 ghost use Rattle.std.specs.Prelude.{◌≡◌, ℕ, ◌+◌, ◌*◌, ◌^◌, ◌<◌, ◌≤◌, length, slice_index, slice_set};
 ghost use Rattle.std.specs.List.{sum_by};
 ghost use Rattle.flow_model.specs.Walk.{PassesOver};
-ghost use Rattle.dijkstra_paths.specs.Heap.{AreInverse};
 ghost use Rattle.flow_model.specs.Lengths.{AreLengths};
-ghost use Rattle.dijkstra_paths.specs.Tree.{IsTree, IsDone, IsUnderWay};
+ghost use Rattle.dijkstra_paths.specs.Tree.{IsFront, IsTree, IsDone, IsUnderWay};
 
 use crate::queue::{pop, put};
 use crate::{Arc, Graph};
@@ -18,6 +17,17 @@ pub struct Step {
     pub from: u16,
 }
 
+/// What a search works in: the distance of each node and the step to it, and all nodes in an order whose front is a
+/// heap of the open ones, with each node's place in it and the key of each place.
+#[derive(Drop)]
+pub struct Front {
+    pub dist: Vec<u64>,
+    pub steps: Vec<Step>,
+    pub order: Vec<u16>,
+    pub place: Vec<u16>,
+    pub keys: Vec<u64>,
+}
+
 /// Goes over the arc from the node, where that is shorter, and gives the number of open nodes.
 #[inline(always)]
 fn relax(
@@ -26,38 +36,47 @@ fn relax(
     from: u16,
     node: u16,
     arc: Arc,
-    dist: &mut [u64],
-    steps: &mut [Step],
-    order: &mut [u16],
-    place: &mut [u16],
-    keys: &mut [u64],
+    front: &mut Front,
     count: usize,
 ) -> usize
     requires lengths { AreLengths graph.now.cells lengths.now }
-    requires small { length dist.old ≤ MAX_NODES }
-    requires keys { length keys.old ≡ length dist.old }
-    requires nodes { (node < length dist.old) × (arc.to < length dist.old) × (arc.cell < length lengths.now) }
+    requires small { length front.old.dist.items ≤ MAX_NODES }
+    requires keys { length front.old.keys.items ≡ length front.old.dist.items }
+    requires nodes { (node < length front.old.dist.items) × (arc.to < length front.old.dist.items)
+        × (arc.cell < length lengths.now) }
     requires passes { PassesOver graph.now.cells arc.cell node arc.to }
-    requires near { slice_index dist.old node < MAX_LENGTH }
-    requires state { IsUnderWay graph.now.cells lengths.now from node dist.old steps.old order.old place.old count }
-    ensures state { IsUnderWay graph.now.cells lengths.now from node dist.new steps.new order.new place.new result }
-    ensures falls { (v : ℕ) → slice_index dist.new v ≤ slice_index dist.old v }
-    ensures node { slice_index dist.new node ≡ slice_index dist.old node }
-    ensures there { slice_index dist.new arc.to ≤ slice_index dist.old node + slice_index lengths.now arc.cell }
-    ensures work { 2 * sum_by (λ d. d) dist.new + result ≤ 2 * sum_by (λ d. d) dist.old + count }
+    requires near { slice_index front.old.dist.items node < MAX_LENGTH }
+    requires state { IsUnderWay graph.now.cells lengths.now from node front.old count }
+    ensures state { IsUnderWay graph.now.cells lengths.now from node front.new result }
+    ensures keys { length front.new.keys.items ≡ length front.new.dist.items }
+    ensures nodes { length front.new.dist.items ≡ length front.old.dist.items }
+    ensures falls { (v : ℕ) → slice_index front.new.dist.items v ≤ slice_index front.old.dist.items v }
+    ensures node { slice_index front.new.dist.items node ≡ slice_index front.old.dist.items node }
+    ensures there { slice_index front.new.dist.items arc.to
+        ≤ slice_index front.old.dist.items node + slice_index lengths.now arc.cell }
+    ensures work { 2 * sum_by (λ d. d) front.new.dist.items + result
+        ≤ 2 * sum_by (λ d. d) front.old.dist.items + count }
 {
     let _ = graph;
     let _ = from;
+    let dist = front.dist.as_slice();
     let there = dist[node as usize] + lengths[arc.cell as usize];
     if there >= dist[arc.to as usize] {
         return count;
     }
-    dist[arc.to as usize] = there;
-    steps[arc.to as usize] = Step {
+    front.dist[arc.to as usize] = there;
+    front.steps[arc.to as usize] = Step {
         cell: arc.cell,
         from: node,
     };
-    put(order, place, keys, count, arc.to, there)
+    put(
+        &mut front.order,
+        &mut front.place,
+        &mut front.keys,
+        count,
+        arc.to,
+        there,
+    )
 }
 
 /// Goes over all arcs from the node.
@@ -67,29 +86,26 @@ fn go_on(
     lengths: &[u64],
     from: u16,
     node: u16,
-    dist: &mut [u64],
-    steps: &mut [Step],
-    order: &mut [u16],
-    place: &mut [u16],
-    keys: &mut [u64],
+    front: &mut Front,
     count: usize,
 ) -> usize
     requires lengths { AreLengths graph.now.cells lengths.now }
-    requires nodes { length dist.old ≡ graph.now.nodes }
-    requires keys { length keys.old ≡ length dist.old }
-    requires node { node < length dist.old }
-    requires near { slice_index dist.old node < MAX_LENGTH }
-    requires state { IsUnderWay graph.now.cells lengths.now from node dist.old steps.old order.old place.old count }
-    ensures state { IsUnderWay graph.now.cells lengths.now from node dist.new steps.new order.new place.new result }
-    ensures done { IsDone graph.now.cells lengths.now dist.new node }
-    ensures work { 2 * sum_by (λ d. d) dist.new + result ≤ 2 * sum_by (λ d. d) dist.old + count }
+    requires nodes { length front.old.dist.items ≡ graph.now.nodes }
+    requires keys { length front.old.keys.items ≡ length front.old.dist.items }
+    requires node { node < length front.old.dist.items }
+    requires near { slice_index front.old.dist.items node < MAX_LENGTH }
+    requires state { IsUnderWay graph.now.cells lengths.now from node front.old count }
+    ensures state { IsUnderWay graph.now.cells lengths.now from node front.new result }
+    ensures keys { length front.new.keys.items ≡ length front.new.dist.items }
+    ensures nodes { length front.new.dist.items ≡ length front.old.dist.items }
+    ensures done { IsDone graph.now.cells lengths.now front.new.dist.items node }
+    ensures work { 2 * sum_by (λ d. d) front.new.dist.items + result
+        ≤ 2 * sum_by (λ d. d) front.old.dist.items + count }
 {
     let mut count = count;
     let arcs = graph.out(node);
     for arc in arcs {
-        count = relax(
-            graph, lengths, from, node, *arc, dist, steps, order, place, keys, count,
-        );
+        count = relax(graph, lengths, from, node, *arc, front, count);
     }
     count
 }
@@ -105,45 +121,28 @@ fn clear(dist: &mut [u64])
 }
 
 /// Finds the least distances from a node.
-pub fn search(
-    graph: &Graph,
-    lengths: &[u64],
-    from: u16,
-    dist: &mut [u64],
-    steps: &mut [Step],
-    order: &mut [u16],
-    place: &mut [u16],
-    keys: &mut [u64],
-)
+pub fn search(graph: &Graph, lengths: &[u64], from: u16, front: &mut Front)
     requires lengths { AreLengths graph.now.cells lengths.now }
-    requires nodes { length dist.old ≡ graph.now.nodes }
-    requires keys { length keys.old ≡ length dist.old }
-    requires steps { length steps.old ≡ length dist.old }
-    requires order { length order.old ≡ length dist.old }
-    requires inverse { AreInverse order.old place.old }
-    requires from { from < length dist.old }
-    ensures inverse { AreInverse order.new place.new }
-    ensures tree { IsTree graph.now.cells lengths.now from dist.new steps.new }
-    ensures done { (u : ℕ) → u < length dist.new → slice_index dist.new u < MAX_LENGTH
-        → IsDone graph.now.cells lengths.now dist.new u }
+    requires front { IsFront graph.now.nodes front.old }
+    requires from { from < graph.now.nodes }
+    ensures front { IsFront graph.now.nodes front.new }
+    ensures tree { IsTree graph.now.cells lengths.now from front.new.dist.items front.new.steps.items }
+    ensures done { (u : ℕ) → u < length front.new.dist.items → slice_index front.new.dist.items u < MAX_LENGTH
+        → IsDone graph.now.cells lengths.now front.new.dist.items u }
 {
     let _nodes = graph.nodes();
-    clear(dist);
-    dist[from as usize] = 0;
-    let mut count = put(order, place, keys, 0, from, 0);
+    clear(&mut front.dist);
+    front.dist[from as usize] = 0;
+    let mut count = put(
+        &mut front.order,
+        &mut front.place,
+        &mut front.keys,
+        0,
+        from,
+        0,
+    );
     while count > 0 {
-        let node = pop(order, place, keys, count);
-        count = go_on(
-            graph,
-            lengths,
-            from,
-            node,
-            dist,
-            steps,
-            order,
-            place,
-            keys,
-            count - 1,
-        );
+        let node = pop(&mut front.order, &mut front.place, &mut front.keys, count);
+        count = go_on(graph, lengths, from, node, front, count - 1);
     }
 }

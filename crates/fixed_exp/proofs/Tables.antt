@@ -7,7 +7,7 @@ use Rattle.flow_model.specs.Network.{Network, IsNetwork}
 use Rattle.flow_model.specs.Lengths.{AreLengths, IsSetting, exponent, greatest_exponent, least_capacity, length_at, lengths_at, lengths_of}
 use Rattle.mcf_limits.specs.declared.TheConstants.{MAX_LENGTH}
 use Rattle.fixed_exp.specs.Far.{EmptyAreFar}
-use Rattle.fixed_exp.specs.Kept.{cell_at, AreRates, KeepsExponent}
+use Rattle.fixed_exp.specs.Kept.{cell_at, AreRates, AreRated, KeepsExponent}
 use Rattle.fixed_exp.specs.declared.rates.Rate.{Rate}
 use Rattle.fixed_exp.specs.LoadedNetwork.{IsLengthTable}
 use Rattle.fixed_exp.proofs.Passes.{get_or-lengths_at, lengths-fit, empty-far, least_bounds, greatest_bounds}
@@ -49,3 +49,11 @@ least-below cells least e k l p = subst (λ (n : ℕ). n ≤ (cell_at cells k).c
 -- each exponent is at most the greatest
 pub greatest-above : (s : Setting) (cells : List Cell) (loads : List ℕ) (top : ℕ) → length loads ≡ length cells → top ≡ greatest_exponent s cells loads → (k : ℕ) → k < length cells → exponent s (cell_at cells k) (get_or loads k 0) ≤ top
 greatest-above s cells loads top count e k l = subst (λ (n : ℕ). exponent s (cell_at cells k) (get_or loads k 0) ≤ n) (sym e) (greatest_bounds s cells loads k count l)
+
+-- cells of a network with their rates and their least capacity
+pub are-rated : (net : Network) (least : ℕ) (rates : List Rate) → IsNetwork net → AreRates net.cells least rates → least ≡ least_capacity net.cells → AreRated net.cells least rates
+are-rated net least rates fits rated e = record {
+  caps = λ k d l. (fits.cells k d l).cap;
+  rated = rated;
+  below = least-below net.cells least e;
+}

@@ -5,9 +5,11 @@ ghost use Rattle.flow_model.specs.Lengths.{AreLengths, IsSetting, lengths_of};
 ghost use Rattle.fixed_exp.specs.Far.{EmptyAreFar};
 ghost use Rattle.fixed_exp.specs.Kept.{AreRates, cell_at};
 
+use crate::changes::changed_places;
+use crate::follow::Changed;
 use crate::lengths::least_of;
 use crate::powers::Powers;
-use crate::rates::{NO_RATE, Rate};
+use crate::rates::{NO_RATE, Rate, Rated};
 use crate::scale::Scale;
 use flow_model::{Cell, Net, Setting};
 use mcf_limits::{MAX_LENGTH, MAX_UNITS};
@@ -78,16 +80,13 @@ impl LengthTable {
         let least = least_of(cells);
         let mut rates = vec![in alloc; NO_RATE; cells.len()]?;
         put_rates(&scale, cells, least, &mut rates);
-        powers.put_all_lengths(
-            &scale,
-            0,
+        let rated = Rated {
+            scale: &scale,
             least,
             cells,
-            &loads,
-            &rates,
-            &exponents,
-            &mut lengths,
-        );
+            rates: &rates,
+        };
+        powers.put_all_lengths(&rated, 0, &loads, &exponents, &mut lengths);
         Ok(LengthTable {
             net: Snapshot::of(net),
             scale,
@@ -112,15 +111,22 @@ impl LengthTable {
         ensures loads { self.new.loads ≡ loads.now }
     {
         let cells = net.cells();
-        let top = powers.follow(
-            &self.scale,
-            self.top,
-            self.least,
+        let count = changed_places(&self.loads, loads, &mut self.places);
+        let rated = Rated {
+            scale: &self.scale,
+            least: self.least,
             cells,
-            &self.loads,
+            rates: &self.rates,
+        };
+        let changed = Changed {
+            places: &self.places,
+            count,
+        };
+        let top = powers.follow(
+            &rated,
+            self.top,
             loads,
-            &self.rates,
-            &mut self.places,
+            &changed,
             &mut self.exponents,
             &mut self.lengths,
         );

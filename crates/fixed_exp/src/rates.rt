@@ -1,9 +1,9 @@
 //! Divisions by numbers that stay the same, by guesses.
 
-ghost use Rattle.std.specs.Prelude.{◌≡◌, ◌-◌, ◌*◌, ◌/◌, ◌^◌, ◌<◌, ◌≤◌, max, min};
+ghost use Rattle.std.specs.Prelude.{◌≡◌, ◌-◌, ◌*◌, ◌/◌, ◌^◌, ◌<◌, ◌≤◌, max, min, length};
 ghost use Rattle.flow_model.specs.Lengths.{exponent, length_at};
 ghost use Rattle.flow_model.specs.Powers.{weight_of};
-ghost use Rattle.fixed_exp.specs.Kept.{length_from};
+ghost use Rattle.fixed_exp.specs.Kept.{AreRated, cell_at, length_from};
 
 use crate::powers::Powers;
 use crate::scale::Scale;
@@ -16,6 +16,15 @@ use mcf_limits::{MAX_LENGTH, MAX_UNITS};
 pub struct Rate {
     pub exponent: u64,
     pub length: u64,
+}
+
+/// Cells with the rates that they have under a scale, and the least positive capacity.
+#[derive(Clone, Copy)]
+pub struct Rated<'a> {
+    pub scale: &'a Scale,
+    pub least: u64,
+    pub cells: &'a [Cell],
+    pub rates: &'a [Rate],
 }
 
 /// The rate of a cell without capacity.
@@ -85,30 +94,30 @@ impl Powers {
         self.length_by_rate(u128::from(top - exponent), least, cell.cap, rate)
     }
 
-    /// The length of a cell whose exponent was kept as far as it fits.
+    /// The length of the cell at that place, whose exponent was kept as far as it fits.
     #[inline(always)]
     pub fn cell_length_by_rate(
         &self,
-        scale: &Scale,
+        rated: &Rated<'_>,
         top: u128,
-        least: u64,
-        cell: &Cell,
+        i: usize,
         load: u64,
         kept: u64,
-        rate: u64,
     ) -> u64
-        requires least { 1 ≤ cell.now.cap → least ≤ cell.now.cap }
-        requires cap { cell.now.cap ≤ MAX_UNITS }
+        requires rated { AreRated rated.now.cells.now rated.now.least rated.now.rates.now }
+        requires inside { i < length rated.now.cells.now }
         requires load { load ≤ MAX_LENGTH }
-        requires top { exponent scale.now.setting cell.now load ≤ top }
-        requires kept { kept ≡ min (exponent scale.now.setting cell.now load) (2 ^ 64 - 1) }
-        requires rate { rate ≡ 2 ^ 52 * least / cell.now.cap }
-        ensures { result ≡ length_at scale.now.setting top least cell.now load }
+        requires top { exponent rated.now.scale.now.setting (cell_at rated.now.cells.now i) load ≤ top }
+        requires kept { kept
+            ≡ min (exponent rated.now.scale.now.setting (cell_at rated.now.cells.now i) load) (2 ^ 64 - 1) }
+        ensures { result
+            ≡ length_at rated.now.scale.now.setting top rated.now.least (cell_at rated.now.cells.now i) load }
     {
+        let cell = &rated.cells[i];
         if cell.cap == 0 {
             return MAX_LENGTH;
         }
-        let exponent = Self::kept_exponent(scale, top, cell, load, kept);
-        self.length_by_rate(top - exponent, least, cell.cap, rate)
+        let exponent = Self::kept_exponent(rated.scale, top, cell, load, kept);
+        self.length_by_rate(top - exponent, rated.least, cell.cap, rated.rates[i].length)
     }
 }

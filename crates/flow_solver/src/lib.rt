@@ -8,6 +8,7 @@ mod hands;
 mod history;
 mod kept;
 mod places;
+mod prepared;
 mod reached;
 mod search;
 mod solved;

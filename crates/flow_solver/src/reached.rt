@@ -10,11 +10,10 @@ ghost use Rattle.flow_solver.specs.Reached.{IsMet, IsReached};
 ghost use Rattle.flow_solver.specs.Search.{IsSearch, phase_count, phases_in};
 
 use crate::kept::lesser;
+use crate::prepared::Prepared;
 use crate::search::{Search, bound_of, new_search, route};
-use dijkstra_paths::Graph;
 use dual_bound::Bounded;
-use fixed_exp::Powers;
-use flow_model::{Groups, Net, Setting};
+use flow_model::{Net, Setting};
 use flow_paths::{Fill, fullest};
 use gap_fraction::Frac;
 use mcf_base::Gate;
@@ -71,42 +70,25 @@ fn setting_after_first(reference: Fill, step: u32) -> Setting
 pub fn first<G: Gate, R: Threads + Sync>(
     rt: &R,
     alloc: Global,
-    net: &Net,
-    groups: &Groups,
-    graph: &Graph,
-    powers: &Powers,
+    on: &Prepared<'_>,
     options: &SolveOptions,
     gate: &G,
     threads: u16,
 ) -> Result<Reached, AllocError>
-    requires groups { groups.now ≡ net.now }
-    requires graph { graph.now ≡ net.now }
-    requires no_cut { HasNoCut net.now }
-    requires options { AreOptions net.now options.now }
-    ensures reached { IfOk result (λ r. IsReached net.now options.now r) }
+    requires no_cut { HasNoCut on.now.net.now }
+    requires options { AreOptions on.now.net.now options.now }
+    ensures reached { IfOk result (λ r. IsReached on.now.net.now options.now r) }
     ensures count { IfOk result (λ r. phase_count r.search ≡ 1) }
 {
-    let mut search = new_search(alloc, net, options.workers)?;
+    let mut search = new_search(alloc, on.net, options.workers)?;
     let setting = setting_at_first(options.step);
-    route(
-        rt,
-        alloc,
-        net,
-        groups,
-        graph,
-        powers,
-        setting,
-        gate,
-        &mut search,
-    )?;
-    let fill = measured(net, &search);
+    route(rt, alloc, on, setting, gate, &mut search)?;
+    let fill = measured(on.net, &search);
     let later = setting_after_first(fill, options.step);
     let kept = bound_of(
         rt,
         alloc,
-        net,
-        graph,
-        powers,
+        on,
         &later,
         &search.loads,
         &mut search.lengths,
@@ -124,23 +106,18 @@ pub fn first<G: Gate, R: Threads + Sync>(
 pub fn next<G: Gate, R: Threads + Sync>(
     rt: &R,
     alloc: Global,
-    net: &Net,
-    groups: &Groups,
-    graph: &Graph,
-    powers: &Powers,
+    on: &Prepared<'_>,
     options: &SolveOptions,
     gate: &G,
     threads: u16,
     reached: Reached,
 ) -> Result<Reached, AllocError>
-    requires groups { groups.now ≡ net.now }
-    requires graph { graph.now ≡ net.now }
-    requires no_cut { HasNoCut net.now }
-    requires options { AreOptions net.now options.now }
-    requires reached { IsReached net.now options.now reached }
-    requires unmet { ¬ (IsMet net.now options.now reached) }
+    requires no_cut { HasNoCut on.now.net.now }
+    requires options { AreOptions on.now.net.now options.now }
+    requires reached { IsReached on.now.net.now options.now reached }
+    requires unmet { ¬ (IsMet on.now.net.now options.now reached) }
     requires budget { phase_count reached.search < options.now.phases }
-    ensures reached { IfOk result (λ r. IsReached net.now options.now r) }
+    ensures reached { IfOk result (λ r. IsReached on.now.net.now options.now r) }
     ensures count { IfOk result (λ r. phase_count r.search ≡ phase_count reached.search + 1) }
 {
     let Reached {
@@ -151,24 +128,12 @@ pub fn next<G: Gate, R: Threads + Sync>(
     } = reached;
     let mut search = search;
     let setting = setting_after_first(reference, options.step);
-    route(
-        rt,
-        alloc,
-        net,
-        groups,
-        graph,
-        powers,
-        setting,
-        gate,
-        &mut search,
-    )?;
-    let fill = measured(net, &search);
+    route(rt, alloc, on, setting, gate, &mut search)?;
+    let fill = measured(on.net, &search);
     let later = bound_of(
         rt,
         alloc,
-        net,
-        graph,
-        powers,
+        on,
         &setting,
         &search.loads,
         &mut search.lengths,

@@ -12,14 +12,13 @@ ghost use Rattle.flow_solver.specs.Search.{HasRouted, IsSearch, phase_count};
 
 use crate::PathHistory;
 use crate::hands::{forget_all, new_hands};
-use dijkstra_paths::Graph;
+use crate::prepared::Prepared;
 use dual_bound::{Bounded, bound_in};
-use fixed_exp::Powers;
-use flow_model::{Groups, Net, Setting};
+use flow_model::{Net, Setting};
 use load_table::Loads;
 use mcf_base::Gate;
 use mcf_limits::{MAX_LENGTH, MAX_PHASES, MAX_WORK, MAX_WORKERS};
-use phase_engine::{Hand, phase};
+use phase_engine::{Hand, PhaseInput, phase};
 use std::alloc::{AllocError, Global};
 use std::thread::Threads;
 
@@ -61,36 +60,36 @@ pub fn new_search(alloc: Global, net: &Net, workers: u16) -> Result<Search, Allo
 fn phase_over<G: Gate, R: Threads + Sync>(
     rt: &R,
     alloc: Global,
-    net: &Net,
-    groups: &Groups,
-    graph: &Graph,
-    powers: &Powers,
+    on: &Prepared<'_>,
     setting: Setting,
     loads: &mut [u64],
     hands: &mut [Hand],
     gate: &G,
 ) -> Result<(), AllocError>
     requires start { IsStart record {
-      net = net.now;
+      net = on.now.net.now;
       setting = setting;
       base = loads.old;
       workers =
           length hands.old;
     } }
-    requires groups { groups.now ≡ net.now }
-    requires graph { graph.now ≡ net.now }
     requires setting { IsSetting setting }
-    requires no_cut { HasNoCut net.now }
+    requires no_cut { HasNoCut on.now.net.now }
     requires fresh { (k : ℕ) (d : _) → k < length hands.old
-        → IsFresh net.now.nodes k (slice_index_or hands.old k d) }
-    ensures ok { OnOk result (IsRoutedPhase net.now setting loads.old loads.new hands.new) }
+        → IsFresh on.now.net.now.nodes k (slice_index_or hands.old k d) }
+    ensures ok { OnOk result (IsRoutedPhase on.now.net.now setting loads.old loads.new hands.new) }
     ensures back { AreSameWorkers hands.old hands.new }
     ensures turns { (k : ℕ) (d : _) → k < length hands.old → (slice_index_or hands.new k d).turn ≡ None }
 {
-    let shared = Loads::new(alloc, net, groups, setting, loads, hands.len() as u16)?;
-    match phase(
-        rt, alloc, net, groups, graph, powers, setting, shared, loads, hands, gate,
-    ) {
+    let input = PhaseInput {
+        net: on.net,
+        groups: on.groups,
+        graph: on.graph,
+        powers: on.powers,
+        setting,
+    };
+    let words = Loads::new(alloc, on.net, on.groups, setting, loads, hands.len() as u16)?;
+    match phase(rt, alloc, &input, words, loads, hands, gate) {
         Ok(()) => Ok(()),
         Err(_) => Err(AllocError),
     }
@@ -100,39 +99,31 @@ fn phase_over<G: Gate, R: Threads + Sync>(
 pub fn route<G: Gate, R: Threads + Sync>(
     rt: &R,
     alloc: Global,
-    net: &Net,
-    groups: &Groups,
-    graph: &Graph,
-    powers: &Powers,
+    on: &Prepared<'_>,
     setting: Setting,
     gate: &G,
     search: &mut Search,
 ) -> Result<(), AllocError>
-    requires groups { groups.now ≡ net.now }
-    requires graph { graph.now ≡ net.now }
-    requires no_cut { HasNoCut net.now }
+    requires no_cut { HasNoCut on.now.net.now }
     requires setting { IsSetting setting }
-    requires search { IsSearch net.now search.old }
+    requires search { IsSearch on.now.net.now search.old }
     requires phases { phase_count search.old < MAX_PHASES }
-    requires work { length net.now.commodities * (phase_count search.old + 1) ≤ MAX_WORK }
-    ensures search { OnOk result (IsSearch net.now search.new) }
-    ensures routed { OnOk result (HasRouted net.now setting search.old search.new) }
+    requires work { length on.now.net.now.commodities * (phase_count search.old + 1) ≤ MAX_WORK }
+    ensures search { OnOk result (IsSearch on.now.net.now search.new) }
+    ensures routed { OnOk result (HasRouted on.now.net.now setting search.old search.new) }
 {
-    let _commodities = net.commodities();
+    let _commodities = on.net.commodities();
     forget_all(&mut search.hands);
     phase_over(
         rt,
         alloc,
-        net,
-        groups,
-        graph,
-        powers,
+        on,
         setting,
         &mut search.loads,
         &mut search.hands,
         gate,
     )?;
-    search.history.add_phase(rt, alloc, net, &search.hands)?;
+    search.history.add_phase(rt, alloc, on.net, &search.hands)?;
     Ok(())
 }
 
@@ -140,23 +131,20 @@ pub fn route<G: Gate, R: Threads + Sync>(
 pub fn bound_of<R: Threads + Sync>(
     rt: &R,
     alloc: Global,
-    net: &Net,
-    graph: &Graph,
-    powers: &Powers,
+    on: &Prepared<'_>,
     setting: &Setting,
     loads: &[u64],
     lengths: &mut [u64],
     threads: u16,
 ) -> Result<Bounded, AllocError>
-    requires graph { graph.now ≡ net.now }
     requires setting { IsSetting setting.now }
-    requires loads { length loads.now ≡ length net.now.cells }
+    requires loads { length loads.now ≡ length on.now.net.now.cells }
     requires small { All (λ x. x ≤ MAX_LENGTH) loads.now }
-    requires lengths { length lengths.old ≡ length net.now.cells }
-    ensures dual { IfOk result (λ b. IsBoundOf net.now (lengths_of net.now setting.now loads.now) b.dual) }
-    ensures shows { IfOk result (λ b. ShowsBound net.now (lengths_of net.now setting.now loads.now) b.dual) }
-    ensures value { IfOk result (λ b. b.value ≡ upper_of net.now b.dual) }
+    requires lengths { length lengths.old ≡ length on.now.net.now.cells }
+    ensures dual { IfOk result (λ b. IsBoundOf on.now.net.now (lengths_of on.now.net.now setting.now loads.now) b.dual) }
+    ensures shows { IfOk result (λ b. ShowsBound on.now.net.now (lengths_of on.now.net.now setting.now loads.now) b.dual) }
+    ensures value { IfOk result (λ b. b.value ≡ upper_of on.now.net.now b.dual) }
 {
-    powers.lengths(net, setting, loads, lengths);
-    bound_in(rt, alloc, net, graph, lengths, threads)
+    on.powers.lengths(on.net, setting, loads, lengths);
+    bound_in(rt, alloc, on.net, on.graph, lengths, threads)
 }

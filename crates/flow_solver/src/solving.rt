@@ -10,6 +10,7 @@ ghost use Rattle.solver_run.specs.Run.{IsSolverRun};
 ghost use Rattle.flow_solver.specs.Reached.{IsMet, IsReached};
 ghost use Rattle.flow_solver.specs.Search.{phase_count};
 
+use crate::prepared::Prepared;
 use crate::reached::{Reached, first, is_met, lower, next};
 use crate::search::Search;
 use crate::solved::Solved;
@@ -37,28 +38,21 @@ struct Ended {
 fn all_phases<G: Gate, R: Threads + Sync>(
     rt: &R,
     alloc: Global,
-    net: &Net,
-    groups: &Groups,
-    graph: &Graph,
-    powers: &Powers,
+    on: &Prepared<'_>,
     options: &SolveOptions,
     gate: &G,
     threads: u16,
 ) -> Result<Ended, AllocError>
-    requires groups { groups.now ≡ net.now }
-    requires graph { graph.now ≡ net.now }
-    requires no_cut { HasNoCut net.now }
-    requires options { AreOptions net.now options.now }
-    ensures reached { IfOk result (λ e. IsReached net.now options.now e.reached) }
+    requires no_cut { HasNoCut on.now.net.now }
+    requires options { AreOptions on.now.net.now options.now }
+    ensures reached { IfOk result (λ e. IsReached on.now.net.now options.now e.reached) }
     ensures budget { IfOk result (λ e. phase_count e.reached.search ≤ options.now.phases) }
-    ensures closed { IfOk result (λ e. IsTrue e.closed ↔ IsMet net.now options.now e.reached) }
+    ensures closed { IfOk result (λ e. IsTrue e.closed ↔ IsMet on.now.net.now options.now e.reached) }
     ensures spent { IfOk result (λ e. e.closed ≡ false → phase_count e.reached.search ≡ options.now.phases) }
 {
-    let mut reached = first(
-        rt, alloc, net, groups, graph, powers, options, gate, threads,
-    )?;
+    let mut reached = first(rt, alloc, on, options, gate, threads)?;
     'phases: loop {
-        if is_met(net, options, &reached) {
+        if is_met(on.net, options, &reached) {
             return Ok(Ended {
                 reached,
                 closed: true,
@@ -70,9 +64,7 @@ fn all_phases<G: Gate, R: Threads + Sync>(
                 closed: false,
             });
         }
-        reached = next(
-            rt, alloc, net, groups, graph, powers, options, gate, threads, reached,
-        )?;
+        reached = next(rt, alloc, on, options, gate, threads, reached)?;
     }
 }
 
@@ -170,9 +162,13 @@ fn uncut<G: Gate, R: Threads + Sync>(
 {
     let groups = Groups::new(alloc, net)?;
     let powers = Powers::new();
-    let ended = all_phases(
-        rt, alloc, net, &groups, graph, &powers, options, gate, threads,
-    )?;
+    let on = Prepared {
+        net,
+        groups: &groups,
+        graph,
+        powers: &powers,
+    };
+    let ended = all_phases(rt, alloc, &on, options, gate, threads)?;
     finished(alloc, net, options, ended)
 }
 

@@ -1,5 +1,7 @@
 -- Walks and routings within limits of hops.
-use Rattle.std.specs.Prelude.{◌≡◌, ℕ, ◌≤◌, List, All, length, Option, Some, None, MatchOption, slice_get, slice_index_or}
+use Rattle.std.specs.Prelude.{◌≡◌, ℕ, ◌≤◌, ◌&&◌, ◌==◌, nat_le, Bool, false, List, All, length, Option, Some, None, MatchOption, slice_get, slice_index_or}
+use Rattle.std.specs.Option.{option_map_or, is_none}
+use Rattle.std.specs.List.{list_any, enumerate_from}
 use Rattle.flow_model.specs.declared.net.Cell.{Cell}
 use Rattle.flow_model.specs.declared.net.Commodity.{Commodity}
 use Rattle.flow_model.specs.Network.{Network}
@@ -20,6 +22,14 @@ IsWithin limit walk = MatchOption limit (Unit {0}) (λ n. length walk ≤ n)
 pub record AreLimits (net : Network) (limits : List (Option ℕ)) : Type 0 where
   pub count : length limits ≡ length net.commodities
   pub small : All (λ limit. MatchOption limit (Unit {0}) (λ n. n ≤ MAX_HOPS)) limits
+
+-- some commodity from v is without a limit
+abbrev pub is_unlimited : Network → List (Option ℕ) → ℕ → Bool
+is_unlimited net limits v = list_any (λ k. (k.1.from == v) && is_none (limit_at limits k.0)) (enumerate_from 0 net.commodities)
+
+-- some commodity from v has a limit of at least i
+abbrev pub has_layer : Network → List (Option ℕ) → ℕ → ℕ → Bool
+has_layer net limits v i = list_any (λ k. (k.1.from == v) && option_map_or (nat_le i) (limit_at limits k.0) false) (enumerate_from 0 net.commodities)
 
 -- the walk goes from the commodity's from to its to over positive cells, within its limit
 pub record IsAllowed (net : Network) (limits : List (Option ℕ)) (k : ℕ) (walk : List ℕ) : Type 0 where

@@ -1,7 +1,5 @@
 -- The hands of the workers in a phase.
 use Rattle.std.specs.Prelude.{◌≡◌, ℕ, ◌-◌, ◌<◌, ◌==◌, true, false, if◌then◌else◌, List, [], ◌∷◌, All, length, Option, Some, None, slice_index_or}
-use Rattle.flow_model.specs.declared.setting.Setting.{Setting}
-use Rattle.flow_model.specs.Network.{Network}
 use Rattle.flow_model.specs.Least.{HasNoCut}
 use Rattle.flow_model.specs.Lengths.{IsSetting}
 use Rattle.flow_core.specs.Core.{Terms, idle}
@@ -14,6 +12,7 @@ use Rattle.load_table.specs.Seen.{LoadsView, PassView, IsPassOf}
 use Rattle.phase_engine.specs.declared.worker.Worked.{Worked}
 use Rattle.phase_engine.specs.Work.{HasWorked, routes_of}
 use Rattle.phase_engine.specs.declared.hand.Hand.{Hand}
+use Rattle.phase_engine.specs.declared.input.PhaseInput.{PhaseInput}
 
 abbrev pub OfTurn : Option Worked → (Worked → Type 0) → Type 0
 OfTurn None P = ⊥
@@ -76,11 +75,9 @@ pub record IsUnfinished (l : LoadsView) (p : PassView) : Type 0 where
   pub whole : MayClose l.terms p.view
   pub none : NoneStopped p.view.hands
 
--- groups and graph are of the network of the loads, which has no cut, and the setting is that of the loads
-pub record AreOf (net groups graph : Network) (setting : Setting) (l : LoadsView) : Type 0 where
-  pub loads : l.terms.net ≡ net
-  pub groups_are : groups ≡ net
-  pub graph_is : graph ≡ net
-  pub setting_is : setting ≡ l.terms.setting
-  pub fits : IsSetting setting
-  pub no_cut : HasNoCut net
+-- the loads are those of a phase of this, which has no cut and whose setting is one
+pub record AreOf (input : PhaseInput) (l : LoadsView) : Type 0 where
+  pub loads : l.terms.net ≡ input.net.now
+  pub setting_is : input.setting ≡ l.terms.setting
+  pub fits : IsSetting input.setting
+  pub no_cut : HasNoCut input.net.now

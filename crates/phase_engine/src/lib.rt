@@ -3,6 +3,7 @@
 #![tactic(auto)]
 
 mod hand;
+mod input;
 mod phases;
 mod route_buffer;
 mod routes;
@@ -11,6 +12,7 @@ mod turns;
 mod worker;
 
 pub use hand::Hand;
+pub use input::{PhaseInput, Shared};
 pub use phases::phase;
 pub use routes::Routes;
 pub use worker::{Worked, work};

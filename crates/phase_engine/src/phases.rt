@@ -11,10 +11,8 @@ ghost use Rattle.phase_engine.specs.Hands.{IsFresh, IsSameWorker, IsUnfinished};
 ghost use Rattle.phase_engine.specs.Routing.{IsRoutedPhase};
 
 use crate::hand::Hand;
+use crate::input::{PhaseInput, Shared};
 use crate::turns::{gather, hand_out, run_all};
-use dijkstra_paths::Graph;
-use fixed_exp::Powers;
-use flow_model::{Groups, Net, Setting};
 use load_table::{Loads, Pass};
 use mcf_base::Gate;
 use mcf_limits::MAX_WORKERS;
@@ -39,44 +37,42 @@ fn clear_all(hands: &mut [Hand])
 pub fn phase<G: Gate, R: Threads + Sync>(
     rt: &R,
     alloc: Global,
-    net: &Net,
-    groups: &Groups,
-    graph: &Graph,
-    powers: &Powers,
-    setting: Setting,
-    shared: (Loads, Pass),
+    input: &PhaseInput<'_>,
+    words: (Loads, Pass),
     loads: &mut [u64],
     hands: &mut [Hand],
     gate: &G,
 ) -> Result<(), Pass>
     requires start { IsStart record {
-      net = net.now;
-      setting = setting;
+      net = input.now.net.now;
+      setting = input.now.setting;
       base = loads.old;
       workers =
           length hands.old;
     } }
-    requires terms { shared.0.terms ≡ terms_of net.now setting loads.old (length hands.old) }
-    requires pass { IsPassOf shared.0 shared.1 × (shared.1.view ≡ first_view shared.0.terms) }
-    requires groups { groups.now ≡ net.now }
-    requires graph { graph.now ≡ net.now }
-    requires setting { IsSetting setting }
-    requires no_cut { HasNoCut net.now }
+    requires terms { words.0.terms
+        ≡ terms_of input.now.net.now input.now.setting loads.old (length hands.old) }
+    requires pass { IsPassOf words.0 words.1 × (words.1.view ≡ first_view words.0.terms) }
+    requires setting { IsSetting input.now.setting }
+    requires no_cut { HasNoCut input.now.net.now }
     requires fresh { (k : ℕ) (d : _) → k < length hands.old
-        → IsFresh net.now.nodes k (slice_index_or hands.old k d) }
-    ensures ok { OnOk result (IsRoutedPhase net.now setting loads.old loads.new hands.new) }
-    ensures unfinished { IfErr result (λ p. IsUnfinished shared.0 p) }
+        → IsFresh input.now.net.now.nodes k (slice_index_or hands.old k d) }
+    ensures ok { OnOk result (IsRoutedPhase input.now.net.now input.now.setting loads.old loads.new hands.new) }
+    ensures unfinished { IfErr result (λ p. IsUnfinished words.0 p) }
     ensures loads { OnErr result (loads.new ≡ loads.old) }
     ensures routes { OnErr result (All (λ h. h.routes ≡ []) hands.new) }
     ensures back { (k : ℕ) (d : _) → k < length hands.old
         → IsSameWorker (slice_index_or hands.old k d) (slice_index_or hands.new k d) }
     ensures turns { (k : ℕ) (d : _) → k < length hands.old → (slice_index_or hands.new k d).turn ≡ None }
 {
-    let (table, first) = shared;
+    let (table, first) = words;
     hand_out(&table, first, hands);
-    run_all(
-        rt, alloc, net, groups, graph, powers, &setting, &table, gate, hands,
-    );
+    let shared = Shared {
+        input,
+        loads: &table,
+        gate,
+    };
+    run_all(rt, alloc, &shared, hands);
     let (pass, whole) = gather(&table, hands);
     if !whole {
         clear_all(hands);

@@ -7,10 +7,8 @@ ghost use Rattle.load_table.specs.Rule.{MayClose};
 ghost use Rattle.phase_engine.specs.Hands.{IsFresh, IsReady, IsDone, Runs, IsBack, IsSameWorker, EachWork, SomeStopped, NoneStopped, AreOf};
 
 use crate::hand::Hand;
+use crate::input::Shared;
 use crate::{Worked, work};
-use dijkstra_paths::Graph;
-use fixed_exp::Powers;
-use flow_model::{Groups, Net, Setting};
 use load_table::{Loads, Pass};
 use mcf_base::Gate;
 use std::alloc::Global;
@@ -56,60 +54,33 @@ pub(crate) fn hand_out(loads: &Loads, first: Pass, hands: &mut [Hand])
 }
 
 /// The work of one hand.
-fn take_turn<G: Gate>(
-    alloc: Global,
-    net: &Net,
-    groups: &Groups,
-    graph: &Graph,
-    powers: &Powers,
-    setting: &Setting,
-    loads: &Loads,
-    gate: &G,
-    hand: &mut Hand,
-)
-    requires of { AreOf net.now groups.now graph.now setting.now loads.now }
-    requires ready { IsReady loads.now hand.old }
-    ensures { Runs loads.now hand.old hand.new }
+fn take_turn<G: Gate>(alloc: Global, shared: &Shared<'_, G>, hand: &mut Hand)
+    requires of { AreOf shared.now.input.now shared.now.loads.now }
+    requires ready { IsReady shared.now.loads.now hand.old }
+    ensures { Runs shared.now.loads.now hand.old hand.new }
 {
     let Worked { pass, memory: _ } = take(hand);
     let worked = work(
         alloc,
+        shared,
         hand.worker,
-        net,
-        groups,
-        loads,
         pass,
-        graph,
-        powers,
-        setting,
         &mut hand.scratch,
-        gate,
         &mut hand.routes,
     );
     hand.turn = Some(worked);
 }
 
 /// The work of some hands, one after the other.
-fn take_turns<G: Gate>(
-    alloc: Global,
-    net: &Net,
-    groups: &Groups,
-    graph: &Graph,
-    powers: &Powers,
-    setting: &Setting,
-    loads: &Loads,
-    gate: &G,
-    part: &mut [Hand],
-)
-    requires of { AreOf net.now groups.now graph.now setting.now loads.now }
-    requires ready { (k : ℕ) (d : _) → k < length part.old → IsReady loads.now (slice_index_or part.old k d) }
+fn take_turns<G: Gate>(alloc: Global, shared: &Shared<'_, G>, part: &mut [Hand])
+    requires of { AreOf shared.now.input.now shared.now.loads.now }
+    requires ready { (k : ℕ) (d : _) → k < length part.old
+        → IsReady shared.now.loads.now (slice_index_or part.old k d) }
     ensures { (k : ℕ) (d : _) → k < length part.old
-        → Runs loads.now (slice_index_or part.old k d) (slice_index_or part.new k d) }
+        → Runs shared.now.loads.now (slice_index_or part.old k d) (slice_index_or part.new k d) }
 {
     for hand in part.iter_mut() {
-        take_turn(
-            alloc, net, groups, graph, powers, setting, loads, gate, hand,
-        );
+        take_turn(alloc, shared, hand);
     }
 }
 
@@ -118,35 +89,30 @@ fn take_turns<G: Gate>(
 pub(crate) fn run_all<G: Gate, R: Threads + Sync>(
     rt: &R,
     alloc: Global,
-    net: &Net,
-    groups: &Groups,
-    graph: &Graph,
-    powers: &Powers,
-    setting: &Setting,
-    loads: &Loads,
-    gate: &G,
+    shared: &Shared<'_, G>,
     hands: &mut [Hand],
 )
-    requires of { AreOf net.now groups.now graph.now setting.now loads.now }
-    requires ready { (k : ℕ) (d : _) → k < length hands.old → IsReady loads.now (slice_index_or hands.old k d) }
+    requires of { AreOf shared.now.input.now shared.now.loads.now }
+    requires ready { (k : ℕ) (d : _) → k < length hands.old
+        → IsReady shared.now.loads.now (slice_index_or hands.old k d) }
     ensures { (k : ℕ) (d : _) → k < length hands.old
-        → Runs loads.now (slice_index_or hands.old k d) (slice_index_or hands.new k d) }
+        → Runs shared.now.loads.now (slice_index_or hands.old k d) (slice_index_or hands.new k d) }
 {
+    let input = shared.input;
+    let loads = shared.loads;
+    let gate = shared.gate;
     thread_chain::for_each_chunk_mut(
         rt,
         hands,
         1,
         &|_: usize, part: &mut [Hand]|
-            requires of { AreOf net.now groups.now graph.now setting.now loads.now }
+            requires of { AreOf input.now loads.now }
             requires ready { (k : ℕ) (d : _) → k < length part.now
                 → IsReady loads.now (slice_index_or part.now k d) }
             ensures { (k : ℕ) (d : _) → k < length part.entry.now
-                → Runs loads.entry.now (slice_index_or part.entry.now k d) (slice_index_or part.exit.now k d) }
-        {
-            take_turns(
-                alloc, net, groups, graph, powers, setting, loads, gate, part,
-            )
-        },
+                → Runs loads.entry.now (slice_index_or part.entry.now k d)
+                (slice_index_or part.exit.now k d) }
+        { take_turns(alloc, &Shared { input, loads, gate }, part) },
     );
 }
 

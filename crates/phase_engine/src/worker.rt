@@ -4,20 +4,21 @@ ghost use Rattle.std.specs.Prelude.{◌≡◌, ℕ, ◌+◌, ◌*◌, ◌<◌, �
 ghost use Rattle.flow_model.specs.Groups.{group_count, members_of};
 ghost use Rattle.flow_model.specs.Network.{IsNetwork};
 ghost use Rattle.flow_model.specs.Least.{HasNoCut};
-ghost use Rattle.flow_model.specs.Lengths.{IsSetting};
 ghost use Rattle.flow_core.specs.Core.{IsComplete, entry, idle};
 ghost use Rattle.load_table.specs.Seen.{IsPassOf};
 ghost use Rattle.load_table.specs.Views.{hand};
 ghost use Rattle.phase_engine.specs.Steps.{OneWhere, IsClaimed, HasFinished, adds_of};
 ghost use Rattle.phase_engine.specs.Found.{routes_to, group_routes};
 ghost use Rattle.phase_engine.specs.Work.{HasWorked, routes_in};
+ghost use Rattle.phase_engine.specs.Hands.{AreOf};
 
+use crate::input::{PhaseInput, Shared};
 use crate::route_buffer::RouteBuffer;
 use crate::routes::Routes;
 use crate::steps::{read_all, route_group};
-use dijkstra_paths::{Graph, Scratch};
-use fixed_exp::{LengthTable, Powers};
-use flow_model::{Groups, Net, Setting};
+use dijkstra_paths::Scratch;
+use fixed_exp::LengthTable;
+use flow_model::{Groups, Net};
 use load_table::{Loads, Pass};
 use mcf_base::Gate;
 use mcf_limits::MAX_DEMANDS;
@@ -47,105 +48,100 @@ fn greatest_group(net: &Net, groups: &Groups) -> usize
     most.min(demands)
 }
 
+/// What a worker reads the loads into, and the lengths that follow them.
+#[derive(Drop)]
+struct Room {
+    reads: Vec<u64>,
+    table: LengthTable,
+}
+
 /// Routes the claimed group: reads all cells, searches, and adds for each member.
 fn route_ticket(
-    net: &Net,
-    groups: &Groups,
+    input: &PhaseInput<'_>,
     loads: &Loads,
     pass: &mut Pass,
     g: u16,
-    graph: &Graph,
-    powers: &Powers,
-    table: &mut LengthTable,
-    reads: &mut Vec<u64>,
+    room: &mut Room,
     scratch: &mut Scratch,
     buffer: &mut RouteBuffer,
 )
     requires of { IsPassOf loads.now pass.old }
     requires claimed { OneWhere (IsClaimed g) pass.old.view.hands }
-    requires group { g < group_count net.now }
-    requires network { IsNetwork net.now }
-    requires groups { groups.now ≡ net.now }
-    requires loads { loads.now.terms.net ≡ net.now }
-    requires graph { graph.now ≡ net.now }
-    requires table { (table.old.net ≡ net.now) × (table.old.setting ≡ loads.now.terms.setting) }
-    requires nodes { scratch.old.nodes ≡ net.now.nodes }
-    requires no_cut { HasNoCut net.now }
-    requires reads { length net.now.cells ≤ vec_capacity reads.old }
-    requires paths { length (members_of net.now g) ≤ buffer.old.paths }
-    requires cells { length (members_of net.now g) * net.now.nodes ≤ buffer.old.cells }
+    requires group { g < group_count input.now.net.now }
+    requires network { IsNetwork input.now.net.now }
+    requires loads { loads.now.terms.net ≡ input.now.net.now }
+    requires table { (room.old.table.net ≡ input.now.net.now)
+        × (room.old.table.setting ≡ loads.now.terms.setting) }
+    requires nodes { scratch.old.nodes ≡ input.now.net.now.nodes }
+    requires no_cut { HasNoCut input.now.net.now }
+    requires reads { length input.now.net.now.cells ≤ vec_capacity room.old.reads }
+    requires paths { length (members_of input.now.net.now g) ≤ buffer.old.paths }
+    requires cells { length (members_of input.now.net.now g) * input.now.net.now.nodes ≤ buffer.old.cells }
     ensures of { IsPassOf loads.now pass.new }
-    ensures view { HasFinished reads.new.items (adds_of (group_routes net.now scratch.new g))
+    ensures view { HasFinished room.new.reads.items (adds_of (group_routes input.now.net.now scratch.new g))
         pass.old.view pass.new.view }
-    ensures complete { let routes = routes_to net.now scratch.new (members_of net.now g) in
-        IsComplete loads.now.terms (entry g reads.new.items (adds_of routes)) }
-    ensures routes { let routes = routes_to net.now scratch.new (members_of net.now g) in
+    ensures complete { let routes = routes_to input.now.net.now scratch.new (members_of input.now.net.now g) in
+        IsComplete loads.now.terms (entry g room.new.reads.items (adds_of routes)) }
+    ensures routes { let routes = routes_to input.now.net.now scratch.new (members_of input.now.net.now g) in
         (buffer.new.routes ≡ buffer.old.routes ++ routes)
-        × (routes ≡ routes_in net.now (entry g reads.new.items (adds_of routes))) }
-    ensures table { (table.new.net ≡ table.old.net) × (table.new.setting ≡ table.old.setting) }
+        × (routes ≡ routes_in input.now.net.now (entry g room.new.reads.items (adds_of routes))) }
+    ensures table { (room.new.table.net ≡ room.old.table.net)
+        × (room.new.table.setting ≡ room.old.table.setting) }
     ensures scratch { (scratch.new.nodes ≡ scratch.old.nodes) × (scratch.new.cells ≡ scratch.old.cells) }
-    ensures reads { vec_capacity reads.new ≡ vec_capacity reads.old }
+    ensures reads { vec_capacity room.new.reads ≡ vec_capacity room.old.reads }
 {
-    read_all(loads, pass, reads);
-    table.update(powers, net, reads.as_slice());
-    let source = groups.source(g);
-    scratch.search(graph, table.lengths(), source);
-    route_group(net, loads, pass, groups.members(g), scratch, buffer);
+    read_all(loads, pass, &mut room.reads);
+    room.table
+        .update(input.powers, input.net, room.reads.as_slice());
+    let source = input.groups.source(g);
+    scratch.search(input.graph, room.table.lengths(), source);
+    route_group(
+        input.net,
+        loads,
+        pass,
+        input.groups.members(g),
+        scratch,
+        buffer,
+    );
 }
 
 /// Claims and routes until a ticket is past the end, or room is refused, which it answers.
 fn claim_all<G: Gate>(
+    shared: &Shared<'_, G>,
     worker: u16,
-    net: &Net,
-    groups: &Groups,
-    loads: &Loads,
     pass: &mut Pass,
-    graph: &Graph,
-    powers: &Powers,
-    table: &mut LengthTable,
-    reads: &mut Vec<u64>,
+    room: &mut Room,
     scratch: &mut Scratch,
-    gate: &G,
     buffer: &mut RouteBuffer,
 ) -> bool
-    requires of { IsPassOf loads.now pass.old }
+    requires of { IsPassOf shared.now.loads.now pass.old }
     requires alone { pass.old.view.hands ≡ hand worker idle ∷ [] }
     requires routes { buffer.old.routes ≡ [] }
-    requires groups { groups.now ≡ net.now }
-    requires loads { loads.now.terms.net ≡ net.now }
-    requires graph { graph.now ≡ net.now }
-    requires table { (table.old.net ≡ net.now) × (table.old.setting ≡ loads.now.terms.setting) }
-    requires nodes { scratch.old.nodes ≡ net.now.nodes }
-    requires no_cut { HasNoCut net.now }
-    requires reads { length net.now.cells ≤ vec_capacity reads.old }
-    ensures of { IsPassOf loads.now pass.new }
-    ensures worked { HasWorked loads.now.terms worker pass.old.view pass.new.view result buffer.new.routes }
+    requires loads { shared.now.loads.now.terms.net ≡ shared.now.input.now.net.now }
+    requires table { (room.old.table.net ≡ shared.now.input.now.net.now)
+        × (room.old.table.setting ≡ shared.now.loads.now.terms.setting) }
+    requires nodes { scratch.old.nodes ≡ shared.now.input.now.net.now.nodes }
+    requires no_cut { HasNoCut shared.now.input.now.net.now }
+    requires reads { length shared.now.input.now.net.now.cells ≤ vec_capacity room.old.reads }
+    ensures of { IsPassOf shared.now.loads.now pass.new }
+    ensures worked { HasWorked shared.now.loads.now.terms worker pass.old.view pass.new.view
+        result buffer.new.routes }
     ensures scratch { (scratch.new.nodes ≡ scratch.old.nodes) × (scratch.new.cells ≡ scratch.old.cells) }
 {
-    let most = greatest_group(net, groups);
-    let cells = most * net.nodes() as usize;
+    let input = shared.input;
+    let loads = shared.loads;
+    let most = greatest_group(input.net, input.groups);
+    let cells = most * input.net.nodes() as usize;
     'claims: loop {
         if buffer.reserve(most, cells).is_err() {
             return true;
         }
         let ticket = loads.claim(pass);
-        gate.claimed(worker, ticket);
+        shared.gate.claimed(worker, ticket);
         if ticket >= loads.group_count() as u64 {
             return false;
         }
-        route_ticket(
-            net,
-            groups,
-            loads,
-            pass,
-            ticket as u16,
-            graph,
-            powers,
-            table,
-            reads,
-            scratch,
-            buffer,
-        );
+        route_ticket(input, loads, pass, ticket as u16, room, scratch, buffer);
     }
 }
 
@@ -153,52 +149,39 @@ fn claim_all<G: Gate>(
 /// before each claim. `memory` is the answer for want of memory; then no claimed group is left half routed.
 pub fn work<G: Gate>(
     alloc: Global,
+    shared: &Shared<'_, G>,
     worker: u16,
-    net: &Net,
-    groups: &Groups,
-    loads: &Loads,
     pass: Pass,
-    graph: &Graph,
-    powers: &Powers,
-    setting: &Setting,
     scratch: &mut Scratch,
-    gate: &G,
     routes: &mut Routes,
 ) -> Worked
-    requires of { IsPassOf loads.now pass }
+    requires of { IsPassOf shared.now.loads.now pass }
     requires alone { pass.view.hands ≡ hand worker idle ∷ [] }
     requires routes { routes.old ≡ [] }
-    requires groups { groups.now ≡ net.now }
-    requires loads { loads.now.terms.net ≡ net.now }
-    requires graph { graph.now ≡ net.now }
-    requires nodes { scratch.old.nodes ≡ net.now.nodes }
-    requires setting { (setting.now ≡ loads.now.terms.setting) × IsSetting setting.now }
-    requires no_cut { HasNoCut net.now }
-    ensures of { IsPassOf loads.now result.pass }
-    ensures worked { HasWorked loads.now.terms worker pass.view result.pass.view result.memory routes.new }
+    requires loads { AreOf shared.now.input.now shared.now.loads.now }
+    requires nodes { scratch.old.nodes ≡ shared.now.input.now.net.now.nodes }
+    ensures of { IsPassOf shared.now.loads.now result.pass }
+    ensures worked { HasWorked shared.now.loads.now.terms worker pass.view result.pass.view
+        result.memory routes.new }
     ensures scratch { (scratch.new.nodes ≡ scratch.old.nodes) × (scratch.new.cells ≡ scratch.old.cells) }
 {
+    let input = shared.input;
     let mut pass = pass;
     let mut reads = Vec::new(alloc);
-    if reads.reserve(net.cells().len()).is_err() {
+    if reads.reserve(input.net.cells().len()).is_err() {
         return Worked { pass, memory: true };
     }
-    let mut table = match LengthTable::new(alloc, powers, net, setting) {
+    let table = match LengthTable::new(alloc, input.powers, input.net, &input.setting) {
         Ok(table) => table,
         Err(_) => return Worked { pass, memory: true },
     };
+    let mut room = Room { reads, table };
     let memory = claim_all(
+        shared,
         worker,
-        net,
-        groups,
-        loads,
         &mut pass,
-        graph,
-        powers,
-        &mut table,
-        &mut reads,
+        &mut room,
         scratch,
-        gate,
         &mut routes.buffer,
     );
     Worked { pass, memory }

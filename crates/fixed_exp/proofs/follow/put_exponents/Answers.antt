@@ -6,12 +6,12 @@ use Rattle.fixed_exp.proofs.follow.put_exponents.Goals as goal
 
 pub loop-j-preserved : goal.loop-j-preserved
 loop-j-preserved c =
-    let s = c.args.scale.now.setting in
-    let cells = c.args.cells.now in
+    let s = c.args.rated.now.scale.now.setting in
+    let cells = c.args.rated.now.cells.now in
     let loads = c.args.loads.now in
-    let places = c.args.places.now in
+    let places = c.args.changed.now.places.now in
     let i = get_or places c.loop-j.j 0 in
     let put : c.min.result ≡ min (exponent s (cell_at cells i) (get_or loads i 0)) (2 ^ 64 - 1) = cc in
     record {
-      kept = changed_put (λ k v. v ≡ min (exponent s (cell_at cells k) (get_or loads k 0)) (2 ^ 64 - 1)) c.args.count (length cells) places c.loop-j.kept c.loop-j.j i c.min.result refl (omega (arith, c.requires.places.each c.loop-j.j (omega arith))) put c.loop-j.invariant.kept;
+      kept = changed_put (λ k v. v ≡ min (exponent s (cell_at cells k) (get_or loads k 0)) (2 ^ 64 - 1)) c.args.changed.now.count (length cells) places c.loop-j.kept c.loop-j.j i c.min.result refl (omega (arith, c.requires.places.each c.loop-j.j (omega arith))) put c.loop-j.invariant.kept;
     }

@@ -5,5 +5,5 @@ use Rattle.fixed_exp.proofs.follow.put_exponents.Given as goal
 
 abbrev pub invariant-loop-j : goal.invariant-loop-j
 invariant-loop-j l = record {
-  kept : (k : ℕ) → k < length l.cells → IsNotIn l.count l.places l.j k → KeepsExponent l.scale.setting l.cells l.loads l.kept k;
+  kept : (k : ℕ) → k < length l.rated.cells.now → IsNotIn l.changed.count l.changed.places.now l.j k → KeepsExponent l.rated.scale.now.setting l.rated.cells.now l.loads l.kept k;
 }

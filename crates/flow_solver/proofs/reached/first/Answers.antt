@@ -13,20 +13,20 @@ use Rattle.flow_solver.proofs.Reaching.{count-more, loads-limit, first-reached, 
 use Rattle.flow_solver.proofs.reached.first.Goals as goal
 
 pub bound_of-requires-clause-loads : goal.bound_of-requires-clause-loads
-bound_of-requires-clause-loads g c κs within = ap (λ (xs : List ℕ). length xs) c.deref.ensures.value ∙ loads-size c.args.net.now c.route.new.search c.in_ok-route.ensures.search
+bound_of-requires-clause-loads g c κs within = ap (λ (xs : List ℕ). length xs) c.deref.ensures.value ∙ loads-size c.args.on.now.net.now c.route.new.search c.in_ok-route.ensures.search
 
 pub bound_of-requires-clause-small : goal.bound_of-requires-clause-small
 bound_of-requires-clause-small g c κs within =
     let old = c.in_ok-search.search in
     let new = c.route.new.search in
     let none : length old.history.history ≡ 0 = ap (λ (xs : List _). length xs) c.in_ok-search.ensures.nothing in
-    let more = count-more c.args.net.now c.setting_at_first-setting.result old new c.in_ok-route.ensures.routed in
+    let more = count-more c.args.on.now.net.now c.setting_at_first-setting.result old new c.in_ok-route.ensures.routed in
     let few : phase_count new ≤ MAX_PHASES = omega arith in
-    subst (λ (xs : List ℕ). All (λ (x : ℕ). x ≤ MAX_LENGTH) xs) (sym c.deref.ensures.value) (loads-limit c.args.net.now new c.in_ok-route.ensures.search few)
+    subst (λ (xs : List ℕ). All (λ (x : ℕ). x ≤ MAX_LENGTH) xs) (sym c.deref.ensures.value) (loads-limit c.args.on.now.net.now new c.in_ok-route.ensures.search few)
 
 pub returns-clause-reached : goal.returns-clause-reached
 returns-clause-reached g c =
-    let net = c.args.net.now in
+    let net = c.args.on.now.net.now in
     let o = c.args.options.now in
     let old = c.in_ok-search.search in
     let s = c.route.new.search in

@@ -13,18 +13,18 @@ use Rattle.flow_solver.proofs.Reaching.{count-more, loads-limit, next-reached, o
 use Rattle.flow_solver.proofs.reached.next.Goals as goal
 
 pub bound_of-requires-clause-loads : goal.bound_of-requires-clause-loads
-bound_of-requires-clause-loads g c κs within = ap (λ (xs : List ℕ). length xs) c.deref.ensures.value ∙ loads-size c.args.net.now c.route.new.search c.in_ok-route.ensures.search
+bound_of-requires-clause-loads g c κs within = ap (λ (xs : List ℕ). length xs) c.deref.ensures.value ∙ loads-size c.args.on.now.net.now c.route.new.search c.in_ok-route.ensures.search
 
 pub bound_of-requires-clause-small : goal.bound_of-requires-clause-small
 bound_of-requires-clause-small g c κs within =
     let new = c.route.new.search in
-    let more = count-more c.args.net.now c.setting_after_first-setting.result c.args.reached.search new c.in_ok-route.ensures.routed in
+    let more = count-more c.args.on.now.net.now c.setting_after_first-setting.result c.args.reached.search new c.in_ok-route.ensures.routed in
     let few : phase_count new ≤ MAX_PHASES = omega (arith, c.requires.options.phases) in
-    subst (λ (xs : List ℕ). All (λ (x : ℕ). x ≤ MAX_LENGTH) xs) (sym c.deref.ensures.value) (loads-limit c.args.net.now new c.in_ok-route.ensures.search few)
+    subst (λ (xs : List ℕ). All (λ (x : ℕ). x ≤ MAX_LENGTH) xs) (sym c.deref.ensures.value) (loads-limit c.args.on.now.net.now new c.in_ok-route.ensures.search few)
 
 pub returns-clause-reached : goal.returns-clause-reached
 returns-clause-reached g c =
-    let net = c.args.net.now in
+    let net = c.args.on.now.net.now in
     let o = c.args.options.now in
     let r = c.args.reached in
     let s = c.route.new.search in

@@ -13,7 +13,7 @@ use Rattle.flow_solver.proofs.search.route.Goals as goal
 
 pub phase_over-requires-clause-start : goal.phase_over-requires-clause-start
 phase_over-requires-clause-start g c κs within =
-    let net = c.args.net.now in
+    let net = c.args.on.now.net.now in
     let old = c.args.search.now in
     let hands = with_items_is old.hands c.forget_all.new.hands (omega arith) in
     let now : c.deref_mut-3.result.now ≡ c.forget_all.new.hands = c.deref_mut-3.ensures.value ∙ hands in
@@ -24,7 +24,7 @@ phase_over-requires-clause-start g c κs within =
 
 pub add_phase-requires-clause-routes : goal.add_phase-requires-clause-routes
 add_phase-requires-clause-routes g c κs within =
-    let net = c.args.net.now in
+    let net = c.args.on.now.net.now in
     let old = c.args.search.now in
     let routed : IsRoutedPhase net c.args.setting c.deref_mut-2.result.now c.phase_over.new.loads c.phase_over.new.hands = c.in_ok-phase_over.ensures.ok in
     let hands = with_items_is (with_items old.hands c.forget_all.new.hands) c.phase_over.new.hands (omega arith) in
@@ -33,7 +33,7 @@ add_phase-requires-clause-routes g c κs within =
 
 pub returns-clause-search : goal.returns-clause-search
 returns-clause-search g c =
-    let net = c.args.net.now in
+    let net = c.args.on.now.net.now in
     let old = c.args.search.now in
     let fresh_hands = c.deref_mut-3.result.now in
     let loads = with_items_is old.loads c.phase_over.new.loads (omega arith) in
@@ -64,7 +64,7 @@ returns-clause-search g c =
 
 pub returns-clause-routed : goal.returns-clause-routed
 returns-clause-routed g c =
-    let net = c.args.net.now in
+    let net = c.args.on.now.net.now in
     let old = c.args.search.now in
     let loads = with_items_is old.loads c.phase_over.new.loads (omega arith) in
     let hands = with_items_is (with_items old.hands c.forget_all.new.hands) c.phase_over.new.hands (omega arith) in

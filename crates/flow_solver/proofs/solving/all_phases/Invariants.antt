@@ -5,7 +5,7 @@ use Rattle.flow_solver.proofs.solving.all_phases.Given as goal
 
 abbrev pub invariant-phases : goal.invariant-phases
 invariant-phases g l = record {
-  reached : IsReached l.net l.options l.reached;
+  reached : IsReached l.on.net.now l.options l.reached;
   budget : phase_count l.reached.search ≤ l.options.phases;
 }
 

@@ -6,16 +6,16 @@ use Rattle.phase_engine.proofs.worker.claim_all.Given as goal
 
 abbrev pub invariant-claims : goal.invariant-claims
 invariant-claims g l = record {
-  of : IsPassOf l.loads l.pass;
+  of : IsPassOf l.shared.loads.now l.pass;
   left : l.pass.view.left ≡ l.fn.pass.view.left;
   made : l.pass.view.made ≡ l.fn.pass.view.made;
-  going : IsGoing l.loads.terms l.worker l.pass.view.hands l.buffer.routes;
-  net : l.table.net ≡ l.net;
-  setting : l.table.setting ≡ l.loads.terms.setting;
+  going : IsGoing l.shared.loads.now.terms l.worker l.pass.view.hands l.buffer.routes;
+  net : l.room.table.net ≡ l.shared.input.now.net.now;
+  setting : l.room.table.setting ≡ l.shared.loads.now.terms.setting;
   nodes : l.scratch.nodes ≡ l.fn.scratch.nodes;
   cells : l.scratch.cells ≡ l.fn.scratch.cells;
-  reads : length l.net.cells ≤ vec_capacity l.reads;
+  reads : length l.shared.input.now.net.now.cells ≤ vec_capacity l.room.reads;
 }
 
 abbrev pub decreases-claims : goal.decreases-claims
-decreases-claims g l = group_count l.net - next_ticket l.pass.view.hands
+decreases-claims g l = group_count l.shared.input.now.net.now - next_ticket l.pass.view.hands

@@ -16,45 +16,45 @@ read_all-requires-clause-fresh c = claimed-fresh c.args.g c.args.pass.now.view.h
 
 pub search-requires-clause-from : goal.search-requires-clause-from
 search-requires-clause-from c =
-    let at = c.source-source.ensures ∙ ap (λ (m : Network). get_or (group_sources m) c.args.g 0) c.requires.groups in
-    let inside = source-inside c.args.net.now c.args.g c.requires.group in
+    let at = c.source-source.ensures ∙ ap (λ (m : Network). get_or (group_sources m) c.args.g 0) c.args.input.now.groups_are in
+    let inside = source-inside c.args.input.now.net.now c.args.g c.requires.group in
     omega (arith, c.requires.nodes)
 
 pub route_group-requires-clause-ready : goal.route_group-requires-clause-ready
 route_group-requires-clause-ready c =
-    let net = c.args.net.now in
-    let ms : c.members.result.now ≡ members_of net c.args.g = c.members.ensures ∙ ap (λ (m : Network). members_of m c.args.g) c.requires.groups in
+    let net = c.args.input.now.net.now in
+    let ms : c.members.result.now ≡ members_of net c.args.g = c.members.ensures ∙ ap (λ (m : Network). members_of m c.args.g) c.args.input.now.groups_are in
     let all : length c.read_all.new.reads.items ≡ length net.cells = c.read_all.ensures.count ∙ ap (λ (m : Network). length m.cells) c.requires.loads in
     subst (λ (xs : List ℕ). OneWhere (IsReadyForAll c.args.loads.now.terms xs) c.read_all.new.pass.view.hands) (sym ms)
     (ready-all c.args.loads.now.terms net c.args.g c.read_all.new.reads.items c.args.pass.now.view c.read_all.new.pass.view c.requires.loads c.requires.claimed c.read_all.ensures.view all)
 
 pub route_group-requires-clause-ascending : goal.route_group-requires-clause-ascending
 route_group-requires-clause-ascending c =
-    let ms : c.members.result.now ≡ members_of c.args.net.now c.args.g = c.members.ensures ∙ ap (λ (m : Network). members_of m c.args.g) c.requires.groups in
-    subst IsStrictlyIncreasing (sym ms) (members-ascend c.args.net.now c.args.g)
+    let ms : c.members.result.now ≡ members_of c.args.input.now.net.now c.args.g = c.members.ensures ∙ ap (λ (m : Network). members_of m c.args.g) c.args.input.now.groups_are in
+    subst IsStrictlyIncreasing (sym ms) (members-ascend c.args.input.now.net.now c.args.g)
 
 pub route_group-requires-clause-members : goal.route_group-requires-clause-members
 route_group-requires-clause-members c =
-    let net = c.args.net.now in
-    let ms : c.members.result.now ≡ members_of net c.args.g = c.members.ensures ∙ ap (λ (m : Network). members_of m c.args.g) c.requires.groups in
+    let net = c.args.input.now.net.now in
+    let ms : c.members.result.now ≡ members_of net c.args.g = c.members.ensures ∙ ap (λ (m : Network). members_of m c.args.g) c.args.input.now.groups_are in
     subst (All (λ k. k < length net.commodities)) (sym ms) (members-inside net c.args.g)
 
 pub route_group-requires-clause-found : goal.route_group-requires-clause-found
 route_group-requires-clause-found c =
-    let net = c.args.net.now in
+    let net = c.args.input.now.net.now in
     let s = c.search.new.self in
-    let ms : c.members.result.now ≡ members_of net c.args.g = c.members.ensures ∙ ap (λ (m : Network). members_of m c.args.g) c.requires.groups in
-    let search = search-is net c.args.graph.now c.args.groups.now c.lengths.result.now c.source-source.result c.args.g s c.requires.graph c.requires.groups c.source-source.ensures c.search.ensures.least c.search.ensures.paths in
+    let ms : c.members.result.now ≡ members_of net c.args.g = c.members.ensures ∙ ap (λ (m : Network). members_of m c.args.g) c.args.input.now.groups_are in
+    let search = search-is net c.args.input.now.graph.now c.args.input.now.groups.now c.lengths.result.now c.source-source.result c.args.g s c.args.input.now.graph_is c.args.input.now.groups_are c.source-source.ensures c.search.ensures.least c.search.ensures.paths in
     let nodes : s.nodes ≡ net.nodes = c.search.ensures.nodes ∙ c.requires.nodes in
     subst (All (λ k. HasPath net.cells s (to_at net k))) (sym ms) (found-all net c.lengths.result.now c.args.g s c.requires.network c.requires.no_cut search nodes)
 
 pub returns-clause-complete : goal.returns-clause-complete
 returns-clause-complete c =
-    let net = c.args.net.now in
+    let net = c.args.input.now.net.now in
     let t = c.args.loads.now.terms in
     let s = c.search.new.self in
     let reads = c.read_all.new.reads.items in
-    let search = search-is net c.args.graph.now c.args.groups.now c.lengths.result.now c.source-source.result c.args.g s c.requires.graph c.requires.groups c.source-source.ensures c.search.ensures.least c.search.ensures.paths in
+    let search = search-is net c.args.input.now.graph.now c.args.input.now.groups.now c.lengths.result.now c.source-source.result c.args.g s c.args.input.now.graph_is c.args.input.now.groups_are c.source-source.ensures c.search.ensures.least c.search.ensures.paths in
     let nodes : s.nodes ≡ net.nodes = c.search.ensures.nodes ∙ c.requires.nodes in
     let all : length reads ≡ length net.cells = c.read_all.ensures.count ∙ ap (λ (m : Network). length m.cells) c.requires.loads in
     let n : c.update.new.self.net ≡ net = c.update.ensures.net ∙ c.requires.table.0 in
@@ -66,9 +66,9 @@ returns-clause-complete c =
 
 pub returns-clause-routes : goal.returns-clause-routes
 returns-clause-routes c =
-    let net = c.args.net.now in
+    let net = c.args.input.now.net.now in
     let g = c.args.g in
-    let ms : c.members.result.now ≡ members_of net g = c.members.ensures ∙ ap (λ (m : Network). members_of m g) c.requires.groups in
+    let ms : c.members.result.now ≡ members_of net g = c.members.ensures ∙ ap (λ (m : Network). members_of m g) c.args.input.now.groups_are in
     let found : c.route_group.new.buffer.routes ≡ c.args.buffer.now.routes ++ routes_to net c.route_group.new.scratch (members_of net g) =
     c.route_group.ensures.routes ∙ (λ i. c.args.buffer.now.routes ++ routes_to net (sym c.route_group.ensures.scratch i) (ms i)) in
     (found, routes-are net g c.route_group.new.scratch c.read_all.new.reads.items)

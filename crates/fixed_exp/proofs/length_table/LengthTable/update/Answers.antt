@@ -1,30 +1,62 @@
-use Rattle.std.proofs.Common.{◌≡◌, ◌<◌, ℕ, List, length, get_or, arith, sym, subst, ap, ◌∙◌}
+use Rattle.std.proofs.Common.{◌≡◌, ◌<◌, ◌-◌, ◌^◌, ℕ, min, List, length, get_or, arith, sym, subst, ap, ◌∙◌}
 use Rattle.std.proofs.lemmas.List.{with_items_is}
 use Rattle.flow_model.specs.declared.net.Cell.{Cell}
 use Rattle.flow_model.specs.Network.{Network}
-use Rattle.flow_model.specs.Lengths.{greatest_exponent, least_capacity, length_at, lengths_at}
+use Rattle.flow_model.specs.Lengths.{exponent, greatest_exponent, length_at, lengths_at}
 use Rattle.fixed_exp.specs.LoadedNetwork.{LoadedNetwork}
-use Rattle.fixed_exp.specs.Kept.{KeepsExponent, cell_at}
-use Rattle.fixed_exp.proofs.Tables.{ready-at, table-of, least-below}
+use Rattle.fixed_exp.specs.Kept.{AreRated, KeepsExponent, cell_at}
+use Rattle.fixed_exp.specs.Changes.{AreBelow, IsNotIn}
+use Rattle.fixed_exp.specs.declared.rates.Rate.{Rate}
+use Rattle.fixed_exp.proofs.Tables.{ready-at, table-of, are-rated}
 use Rattle.fixed_exp.proofs.length_table.LengthTable.update.Goals as goal
 
-pub follow-top-requires-clause-least : goal.follow-top-requires-clause-least
-follow-top-requires-clause-least c =
+pub follow-top-requires-clause-rated : goal.follow-top-requires-clause-rated
+follow-top-requires-clause-rated c =
     let i = c.self.inside in
     let cells = c.cells-cells.result.now in
     let same : i.net.value.cells ≡ cells = ap (λ (n : LoadedNetwork). n.net.cells) c.self.view_is ∙ (ap (λ (n : Network). n.cells) (sym c.requires.net) ∙ sym c.cells-cells.ensures.value) in
-    least-below cells i.least (c.self.invariant.least ∙ ap least_capacity same)
+    let t = c.self.invariant in
+    subst (λ (rs : List Rate). AreRated cells i.least rs) (sym c.deref-2.ensures.value) (subst (λ (xs : List Cell). AreRated xs i.least i.rates.items) same
+    (are-rated i.net.value i.least i.rates.items t.fits t.rated t.least))
+
+pub follow-top-requires-clause-kept : goal.follow-top-requires-clause-kept
+follow-top-requires-clause-kept c = λ k l none.
+    let i = c.self.inside in
+    let cells = c.cells-cells.result.now in
+    let same : i.net.value.cells ≡ cells = ap (λ (n : LoadedNetwork). n.net.cells) c.self.view_is ∙ (ap (λ (n : Network). n.cells) (sym c.requires.net) ∙ sym c.cells-cells.ensures.value) in
+    let many : length i.net.value.cells ≡ length cells = ap (λ (xs : List Cell). length xs) same in
+    let inside : k < length i.net.value.cells = omega (arith, many) in
+    let size : length c.changed_places-count.new.places ≡ i.places.len = omega arith in
+    let places : c.deref-3.result.now ≡ c.changed_places-count.new.places = c.deref-3.ensures.value ∙ with_items_is i.places c.changed_places-count.new.places size in
+    let load : get_or i.loads.items k 0 ≡ get_or c.args.loads.now k 0 = ap (λ (xs : List ℕ). get_or xs k 0) (sym c.deref.ensures.value)
+    ∙ c.changed_places-count.ensures.same.each k (omega (arith, ap (λ (xs : List Cell). length xs) c.cells-cells.ensures.value)) (subst (λ (ps : List ℕ). IsNotIn c.changed_places-count.result ps 0 k) places none) in
+    ap (λ (xs : List ℕ). get_or xs k 0) c.deref_mut-2.ensures.value ∙ (c.self.invariant.each k inside
+    ∙ (ap (λ (xs : List Cell). min (exponent i.scale.setting (cell_at xs k) (get_or i.loads.items k 0)) (2 ^ 64 - 1)) same
+    ∙ ap (λ (x : ℕ). min (exponent i.scale.setting (cell_at cells k) x) (2 ^ 64 - 1)) load))
 
 pub follow-top-requires-clause-lengths : goal.follow-top-requires-clause-lengths
-follow-top-requires-clause-lengths c = λ k l.
+follow-top-requires-clause-lengths c = λ k l none.
     let i = c.self.inside in
     let cells = c.cells-cells.result.now in
     let same : i.net.value.cells ≡ cells = ap (λ (n : LoadedNetwork). n.net.cells) c.self.view_is ∙ (ap (λ (n : Network). n.cells) (sym c.requires.net) ∙ sym c.cells-cells.ensures.value) in
-    let inside : k < length i.net.value.cells = subst (λ (xs : List Cell). k < length xs) (sym same) l in
+    let many : length i.net.value.cells ≡ length cells = ap (λ (xs : List Cell). length xs) same in
+    let inside : k < length i.net.value.cells = omega (arith, many) in
+    let size : length c.changed_places-count.new.places ≡ i.places.len = omega arith in
+    let places : c.deref-3.result.now ≡ c.changed_places-count.new.places = c.deref-3.ensures.value ∙ with_items_is i.places c.changed_places-count.new.places size in
+    let load : get_or i.loads.items k 0 ≡ get_or c.args.loads.now k 0 = ap (λ (xs : List ℕ). get_or xs k 0) (sym c.deref.ensures.value)
+    ∙ c.changed_places-count.ensures.same.each k (omega (arith, ap (λ (xs : List Cell). length xs) c.cells-cells.ensures.value)) (subst (λ (ps : List ℕ). IsNotIn c.changed_places-count.result ps 0 k) places none) in
     let was = ready-at i.net.value i.scale.setting i.loads.items i.exponents.items i.lengths.items i.top i.least i.rates.items (length i.places.items) c.self.invariant k inside in
     ap (λ (xs : List ℕ). get_or xs k 0) c.deref_mut-3.ensures.value ∙ (was
     ∙ (ap (λ (xs : List Cell). length_at i.scale.setting i.top i.least (cell_at xs k) (get_or i.loads.items k 0)) same
-    ∙ ap (λ (xs : List ℕ). length_at i.scale.setting i.top i.least (cell_at cells k) (get_or xs k 0)) (sym c.deref.ensures.value)))
+    ∙ ap (λ (x : ℕ). length_at i.scale.setting i.top i.least (cell_at cells k) x) load))
+
+pub follow-top-requires-clause-places : goal.follow-top-requires-clause-places
+follow-top-requires-clause-places c =
+    let i = c.self.inside in
+    let size : length c.changed_places-count.new.places ≡ i.places.len = omega arith in
+    let places : c.deref-3.result.now ≡ c.changed_places-count.new.places = c.deref-3.ensures.value ∙ with_items_is i.places c.changed_places-count.new.places size in
+    subst (λ (ps : List ℕ). AreBelow (length c.cells-cells.result.now) c.changed_places-count.result ps) (sym places)
+    (record { each = λ j l. omega (arith, c.changed_places-count.ensures.below.each j l, ap (λ (xs : List Cell). length xs) c.cells-cells.ensures.value) })
 
 pub invariant_of-self : goal.invariant_of-self
 invariant_of-self c =
@@ -39,12 +71,12 @@ invariant_of-self c =
     let w1 : length c.copy_from_slice.new.self ≡ i.loads.len = omega arith in
     let w2 : length c.follow-top.new.kept ≡ i.exponents.len = omega arith in
     let w3 : length c.follow-top.new.into ≡ i.lengths.len = omega arith in
-    let w4 : length c.follow-top.new.places ≡ i.places.len = omega arith in
+    let w4 : length c.changed_places-count.new.places ≡ i.places.len = omega arith in
     let size : length c.follow-top.new.kept ≡ length i.net.value.cells = omega (arith, c.self.invariant.exponents) in
-    let room : length c.follow-top.new.places ≡ length i.net.value.cells = omega (arith, c.self.invariant.room) in
+    let room : length c.changed_places-count.new.places ≡ length i.net.value.cells = omega (arith, c.self.invariant.room) in
     let each : (k : ℕ) → k < length i.net.value.cells → KeepsExponent s i.net.value.cells loads c.follow-top.new.kept k
     = λ k l. subst (λ (xs : List Cell). KeepsExponent s xs loads c.follow-top.new.kept k) same (c.follow-top.ensures.kept k (omega (arith, many))) in
     let lengths : c.follow-top.new.into ≡ lengths_at s top i.least i.net.value.cells loads = c.follow-top.ensures.lengths ∙ ap (λ (xs : List Cell). lengths_at s top i.least xs loads) same in
     let greatest : top ≡ greatest_exponent s i.net.value.cells loads = c.follow-top.ensures.greatest ∙ ap (λ (xs : List Cell). greatest_exponent s xs loads) same in
-    rw (with_items_is i.loads c.copy_from_slice.new.self w1, with_items_is i.exponents c.follow-top.new.kept w2, with_items_is i.lengths c.follow-top.new.into w3, with_items_is i.places c.follow-top.new.places w4, c.copy_from_slice.ensures.after)
-    (table-of i.net.value s loads c.follow-top.new.kept c.follow-top.new.into top i.least i.rates.items (length c.follow-top.new.places) c.self.invariant.fits c.self.invariant.setting count c.requires.small c.self.invariant.least greatest size each lengths c.self.invariant.rated room)
+    rw (with_items_is i.loads c.copy_from_slice.new.self w1, with_items_is i.exponents c.follow-top.new.kept w2, with_items_is i.lengths c.follow-top.new.into w3, with_items_is i.places c.changed_places-count.new.places w4, c.copy_from_slice.ensures.after)
+    (table-of i.net.value s loads c.follow-top.new.kept c.follow-top.new.into top i.least i.rates.items (length c.changed_places-count.new.places) c.self.invariant.fits c.self.invariant.setting count c.requires.small c.self.invariant.least greatest size each lengths c.self.invariant.rated room)

@@ -1,0 +1,28 @@
+//! What the workers of a phase go by.
+
+ghost use Rattle.std.specs.Prelude.{◌≡◌};
+
+use dijkstra_paths::Graph;
+use fixed_exp::Powers;
+use flow_model::{Groups, Net, Setting};
+use load_table::Loads;
+
+/// What a phase is of: a network with its groups and its graph, the powers that lengths are made of, and the setting.
+#[derive(Drop)]
+pub struct PhaseInput<'a> {
+    pub net: &'a Net,
+    pub groups: &'a Groups,
+    pub graph: &'a Graph,
+    pub powers: &'a Powers,
+    pub setting: Setting,
+    ghost groups_are: { groups.now ≡ net.now },
+    ghost graph_is: { graph.now ≡ net.now },
+}
+
+/// What all workers of a phase share: what it is of, the words of the loads, and the gate.
+#[derive(Drop)]
+pub struct Shared<'a, G> {
+    pub input: &'a PhaseInput<'a>,
+    pub loads: &'a Loads,
+    pub gate: &'a G,
+}
