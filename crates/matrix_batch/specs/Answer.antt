@@ -1,12 +1,11 @@
 -- What is answered of a list's text.
-use Rattle.std.specs.Prelude.{◌≡◌, ℕ, ◌≤◌, List, length, Option, Some, None, Result, Ok, Err}
+use Rattle.std.specs.Prelude.{◌≡◌, ℕ, ◌≤◌, List, All, length, Option, Some, None, Result, Ok, Err}
 use Rattle.std.specs.declared.vec.Vec.{Vec}
 use Rattle.std.specs.declared.alloc.Global.{Global}
-use Rattle.std.specs.List.{AllByRecursion}
 use Rattle.mcf_limits.specs.declared.TheConstants.{MAX_MATRICES}
 use Rattle.sndlib_grammar.specs.Rows.{NetRows, AreNetRows}
 use Rattle.unit_scale.specs.declared.options.NetOptions.{NetOptions}
-use Rattle.unit_scale.specs.Scaling.{ScaledNet, scaled_of}
+use Rattle.unit_scale.specs.Scaling.{scaled_of}
 use Rattle.list_grammar.specs.Refusals.{InNet, InList}
 use Rattle.list_grammar.specs.Matrices.{Matrix}
 use Rattle.list_grammar.specs.Batch.{IsBatch}
@@ -27,15 +26,10 @@ Answers rows o text (Err (Net r)) = IsBatch rows o text (Err (InNet r))
 Answers rows o text (Err (OfList r)) = IsBatch rows o text (Err (InList r))
 Answers rows o text (Err Memory) = Unit {0}
 
--- the rows are sound, and the network is what they stand for
-pub record IsOwn (o : NetOptions) (m : Matrix) : Type 0 where
-  pub rows : AreNetRows m.rows
-  pub net : scaled_of m.rows o ≡ Ok m.net
-
--- at most so many matrices, each with its own network
+-- at most so many matrices, each with sound rows and the network that these stand for
 pub record AreOwn (o : NetOptions) (batch : List Matrix) : Type 0 where
   pub few : length batch ≤ MAX_MATRICES
-  pub each : AllByRecursion (IsOwn o) batch
+  pub each : All (λ (m : Matrix). AreNetRows m.rows × (scaled_of m.rows o ≡ Ok m.net)) batch
 
 -- the line of a link that is too fine, where that is what is refused
 abbrev pub line_of_fine_at : RowSort → NetKind → ℕ → Option ℕ
