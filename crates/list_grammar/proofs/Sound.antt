@@ -141,7 +141,7 @@ sound_entries rows known (m ∷ ms) count ids ends numbers words =
     let later = not_later (line_if_among known m.name) (or_else own more) ids in
     let e = both_none (unknown_of_demand (names_of_nodes rows)) m.demands (all_demands ms) ends in
     let n = both_none bad_of_demand m.demands (all_demands ms) numbers in
-    let w = first_matrix m ms words in
+    let w = first_matrix IsWord m ms words in
     (record { count = omega (arith, count, size); ids = not_first own more later; ends = e.0; numbers = n.0; words = w.0 }, sound_entries rows (known ++ m.name.text ∷ []) ms (omega (arith, count, size)) (not_later own more later) e.1 n.1 w.1)
 
 goods : (rows : NetRows) (o : NetOptions) (ms : List MatrixEntry) → AllByRecursion (IsSoundEntry rows) ms

@@ -1,7 +1,6 @@
 -- What is kept of matrices fits them, token by token.
-use Rattle.std.proofs.Common.{◌≡◌, ℕ, zero, suc, ◌+◌, ◌<◌, ◌≤◌, List, [], ◌∷◌, ◌++◌, length, map, min, refl, ap, sym, subst, ◌∙◌, arith, append_assoc, append-nil, Option, Some, None, Bool, true, false}
+use Rattle.std.proofs.Common.{◌≡◌, ℕ, zero, suc, ◌+◌, ◌≤◌, List, [], ◌∷◌, ◌++◌, length, min, refl, ap, sym, subst, ◌∙◌, arith, append_assoc, append-nil, Some, None, Bool, true, false}
 use Rattle.std.specs.Prelude.{nat_lt, slice_get, if◌then◌else◌}
-use Rattle.std.specs.List.{flat_map}
 use Rattle.std.proofs.lemmas.List.{map-append, length-map, length-append}
 use Rattle.std.proofs.lemmas.Bool.{ltb-false, ltb-true}
 use Rattle.std.proofs.lemmas.Option.{slice_get_past}
@@ -12,7 +11,7 @@ use Rattle.sndlib_grammar.specs.declared.token.TokenKind.TheVariants as kinds
 use Rattle.sndlib_grammar.specs.Grammar.{Word, DemandEntry}
 use Rattle.sndlib_grammar.specs.Faults.{or_else, line_of}
 use Rattle.list_grammar.specs.Grammar.{MatrixEntry}
-use Rattle.list_grammar.specs.Faults.{all_demands, lesser_line, too_many}
+use Rattle.list_grammar.specs.Faults.{all_demands, lesser_line}
 use Rattle.list_grammar.proofs.Sound.{all_counted, names_counted}
 use Rattle.list_read.specs.declared.mode.Mode.{Mode}
 use Rattle.list_read.specs.declared.mode.Mode.TheVariants.{Between, Opening, Inside, Ends, Source, Target, EndsClose, Unit as Units, Value, Longest}
@@ -52,7 +51,7 @@ fits_demand k s d h =
     let more_size : length (demand_ids more) ≡ length more = length-map more (λ (d : DemandEntry). d.id) in
     let count = h.demand_count in
     let go = elim (nat_lt k.count MAX_DEMANDS) as (λ (c : Bool). nat_lt k.count MAX_DEMANDS ≡ c
-        → Fits (if c then record k { demands = k.demands ++ d ∷ []; count = k.count + 1 } else record k { extra_demand = or_else k.extra_demand (Some d.id.line) }) (record s { demands = s.demands ++ d ∷ [] })) [
+    → Fits (if c then record k { demands = k.demands ++ d ∷ []; count = k.count + 1 } else record k { extra_demand = or_else k.extra_demand (Some d.id.line) }) (record s { demands = s.demands ++ d ∷ [] })) [
       | true ↦ λ e. (let less = ltb-true k.count MAX_DEMANDS e in
           record {
             name = h.name;
@@ -100,7 +99,7 @@ fits_matrix k s h =
     let demand_count : k.count ≡ min MAX_DEMANDS (length (all_demands more ++ [])) = h.demand_count ∙ ap (λ l. min MAX_DEMANDS (length {A = DemandEntry} l)) (sym same) in
     let extra_demand : k.extra_demand ≡ line_of (slice_get (demand_ids (all_demands more ++ [])) MAX_DEMANDS) = h.extra_demand ∙ ap (λ l. line_of (slice_get (demand_ids l) MAX_DEMANDS)) (sym same) in
     let go = elim (nat_lt (length k.matrices) MAX_MATRICES) as (λ (c : Bool). nat_lt (length k.matrices) MAX_MATRICES ≡ c
-        → Fits (if c then record k { demands = []; matrices = k.matrices ++ own ∷ [] } else record k { demands = []; extra_matrix = or_else k.extra_matrix (Some k.name.line) }) (with_matrix s)) [
+    → Fits (if c then record k { demands = []; matrices = k.matrices ++ own ∷ [] } else record k { demands = []; extra_matrix = or_else k.extra_matrix (Some k.name.line) }) (with_matrix s)) [
       | true ↦ λ e. (let less = ltb-true (length k.matrices) MAX_MATRICES e in
           record {
             name = h.name;
@@ -111,8 +110,8 @@ fits_matrix k s h =
             extra_matrix = h.extra_matrix ∙ not_yet (matrix_names s.matrices) MAX_MATRICES (omega (arith, less, count, names_size)) ∙ sym (not_yet (matrix_names more) MAX_MATRICES (omega (arith, less, count, size, more_size)));
             demands = λ few. refl;
             matrices = λ few small. ap (λ l. l ++ own ∷ []) (h.matrices (few_demands few) (omega (arith, less, count)))
-            ∙ ap (λ n. s.matrices ++ record { name = n; demands = k.demands } ∷ []) h.name
-            ∙ ap (λ ds. s.matrices ++ record { name = s.name; demands = ds } ∷ []) (h.demands (few_demands few));
+                ∙ ap (λ n. s.matrices ++ record { name = n; demands = k.demands } ∷ []) h.name
+                ∙ ap (λ ds. s.matrices ++ record { name = s.name; demands = ds } ∷ []) (h.demands (few_demands few));
           })
       | false ↦ λ e. (let full = ltb-false (length k.matrices) MAX_MATRICES e in
           record {
@@ -122,7 +121,7 @@ fits_matrix k s h =
             matrix_count = omega (arith, full, count, size);
             extra_demand = extra_demand;
             extra_matrix = ap (λ o. or_else o (Some k.name.line)) h.extra_matrix ∙ ap (λ (w : Word). or_else (line_of (slice_get (matrix_names s.matrices) MAX_MATRICES)) (Some w.line)) h.name
-            ∙ one_past (matrix_names s.matrices) s.name MAX_MATRICES (omega (arith, full, count, names_size)) ∙ ap (λ l. line_of (slice_get l MAX_MATRICES)) (sym names);
+                ∙ one_past (matrix_names s.matrices) s.name MAX_MATRICES (omega (arith, full, count, names_size)) ∙ ap (λ l. line_of (slice_get l MAX_MATRICES)) (sym names);
             demands = λ few. refl;
             matrices = λ few small. absurd (omega (arith, full, count, size, small));
           })

@@ -1,21 +1,31 @@
 -- Names of matrices and ids of demands, kept in a set.
-use Rattle.std.proofs.Common.{◌≡◌, ℕ, ◌+◌, ◌<◌, Bool, true, false, List, [], ◌∷◌, ◌++◌, length, get_or, drop, refl, ap, sym, ◌∙◌, Bor, Option, Some, None}
+use Rattle.std.proofs.Common.{◌≡◌, ℕ, ◌+◌, ◌<◌, Bool, true, false, List, [], ◌∷◌, ◌++◌, length, get_or, drop, ap, sym, ◌∙◌, Bor, Option, Some, None}
 use Rattle.std.specs.Prelude.{map, if◌then◌else◌}
 use Rattle.std.specs.List.{list_any}
 use Rattle.std.specs.Str.{bytes_eq}
 use Rattle.std.proofs.lemmas.List.{drop_more, map-append}
-use Rattle.sndlib_grammar.specs.Grammar.{Word, DemandEntry}
+use Rattle.sndlib_grammar.specs.Grammar.{Word}
 use Rattle.sndlib_grammar.specs.Faults.{first_repeated, is_among, line_of}
 use Rattle.sndlib_read.specs.Views.{bytes_of}
 use Rattle.sndlib_read.proofs.Naming.{any-bytes_of}
-use Rattle.list_grammar.specs.Grammar.{MatrixEntry}
 use Rattle.list_grammar.specs.Faults.{repeated, line_if_among}
 use Rattle.unit_scale.specs.Scaling.{or_else}
 use Rattle.list_read.specs.declared.kept.Word.{Word as WordSlice}
 use Rattle.list_read.specs.declared.kept.DemandWords.{DemandWords}
 use Rattle.list_read.specs.declared.kept.MatrixWords.{MatrixWords}
+use Rattle.list_grammar.specs.declared.refusal.ListKind.TheVariants.{Duplicate}
+use Rattle.list_read.specs.declared.refusal.ReadListEnd.{ReadListEnd}
+use Rattle.list_read.specs.declared.refusal.ReadListEnd.TheVariants.{Refused, Memory}
+use Rattle.list_read.specs.Lists.{at_line}
+use Rattle.list_read.specs.Names.{IsEnd}
 use Rattle.list_read.specs.Stored.{demand_ids}
 use Rattle.list_read.specs.Views.{word_view, demand_view, entry_view}
+
+abbrev no_slice : WordSlice
+no_slice = record { text = record { ref_ptr = (0, 0); now = [] }; line = 0 }
+
+abbrev pub no_demand : DemandWords
+no_demand = record { id = no_slice; source = no_slice; target = no_slice; unit = no_slice; value = no_slice; longest = no_slice }
 
 -- one more name, and whether it is among those before
 pub more_bytes : (known : List (Bor (List ℕ))) (w : Bor (List ℕ)) → bytes_of (known ++ w ∷ []) ≡ bytes_of known ++ w.now ∷ []
@@ -29,24 +39,24 @@ among known w b e = sym (any-bytes_of w.text.now known) ∙ e
 abbrev ids_left : List DemandWords → List Word
 ids_left ds = demand_ids (map demand_view ds)
 
-pub new_id : (known : List (Bor (List ℕ))) (ds : List DemandWords) (i : ℕ) (d : DemandWords) → i < length ds → d ≡ get_or ds i d → list_any (λ k. bytes_eq d.id.text.now k.now) known ≡ false
-    → first_repeated (bytes_of (known ++ d.id.text ∷ [])) (ids_left (drop (i + 1) ds)) ≡ first_repeated (bytes_of known) (ids_left (drop i ds))
-new_id known ds i d h is new =
-    let w = word_view d.id in
+pub new_id : (known : List (Bor (List ℕ))) (ds : List DemandWords) (i : ℕ) (none : DemandWords) → i < length ds → list_any (λ k. bytes_eq (get_or ds i none).id.text.now k.now) known ≡ false
+    → first_repeated (bytes_of (known ++ (get_or ds i none).id.text ∷ [])) (ids_left (drop (i + 1) ds)) ≡ first_repeated (bytes_of known) (ids_left (drop i ds))
+new_id known ds i none h new =
+    let id = (get_or ds i none).id in
+    let w = word_view id in
     let ws = ids_left (drop (i + 1) ds) in
-    ap (λ ks. first_repeated ks ws) (more_bytes known d.id.text)
-    ∙ sym (ap (λ (b : Bool). if b then Some w else first_repeated (bytes_of known ++ w.text ∷ []) ws) (among known d.id false new))
-    ∙ ap (λ (x : DemandWords). first_repeated (bytes_of known) (word_view x.id ∷ ws)) is
-    ∙ ap (λ l. first_repeated (bytes_of known) (ids_left l)) (sym (drop_more ds i d h))
+    ap (λ ks. first_repeated ks ws) (more_bytes known id.text)
+    ∙ sym (ap (λ (b : Bool). if b then Some w else first_repeated (bytes_of known ++ w.text ∷ []) ws) (among known id false new))
+    ∙ ap (λ l. first_repeated (bytes_of known) (ids_left l)) (sym (drop_more ds i none h))
 
-pub old_id : (known : List (Bor (List ℕ))) (ds : List DemandWords) (i : ℕ) (d : DemandWords) → i < length ds → d ≡ get_or ds i d → list_any (λ k. bytes_eq d.id.text.now k.now) known ≡ true
-    → first_repeated (bytes_of known) (ids_left (drop i ds)) ≡ Some (word_view d.id)
-old_id known ds i d h is old =
-    let w = word_view d.id in
+pub old_id : (known : List (Bor (List ℕ))) (ds : List DemandWords) (i : ℕ) (none : DemandWords) → i < length ds → list_any (λ k. bytes_eq (get_or ds i none).id.text.now k.now) known ≡ true
+    → first_repeated (bytes_of known) (ids_left (drop i ds)) ≡ Some (word_view (get_or ds i none).id)
+old_id known ds i none h old =
+    let id = (get_or ds i none).id in
+    let w = word_view id in
     let ws = ids_left (drop (i + 1) ds) in
-    ap (λ l. first_repeated (bytes_of known) (ids_left l)) (drop_more ds i d h)
-    ∙ ap (λ (x : DemandWords). first_repeated (bytes_of known) (word_view x.id ∷ ws)) (sym is)
-    ∙ ap (λ (b : Bool). if b then Some w else first_repeated (bytes_of known ++ w.text ∷ []) ws) (among known d.id true old)
+    ap (λ l. first_repeated (bytes_of known) (ids_left l)) (drop_more ds i none h)
+    ∙ ap (λ (b : Bool). if b then Some w else first_repeated (bytes_of known ++ w.text ∷ []) ws) (among known id true old)
 
 -- ---- names
 
@@ -76,3 +86,9 @@ new_name known ms i m o h is new own =
     ∙ ap (λ o. or_else o (or_else (own_id m) (repeated (bytes_of known ++ m.name.text.now ∷ []) (map entry_view (drop (i + 1) ms))))) (by_name known m false new)
     ∙ ap (λ p. or_else p (repeated (bytes_of known ++ m.name.text.now ∷ []) (map entry_view (drop (i + 1) ms)))) own
     ∙ ap (λ ks. or_else o (repeated ks (map entry_view (drop (i + 1) ms)))) (sym (more_bytes known m.name.text))
+
+-- where an id stands twice
+pub repeated_id : (o other all : Option ℕ) (e : ReadListEnd) → all ≡ or_else o other → IsEnd Duplicate o e → IsEnd Duplicate all e
+repeated_id o other all Memory is h = tt
+repeated_id None other all (Refused r) is h = absurd cc
+repeated_id (Some n) other all (Refused r) is h = ap (at_line Duplicate) is ∙ h

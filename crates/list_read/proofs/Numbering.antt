@@ -1,5 +1,5 @@
 -- Demands with the numbers of their ends.
-use Rattle.std.proofs.Common.{◌≡◌, ℕ, List, ap, ◌∙◌, Some, None}
+use Rattle.std.proofs.Common.{◌≡◌, ℕ, List, ap, Some, None}
 use Rattle.std.specs.Prelude.{position}
 use Rattle.std.specs.Str.{bytes_eq}
 use Rattle.sndlib_grammar.specs.Faults.{unknown_of_demand}

@@ -1,15 +1,14 @@
 -- The loop over tokens.
-use Rattle.std.proofs.Common.{◌≡◌, ℕ, ◌<◌, ◌≤◌, List, [], ◌∷◌, length, refl, ap, sym, subst, ◌∙◌, arith, Option, Some, None, Ok, Err, Result, Bool, true, false}
+use Rattle.std.proofs.Common.{◌≡◌, ℕ, ◌<◌, ◌≤◌, List, [], ◌∷◌, length, refl, ap, sym, subst, ◌∙◌, arith, Option, Some, None, Bool, true, false}
 use Rattle.std.specs.Prelude.{nat_lt, if◌then◌else◌}
 use Rattle.std.specs.Option.{option_map_or}
 use Rattle.std.proofs.lemmas.Bool.{ltb-false, ltb-true}
 use Rattle.mcf_limits.specs.declared.TheConstants.{MAX_WORD_BYTES}
 use Rattle.sndlib_grammar.specs.Tokens.{Lexeme}
-use Rattle.list_grammar.specs.Grammar.{MatrixEntry}
 use Rattle.list_read.specs.declared.mode.Mode.{Mode}
 use Rattle.list_read.specs.declared.mode.Mode.TheVariants.{Between}
 use Rattle.list_read.specs.Reading.{Sofar, after, kept, scan, finished, refused, nothing_read}
-use Rattle.list_read.specs.Stored.{Stored, put, Fits, FitsList}
+use Rattle.list_read.specs.Stored.{Stored, put, Fits}
 use Rattle.list_read.specs.Steps.{IsKept}
 use Rattle.list_read.proofs.Walking.{IsClear, clear_more}
 use Rattle.list_read.proofs.Fitting.{fits_kept, fits_list}

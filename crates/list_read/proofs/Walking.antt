@@ -1,5 +1,5 @@
 -- Where reading stands, as the grammar's laws have it; what is read of tokens is what the grammar says of them.
-use Rattle.std.proofs.Common.{◌≡◌, ◌⊎◌, ℕ, List, [], ◌∷◌, ◌++◌, length, map, refl, ap, sym, subst, ◌∙◌, arith, append_assoc, append-nil, Option, Some, None, Result, Ok, Err, Bool, true, false, inl, inr}
+use Rattle.std.proofs.Common.{◌≡◌, ℕ, List, [], ◌∷◌, ◌++◌, length, refl, ap, sym, subst, ◌∙◌, arith, append_assoc, append-nil, Option, Some, None, Result, Ok, Err, Bool, true, false, inl, inr}
 use Rattle.std.specs.Prelude.{nat_lt, option_and_then, if◌then◌else◌}
 use Rattle.std.specs.Option.{option_map, option_map_or}
 use Rattle.std.specs.List.{flat_map, AllByRecursion}
@@ -19,7 +19,7 @@ use Rattle.list_grammar.proofs.Modes.{Mode as Place, walk, walk-append, list_wal
 use Rattle.list_grammar.proofs.Modes as places
 use Rattle.list_read.specs.declared.mode.Mode.{Mode}
 use Rattle.list_read.specs.declared.mode.Mode.TheVariants.{Between, Opening, Inside, Ends, Source, Target, EndsClose, Unit as Units, Value, Longest}
-use Rattle.list_read.specs.Reading.{after, Draft, Sofar, kept, kept_by, word_of, scan, finished, refused, nothing_read}
+use Rattle.list_read.specs.Reading.{after, Sofar, kept, kept_by, word_of, scan, finished, refused, nothing_read}
 
 abbrev place_of : Mode → Place
 place_of Between = places.Between
@@ -127,7 +127,7 @@ spelled_more Value Longest kinds.Word w s clear h = (grows s (Name s.draft.id �
 spelled_more Longest Inside kinds.Word w s clear h =
     let d : DemandEntry = record { id = s.draft.id; source = s.draft.source; target = s.draft.target; unit = s.draft.unit; value = s.draft.value; longest = w } in (
       grows s (Name s.draft.id ∷ Left ∷ Name s.draft.source ∷ Name s.draft.target ∷ Right ∷ Name s.draft.unit ∷ Name s.draft.value ∷ []) (Name w)
-      ∙ ap (λ l. spelled s.matrices ++ Name s.name ∷ Left ∷ l) (sym (flat-push demand s.demands d)),
+          ∙ ap (λ l. spelled s.matrices ++ Name s.name ∷ Left ∷ l) (sym (flat-push demand s.demands d)),
       tt,
     )
 spelled_more m next kinds.LeftParen w s clear h = absurd cc
@@ -194,12 +194,14 @@ bad_at before t rest end m s h none =
 
 -- the end in a matrix
 open_end : (tokens : List Lexeme) (end : ℕ) (m : Mode) (s : Sofar) → AreRead tokens m s → (place_of m ≡ places.Between → ⊥) → IsGiven tokens end (refused end)
-open_end tokens end m s h other =
-    (inr (record {
-      begun = record { short = h.short; begun = begun (symbols_of tokens) (place_of m) h.walked };
-      none = λ ms is. (let both : Some (place_of m) ≡ Some places.Between = sym h.walked ∙ ap (walk places.Between) is ∙ list_walked ms in other cc);
-      line_is = refl;
-    }), refl)
+open_end tokens end m s h other = (
+  inr (record {
+    begun = record { short = h.short; begun = begun (symbols_of tokens) (place_of m) h.walked };
+    none = λ ms is. (let both : Some (place_of m) ≡ Some places.Between = sym h.walked ∙ ap (walk places.Between) is ∙ list_walked ms in other cc);
+    line_is = refl;
+  }),
+  refl,
+)
 
 at_end : (tokens : List Lexeme) (end : ℕ) (m : Mode) (s : Sofar) → AreRead tokens m s → IsGiven tokens end (finished end m s.matrices)
 at_end tokens end Between s h = record { short = h.short; list = h.spelt ∙ append-nil (spelled s.matrices) }
@@ -221,7 +223,7 @@ given before (t ∷ rest) end m s h =
       | Some next ↦ λ e short. subst (λ ts. IsGiven ts end (scan end next (kept m t s) rest)) (append_assoc before (t ∷ []) rest) (given (before ++ t ∷ []) rest end next (kept m t s) (one_more before t m next s h short e))
     ] in
     let go = elim (nat_lt MAX_WORD_BYTES (length t.text)) as (λ (c : Bool). nat_lt MAX_WORD_BYTES (length t.text) ≡ c
-        → IsGiven (before ++ t ∷ rest) end (if c then refused t.line else option_map_or (λ next. scan end next (kept m t s) rest) (after m t.kind) (refused t.line))) [
+    → IsGiven (before ++ t ∷ rest) end (if c then refused t.line else option_map_or (λ next. scan end next (kept m t s) rest) (after m t.kind) (refused t.line))) [
       | true ↦ λ e. bad_at before t rest end m s h (λ b. is_long t e (last_short before t b.short))
       | false ↦ λ e. one (after m t.kind) refl (not_long t e)
     ] in

@@ -4,7 +4,7 @@ use Rattle.std.specs.declared.vec.Vec.{Vec}
 use Rattle.std.specs.declared.alloc.Global.{Global}
 use Rattle.sndlib_grammar.specs.Grammar.{DemandEntry}
 use Rattle.sndlib_grammar.specs.Faults.{or_else, first_of, unknown_of_demand}
-use Rattle.sndlib_grammar.specs.Rows.{NetDemand, NetRows, names_of_nodes, net_demand}
+use Rattle.sndlib_grammar.specs.Rows.{NetRows, names_of_nodes, net_demand}
 use Rattle.sndlib_read.specs.declared.row.DemandRow.{DemandRow}
 use Rattle.sndlib_read.specs.RowViews.{demand_row_view}
 use Rattle.list_grammar.specs.Grammar.{MatrixEntry}
@@ -19,11 +19,15 @@ use Rattle.list_read.specs.Lists.{named_demands, at_line}
 use Rattle.list_read.specs.Answer.{matrices_view}
 use Rattle.list_read.specs.Stored.{Stored}
 
+-- the refusal of this kind; want of memory says nothing
+abbrev pub IsEnd : ListKind → Option ℕ → ReadListEnd → Type 0
+IsEnd kind found Memory = Unit {0}
+IsEnd kind found (Refused r) = at_line kind found ≡ Some r
+
 -- nothing of this kind is found; or it is the refusal
 abbrev pub Finds : {X : Type 0} → ListKind → Option ℕ → Result X ReadListEnd → Type 0
 Finds kind found (Ok x) = found ≡ None
-Finds kind found (Err Memory) = Unit {0}
-Finds kind found (Err (Refused r)) = at_line kind found ≡ Some r
+Finds kind found (Err e) = IsEnd kind found e
 
 -- the demand with the numbers of its ends, or the line of the first end that is no node
 abbrev pub IsRow : NetRows → DemandEntry → Result DemandRow ℕ → Type 0
@@ -35,14 +39,12 @@ abbrev pub AreRows : NetRows → List DemandEntry → Result (Vec DemandRow Glob
 AreRows rows ds (Ok v) =
     (first_of (unknown_of_demand (names_of_nodes rows)) ds ≡ None)
     × (map demand_row_view v.items ≡ map (net_demand (names_of_nodes rows)) ds)
-AreRows rows ds (Err Memory) = Unit {0}
-AreRows rows ds (Err (Refused r)) = at_line UnknownNode (first_of (unknown_of_demand (names_of_nodes rows)) ds) ≡ Some r
+AreRows rows ds (Err e) = IsEnd UnknownNode (first_of (unknown_of_demand (names_of_nodes rows)) ds) e
 
 -- and of matrices
 abbrev pub AreNumbered : NetRows → List MatrixEntry → Result (Vec MatrixRows Global) ReadListEnd → Type 0
 AreNumbered rows ms (Ok v) = (unknown_node rows ms ≡ None) × (matrices_view v ≡ map (named_demands rows) ms)
-AreNumbered rows ms (Err Memory) = Unit {0}
-AreNumbered rows ms (Err (Refused r)) = at_line UnknownNode (unknown_node rows ms) ≡ Some r
+AreNumbered rows ms (Err e) = IsEnd UnknownNode (unknown_node rows ms) e
 
 -- the first fault of what is kept
 abbrev pub stored_fault : NetRows → Stored → Option ListRefusal

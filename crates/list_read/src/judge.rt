@@ -65,6 +65,8 @@ pub fn read_list<'a>(
     ensures rows { IfOk result (λ v. AreOwnRows raw.now (matrices_view v)) }
     ensures slices { IfOk result (λ v. All (IsMatrixIn text.now) (matrices_view v)) }
 {
+    // The rows of a network that was read are sound: its accessors say so.
+    let _nodes = raw.nodes();
     match scan_tokens(alloc, Tokens::new(text, 0, 1), end_line(text)) {
         Ok(kept) => judge(alloc, raw, kept),
         Err(e) => Err(e),
