@@ -8,7 +8,7 @@ ghost use Rattle.matrix_batch.specs.Views.{batch_view};
 use crate::matrix::Matrix;
 use crate::refusal::BatchEnd;
 use crate::scaling::scale_all;
-use list_read::{ReadListEnd, read_list};
+use list_read::{ReadListEnd, read_list, what_is_read_is_scaled};
 use mcf_limits::MAX_LIST_BYTES;
 use sndlib_read::{NetKind, NetRefusal, RawNet};
 use std::alloc::{AllocError, Global};
@@ -54,6 +54,7 @@ pub fn read_batch<'a>(
     ensures answer { Answers raw.now options text.now result }
     ensures own { IfOk result (λ v. AreOwn options (batch_view v.items)) }
 {
+    what_is_read_is_scaled();
     let _nodes = raw.nodes();
     let lists = match read_list(alloc, raw, text) {
         Ok(lists) => lists,

@@ -1,0 +1,27 @@
+-- All commodities of a batch, and options that serve each matrix.
+use Rattle.std.proofs.Common.{◌≡◌, ℕ, ◌+◌, ◌*◌, ◌/◌, ◌<◌, ◌≤◌, List, [], ◌∷◌, ◌++◌, length, get_or, map, take, Option, Some, None, refl, sym, ap, subst, ◌∙◌, arith}
+use Rattle.std.specs.List.{AllByRecursion, sum_by}
+use Rattle.std.proofs.Math.Nat.{mul-le-mul_right}
+use Rattle.mcf_limits.specs.declared.TheConstants.{MAX_GAP, MAX_PHASES, MAX_STEP, MAX_WORK, MAX_WORKERS}
+use Rattle.solver_run.specs.declared.options.SolveOptions.{SolveOptions}
+use Rattle.solver_run.specs.Options.{AreOptions}
+use Rattle.list_grammar.specs.Matrices.{Matrix}
+use Rattle.list_grammar.specs.Batch.{batch_commodities}
+
+-- options that serve all commodities together serve each matrix
+pub each_solvable : (o : SolveOptions) (n : ℕ) (batch : List Matrix) → o.gap ≤ MAX_GAP → 1 ≤ o.phases → o.phases ≤ MAX_PHASES → o.workers ≡ 1 → 1 ≤ o.step → o.step ≤ MAX_STEP
+    → n * o.phases ≤ MAX_WORK → batch_commodities batch ≤ n → AllByRecursion (λ (m : Matrix). AreOptions m.net.net o) batch
+each_solvable o n [] gap some phases alone some_step step work within = tt
+each_solvable o n (m ∷ ms) gap some phases alone some_step step work within =
+    let own = length m.net.net.commodities in
+    let less : own ≤ n = omega arith in
+    (record {
+      gap = gap;
+      some_phase = some;
+      phases = phases;
+      some_worker = omega arith;
+      workers = omega arith;
+      some_step = some_step;
+      step = step;
+      work = omega (arith, work, mul-le-mul_right o.phases less);
+    }, each_solvable o n ms gap some phases alone some_step step work (omega arith))
