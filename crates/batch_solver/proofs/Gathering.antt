@@ -1,6 +1,6 @@
 -- From the slots of matrices to the solves of all.
-use Rattle.std.proofs.Common.{◌≡◌, ℕ, zero, suc, ◌<◌, List, [], ◌∷◌, length, get_or, map, Option, None, Some, Bor, refl, sym, ap, subst, ◌∙◌, arith}
-use Rattle.std.specs.Prelude.{slice_get}
+use Rattle.std.proofs.Common.{◌≡◌, ℕ, zero, suc, ◌<◌, List, [], ◌∷◌, ◌++◌, length, get_or, map, Option, None, Some, Bor, refl, sym, ap, subst, ◌∙◌, arith}
+use Rattle.std.specs.Prelude.{slice_get, IfSome}
 use Rattle.std.specs.List.{AllByRecursion}
 use Rattle.std.proofs.lemmas.Option.{slice_get-get_or}
 use Rattle.flow_model.specs.Network.{Network}
@@ -10,7 +10,7 @@ use Rattle.solver_run.specs.Options.{AreOptions}
 use Rattle.solver_run.specs.Headline.{IsSolved}
 use Rattle.list_grammar.specs.Matrices.{Matrix}
 use Rattle.batch_solver.specs.Solves.{AreSolved}
-use Rattle.batch_solver.specs.Slots.{IsFilled}
+use Rattle.batch_solver.specs.Slots.{IsBlank, IsFilled}
 
 -- the item at that place
 pub place_is : {X : Type 0} (xs : List X) (i : ℕ) (x y : X) → i < length xs → x ≡ get_or xs i x → slice_get xs i ≡ Some y → x ≡ y
@@ -45,3 +45,20 @@ all_solved o (m ∷ ms) (n ∷ ns) (t ∷ ts) (s ∷ ss) same count h is =
     let more : map Some ss ≡ ts = cc in
     let solved = subst (λ (slot : Option SolvedView). IsFilled (n ∷ ns) o 0 slot) here (h 0 (omega arith)) in
     (subst (λ (x : Network). IsSolved x o s) first (solved.value n refl), all_solved o ms ns ts ss rest (omega arith) (λ i lt. record { value = (h (suc i) (omega arith)).value }) more)
+
+-- ---- slots
+
+-- one blank slot more
+pub one_blank : {X : Type 0} (xs : List (Option X)) → ((i : ℕ) → get_or xs i None ≡ None) → (i : ℕ) → get_or (xs ++ None ∷ []) i None ≡ None
+one_blank [] h zero = refl
+one_blank [] h (suc i) = refl
+one_blank (x ∷ xs) h zero = h 0
+one_blank (x ∷ xs) h (suc i) = one_blank xs (λ k. h (suc k)) i
+
+-- the network of that number, with its options
+pub solvable_at : (nets : List (Bor Network)) (o : SolveOptions) (i : ℕ) (net : Bor Network) (slot : Option SolvedView) → IsBlank nets o i slot → net ≡ get_or nets i net → AreOptions net.now o
+solvable_at nets o i net slot h at = h.options net (slice_get-get_or nets i net h.few ∙ ap (λ z. Some z) (sym at))
+
+-- its solve, or nothing
+pub filled_by : (nets : List (Bor Network)) (o : SolveOptions) (i : ℕ) (net : Bor Network) (slot : Option SolvedView) → i < length nets → net ≡ get_or nets i net → IfSome slot (IsSolved net.now o) → IsFilled nets o i slot
+filled_by nets o i net slot lt at h = record { value = λ other e. subst (λ (n : Bor Network). IfSome slot (IsSolved n.now o)) (place_is nets i net other lt at e) h }

@@ -1,12 +1,12 @@
 //! What is asked of the solves of a batch, and how much work they are.
 
-ghost use Rattle.std.specs.Prelude.{◌≡◌, ◌*◌, ◌<◌, ◌≤◌, ℕ, IfOk, IfErr, OnOk, length, slice_get, Some};
+ghost use Rattle.std.specs.Prelude.{◌≡◌, ◌*◌, ◌<◌, ◌≤◌, ℕ, IfOk, IfErr, OnOk, length};
 ghost use Rattle.list_grammar.specs.Batch.{IsBatchTooMuch, batch_commodities};
 ghost use Rattle.matrix_batch.specs.Views.{batch_view};
 ghost use Rattle.batch_solver.specs.Asked.{AreSolvable, IsBatchAsked, batch_options, budget_for};
 
 use matrix_batch::Matrix;
-use mcf_limits::{DEFAULT_PHASES, MAX_DEMANDS, MAX_MATRICES, MAX_WORK};
+use mcf_limits::{DEFAULT_PHASES, MAX_DEMANDS, MAX_MATRICES, MAX_PHASES, MAX_WORK};
 use solver_run::SolveOptions;
 
 /// The gap in millionths, the phase budget for each matrix if one was given, and the step of the lengths.
@@ -43,7 +43,10 @@ fn count_all(batch: &[Matrix<'_>]) -> u64
 // The phase budget for each matrix, where none was given.
 fn default_phases(matrices: usize, commodities: u64) -> u32
     requires some { matrices ≤ commodities }
+    requires limit { commodities ≤ MAX_DEMANDS * MAX_MATRICES }
     ensures value { result ≡ budget_for matrices commodities }
+    ensures least { 1 ≤ result }
+    ensures most { result ≤ MAX_PHASES }
 {
     if matrices == 0 {
         return DEFAULT_PHASES as u32;

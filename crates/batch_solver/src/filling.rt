@@ -15,13 +15,31 @@ use std::thread::Threads;
 /// So many slots, all blank.
 pub fn blank_slots(alloc: Global, count: usize) -> Result<Vec<Option<Solved>>, AllocError>
     ensures { IfOk result (λ v. (length v.items ≡ count)
-        × ((i : ℕ) → i < length v.items → slice_index_or v.items i None ≡ None)) }
+        × ((i : ℕ) → slice_index_or v.items i None ≡ None)) }
 {
     let mut slots = Vec::with_capacity(alloc, count)?;
-    for _ in 0..count {
+    'slots: for _ in 0..count {
         slots.push(None)?;
     }
     Ok(slots)
+}
+
+// The solve of the network of that number, or nothing where memory is lacking.
+fn solve_one<G: Gate, R: Threads + Sync>(
+    rt: &R,
+    alloc: Global,
+    nets: &[&Net],
+    options: &SolveOptions,
+    gate: &G,
+    at: usize,
+) -> Option<Solved>
+    requires { IsBlank nets.now options.now at None }
+    ensures { IsFilled nets.now options.now at result }
+{
+    match solve_in(rt, alloc, nets[at], options, gate, 1) {
+        Ok(solved) => Some(solved),
+        Err(_) => None,
+    }
 }
 
 // Fills the slots of networks, of which the first has the number `first`. Those for which memory is lacking stay blank.
@@ -40,10 +58,7 @@ fn fill_slots<G: Gate, R: Threads + Sync>(
         → IsFilled nets.now options.now (first + i) (slice_index_or slots.new i None) }
 {
     for (i, slot) in slots.iter_mut().enumerate() {
-        *slot = match solve_in(rt, alloc, nets[first + i], options, gate, 1) {
-            Ok(solved) => Some(solved),
-            Err(_) => None,
-        };
+        *slot = solve_one(rt, alloc, nets, options, gate, first + i);
     }
 }
 
@@ -81,7 +96,7 @@ pub fn fill_all<G: Gate, R: Threads + Sync>(
 
 /// What stands in the slots, or `Err` where one is blank or memory is lacking.
 pub fn gathered(alloc: Global, slots: Vec<Option<Solved>>) -> Result<Vec<Solved>, AllocError>
-    ensures { IfOk result (λ v. map Some v.items ≡ slots.entry.items) }
+    ensures { IfOk result (λ v. map Some v.items ≡ slots.items) }
 {
     let mut list = Vec::with_capacity(alloc, slots.len())?;
     for slot in slots {
