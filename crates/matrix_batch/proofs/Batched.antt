@@ -1,5 +1,5 @@
 -- Matrices that are scaled one after the other are the batch of what was read.
-use Rattle.std.proofs.Common.{◌≡◌, ℕ, List, [], ◌∷◌, ◌++◌, map, Option, Some, None, Result, Ok, Err, refl, ap, sym, ◌∙◌, append-nil, append-assoc}
+use Rattle.std.proofs.Common.{◌≡◌, ℕ, List, [], ◌∷◌, ◌++◌, map, Option, Some, None, Result, Ok, Err, refl, ap, sym, ◌∙◌, append-nil, append_assoc}
 use Rattle.sndlib_grammar.specs.Faults.{first_of, or_else}
 use Rattle.sndlib_grammar.specs.Rows.{NetRows}
 use Rattle.unit_scale.specs.declared.options.NetOptions.{NetOptions}
@@ -92,7 +92,7 @@ one_more rows o m ms s rest (Empty line f l n e) =
 one_more rows o m ms s rest (Whole f l n e) =
     let t : Sofar = record s { matrices = s.matrices ++ scaled_matrix rows o m ∷ [] } in
     ap (after_it rows o m ms s) e ∙ (rest t
-    ∙ (ap (λ (xs : List Matrix). expected (first_of fine_demand ms) (or_else s.large (first_of (large_row o rows) ms)) (or_else s.empty (first_of no_commodity ms)) xs) (append-assoc s.matrices (scaled_matrix rows o m ∷ []) (map (scaled_matrix rows o) ms))
+    ∙ (ap (λ (xs : List Matrix). expected (first_of fine_demand ms) (or_else s.large (first_of (large_row o rows) ms)) (or_else s.empty (first_of no_commodity ms)) xs) (append_assoc s.matrices (scaled_matrix rows o m ∷ []) (map (scaled_matrix rows o) ms))
     ∙ told_is rows o m ms s None None None f l n))
 
 pub all_scaled : (rows : NetRows) (o : NetOptions) (read : List NamedDemands) (s : Sofar) → fine_link o.modules rows ≡ None → in_batch (scaled_all rows o read s) ≡ expected_behind rows o read s
