@@ -1,8 +1,8 @@
 -- The loop over tokens.
-use Rattle.std.proofs.Common.{◌≡◌, ℕ, ◌<◌, ◌≤◌, List, [], ◌∷◌, length, refl, ap, sym, subst, ◌∙◌, arith, Option, Some, None, Bool, true, false}
+use Rattle.std.proofs.Common.{◌≡◌, ℕ, ◌≤◌, List, [], ◌∷◌, length, refl, ap, sym, subst, ◌∙◌, arith, Option, Some, Bool, true, false}
 use Rattle.std.specs.Prelude.{nat_lt, if◌then◌else◌}
 use Rattle.std.specs.Option.{option_map_or}
-use Rattle.std.proofs.lemmas.Bool.{ltb-false, ltb-true}
+use Rattle.std.proofs.lemmas.Bool.{ltb-true}
 use Rattle.mcf_limits.specs.declared.TheConstants.{MAX_WORD_BYTES}
 use Rattle.sndlib_grammar.specs.Tokens.{Lexeme}
 use Rattle.list_read.specs.declared.mode.Mode.{Mode}
@@ -24,10 +24,6 @@ not_long : (t : Lexeme) → length t.text ≤ MAX_WORD_BYTES → nat_lt MAX_WORD
 not_long t h = elim (nat_lt MAX_WORD_BYTES (length t.text)) as (λ (b : Bool). nat_lt MAX_WORD_BYTES (length t.text) ≡ b → b ≡ false)
     [ true ↦ λ e. (let long = ltb-true MAX_WORD_BYTES (length t.text) e in absurd (omega arith)) | false ↦ λ e. refl ] refl
 
-is_long : (t : Lexeme) → MAX_WORD_BYTES < length t.text → nat_lt MAX_WORD_BYTES (length t.text) ≡ true
-is_long t h = elim (nat_lt MAX_WORD_BYTES (length t.text)) as (λ (b : Bool). nat_lt MAX_WORD_BYTES (length t.text) ≡ b → b ≡ true)
-    [ true ↦ λ e. refl | false ↦ λ e. (let short = ltb-false MAX_WORD_BYTES (length t.text) e in absurd (omega arith)) ] refl
-
 -- one short token
 scan_one : (end : ℕ) (m : Mode) (s : Sofar) (t : Lexeme) (ts : List Lexeme) (o : Option Mode) → length t.text ≤ MAX_WORD_BYTES → after m t.kind ≡ o
     → scan end m s (t ∷ ts) ≡ option_map_or (λ next. scan end next (kept m t s) ts) o (refused t.line)
@@ -43,18 +39,6 @@ scans_more end m next old new t rest left all s is short e to = record {
   fits = subst (λ (k : Stored). Fits k (kept m t s.state)) (sym to) (fits_kept m t old s.state s.fits);
   clear = clear_more m next t s.state s.clear e;
 }
-
--- or it is refused
-pub scans_refused : (end : ℕ) (m : Mode) (k : Stored) (t : Lexeme) (rest left all : List Lexeme) → Scans end m k rest all → rest ≡ t ∷ left → length t.text ≤ MAX_WORD_BYTES
-    → after m t.kind ≡ None → scan end Between nothing_read all ≡ refused t.line
-scans_refused end m k t rest left all s is short e = sym s.same ∙ ap (scan end m s.state) is ∙ scan_one end m s.state t left None short e
-
--- or it is a long word
-pub scans_long : (end : ℕ) (m : Mode) (k : Stored) (t : Lexeme) (rest left all : List Lexeme) → Scans end m k rest all → rest ≡ t ∷ left → MAX_WORD_BYTES < length t.text
-    → scan end Between nothing_read all ≡ refused t.line
-scans_long end m k t rest left all s is long =
-    sym s.same ∙ ap (scan end m s.state) is
-    ∙ ap (λ (b : Bool). if b then refused t.line else option_map_or (λ next. scan end next (kept m t s.state) left) (after m t.kind) (refused t.line)) (is_long t long)
 
 -- or there is none
 pub scans_end : (end : ℕ) (m : Mode) (k : Stored) (rest all : List Lexeme) (s : Scans end m k rest all) → rest ≡ [] → scan end Between nothing_read all ≡ finished end m s.state.matrices

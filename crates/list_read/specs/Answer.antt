@@ -13,7 +13,10 @@ use Rattle.list_read.specs.Lists.{NamedDemands, IsRead}
 
 -- a matrix that was read, without where its words lie in memory
 abbrev pub matrix_view : MatrixRows → NamedDemands
-matrix_view m = record { name = record { text = m.name.now; line = m.line }; demands = map demand_row_view m.demands.items }
+matrix_view m = record {
+  name = record { text = m.name.now; line = m.line };
+  demands = map demand_row_view m.demands.items;
+}
 
 abbrev pub matrices_view : Vec MatrixRows Global → List NamedDemands
 matrices_view v = map matrix_view v.items

@@ -31,7 +31,8 @@ Finds kind found (Err e) = IsEnd kind found e
 
 -- the demand with the numbers of its ends, or the line of the first end that is no node
 abbrev pub IsRow : NetRows → DemandEntry → Result DemandRow ℕ → Type 0
-IsRow rows d (Ok row) = (unknown_of_demand (names_of_nodes rows) d ≡ None) × (demand_row_view row ≡ net_demand (names_of_nodes rows) d)
+IsRow rows d (Ok row) =
+    (unknown_of_demand (names_of_nodes rows) d ≡ None) × (demand_row_view row ≡ net_demand (names_of_nodes rows) d)
 IsRow rows d (Err line) = unknown_of_demand (names_of_nodes rows) d ≡ Some line
 
 -- the same of demands

@@ -44,10 +44,20 @@ pub record Sofar : Type 0 where
   pub matrices : List MatrixEntry
 
 abbrev pub demand_of : Draft → Word → DemandEntry
-demand_of d longest = record { id = d.id; source = d.source; target = d.target; unit = d.unit; value = d.value; longest = longest }
+demand_of d longest = record {
+  id = d.id;
+  source = d.source;
+  target = d.target;
+  unit = d.unit;
+  value = d.value;
+  longest = longest;
+}
 
 abbrev pub with_matrix : Sofar → Sofar
-with_matrix s = record s { demands = []; matrices = s.matrices ++ record { name = s.name; demands = s.demands } ∷ [] }
+with_matrix s = record s {
+  demands = [];
+  matrices = s.matrices ++ record { name = s.name; demands = s.demands } ∷ [];
+}
 
 -- what is kept at a right parenthesis
 abbrev pub at_right : Mode → Sofar → Sofar

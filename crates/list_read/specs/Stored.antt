@@ -24,7 +24,15 @@ pub record Stored : Type 0 where
   pub extra_matrix : Option ℕ
 
 abbrev pub at_start : Stored
-at_start = record { name = no_word; draft = no_draft; demands = []; matrices = []; count = 0; extra_demand = None; extra_matrix = None }
+at_start = record {
+  name = no_word;
+  draft = no_draft;
+  demands = [];
+  matrices = [];
+  count = 0;
+  extra_demand = None;
+  extra_matrix = None;
+}
 
 -- ---- one token more
 
@@ -82,7 +90,8 @@ pub record Fits (k : Stored) (s : Sofar) : Type 0 where
   pub extra_demand : k.extra_demand ≡ line_of (slice_get (demand_ids (demands_so_far s)) MAX_DEMANDS)
   pub extra_matrix : k.extra_matrix ≡ line_of (slice_get (matrix_names s.matrices) MAX_MATRICES)
   pub demands : length (demands_so_far s) ≤ MAX_DEMANDS → k.demands ≡ s.demands
-  pub matrices : length (demands_so_far s) ≤ MAX_DEMANDS → length s.matrices ≤ MAX_MATRICES → k.matrices ≡ s.matrices
+  pub matrices : length (demands_so_far s) ≤ MAX_DEMANDS → length s.matrices ≤ MAX_MATRICES
+      → k.matrices ≡ s.matrices
 
 -- the same of a whole list: the line of what is too much; and all matrices, where nothing is
 pub record FitsList (k : Stored) (matrices : List MatrixEntry) : Type 0 where

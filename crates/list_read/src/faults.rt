@@ -1,4 +1,5 @@
-//! What is wrong with matrices that the grammar allows: too many of them, and words that are no numbers.
+//! What is wrong with matrices that the grammar allows: too many of them, and words that are no
+//! numbers.
 
 ghost use Rattle.std.specs.Prelude.{◌≡◌, map};
 ghost use Rattle.sndlib_grammar.specs.Faults.{is_bad as is_bad_lem, is_bad_longest as is_bad_longest_lem, first_of, bad_of_demand};

@@ -50,11 +50,12 @@ fn judge<'a>(
     }
 }
 
-/// The matrices that the text of a list spells, with the numbers of their demands' ends among the nodes of a network, or
-/// the text's first refusal: a long word or a token that no list has there, whichever comes first (M1); too many matrices,
-/// or demands in all (M2); a name of an earlier matrix, or an id of an earlier demand of the same matrix (M3); an end that
-/// is no node (M4); a word that is no number (M5). Each kind is told of the whole list before the next. After `Memory`
-/// nothing is known of the text.
+/// The matrices that the text of a list spells, with the numbers of their demands' ends among the
+/// nodes of a network; or the text's first refusal: a long word or a token that no list has there,
+/// whichever comes first (M1); too many matrices, or demands in all (M2); a name of an earlier matrix,
+/// or an id of an earlier demand of the same matrix (M3); an end that is no node (M4); a word that is
+/// no number (M5). Each kind is told of the whole list before the next. After `Memory` nothing is
+/// known of the text.
 pub fn read_list<'a>(
     alloc: Global,
     raw: &RawNet<'_>,

@@ -1,5 +1,5 @@
-//! Lists of demand matrices: read token by token in one pass, over the rows of a network, with every refusal that needs
-//! no number of decimals exact.
+//! Lists of demand matrices: read token by token in one pass, over the rows of a network, with every
+//! refusal that needs no number of decimals exact.
 #![tactic(auto)]
 
 mod faults;

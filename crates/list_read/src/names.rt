@@ -24,7 +24,8 @@ fn duplicate(line: u32) -> ReadListEnd
 
 // No two of the demands have one id; else the first whose id an earlier one has.
 fn check_ids(alloc: Global, demands: &[DemandWords<'_>]) -> Result<(), ReadListEnd>
-    ensures { Finds ListKind.Duplicate (line_of (first_repeated [] (demand_ids (map demand_view demands.now)))) result }
+    ensures { Finds ListKind.Duplicate
+        (line_of (first_repeated [] (demand_ids (map demand_view demands.now)))) result }
 {
     let mut ids = IndexSet::new(alloc);
     for demand in demands {
@@ -39,7 +40,8 @@ fn check_ids(alloc: Global, demands: &[DemandWords<'_>]) -> Result<(), ReadListE
     Ok(())
 }
 
-/// No two of the matrices have one name, and no two demands of a matrix one id; else the first that an earlier one has.
+/// No two of the matrices have one name, and no two demands of a matrix one id; else the first that
+/// an earlier one has.
 pub fn check_names(alloc: Global, matrices: &[MatrixWords<'_>]) -> Result<(), ReadListEnd>
     ensures { Finds ListKind.Duplicate (repeated [] (map entry_view matrices.now)) result }
 {

@@ -1,4 +1,5 @@
-//! Matrices as they are handed out: words are slices of the list's text, nodes are numbers of the network.
+//! Matrices as they are handed out: words are slices of the list's text, nodes are numbers of the
+//! network.
 
 use sndlib_read::DemandRow;
 

@@ -32,7 +32,8 @@ fn put<'a>(
     mode: Mode,
     token: &Token<'a>,
 ) -> Result<(), AllocError>
-    ensures { OnOk result (sofar_view sofar.new ≡ put_lem mode (lexeme token.now) (sofar_view sofar.old)) }
+    ensures { OnOk result (sofar_view sofar.new
+        ≡ put_lem mode (lexeme token.now) (sofar_view sofar.old)) }
 {
     match token.kind {
         TokenKind::LeftParen => Ok(()),
@@ -65,8 +66,8 @@ fn step<'a>(
     }
 }
 
-/// What is kept of the matrices of the tokens; or the first token that no list has there, or the end, which is in line
-/// `end`.
+/// What is kept of the matrices of the tokens; or the first token that no list has there, or the
+/// end, which is in line `end`.
 pub fn scan_tokens<'a>(
     alloc: Global,
     tokens: Tokens<'a>,

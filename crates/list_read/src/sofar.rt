@@ -22,8 +22,9 @@ pub struct Draft<'a> {
     pub value: Word<'a>,
 }
 
-/// The matrices so far, and of the next one its name and its demands, with the first words of another demand. Of both no
-/// more are kept than there may be: past that only the line of the first one too many.
+/// The matrices so far, and of the next one its name and its demands, with the first words of another
+/// demand. Of both no more are kept than there may be: past that only the line of the first one too
+/// many.
 #[derive(Debug, Drop)]
 pub struct Sofar<'a> {
     pub name: Word<'a>,
@@ -71,7 +72,8 @@ impl<'a> Sofar<'a> {
 
     // The demand whose last word this is.
     fn demand(&self, longest: Word<'a>) -> DemandWords<'a>
-        ensures { demand_view result ≡ demand_of (draft_view self.now.draft) (word_view longest.entry) }
+        ensures { demand_view result
+            ≡ demand_of (draft_view self.now.draft) (word_view longest.entry) }
     {
         DemandWords {
             id: self.draft.id,
@@ -84,7 +86,8 @@ impl<'a> Sofar<'a> {
     }
 
     fn push_demand(&mut self, demand: DemandWords<'a>) -> Result<(), AllocError>
-        ensures { OnOk result (sofar_view self.new ≡ add_demand (sofar_view self.old) (demand_view demand.entry)) }
+        ensures { OnOk result (sofar_view self.new
+            ≡ add_demand (sofar_view self.old) (demand_view demand.entry)) }
     {
         if self.count < MAX_DEMANDS {
             self.demands.push(demand)?;
@@ -120,7 +123,8 @@ impl<'a> Sofar<'a> {
 
     /// At a word.
     pub fn at_word(&mut self, mode: Mode, word: Word<'a>) -> Result<(), AllocError>
-        ensures { OnOk result (sofar_view self.new ≡ put_word mode (word_view word.entry) (sofar_view self.old)) }
+        ensures { OnOk result (sofar_view self.new
+            ≡ put_word mode (word_view word.entry) (sofar_view self.old)) }
     {
         match mode {
             Mode::Between => self.name = word,
