@@ -2,6 +2,7 @@
 use Rattle.std.proofs.Common.{◌≡◌, ℕ, ◌+◌, ◌*◌, ◌/◌, ◌<◌, ◌≤◌, List, [], ◌∷◌, ◌++◌, length, get_or, map, take, Option, Some, None, refl, sym, ap, subst, ◌∙◌, arith}
 use Rattle.std.specs.List.{AllByRecursion, sum_by}
 use Rattle.std.proofs.Math.Nat.{mul-le-mul_right}
+use Rattle.std.proofs.lemmas.List.Sums.{sum_by-cons}
 use Rattle.mcf_limits.specs.declared.TheConstants.{MAX_GAP, MAX_PHASES, MAX_STEP, MAX_WORK, MAX_WORKERS}
 use Rattle.solver_run.specs.declared.options.SolveOptions.{SolveOptions}
 use Rattle.solver_run.specs.Options.{AreOptions}
@@ -16,7 +17,7 @@ pub each_solvable : (o : SolveOptions) (n : ℕ) (batch : List Matrix) → o.gap
 each_solvable o n [] gap some phases alone some_step step work within = tt
 each_solvable o n (m ∷ ms) gap some phases alone some_step step work within =
     let own = length m.net.net.commodities in
-    let sum : batch_commodities (m ∷ ms) ≡ own + batch_commodities ms = refl in
+    let sum : batch_commodities (m ∷ ms) ≡ own + batch_commodities ms = sum_by-cons (λ (k : Matrix). length k.net.net.commodities) m ms in
     let less : own ≤ n = omega (arith, sum, within) in
     (record {
       gap = gap;

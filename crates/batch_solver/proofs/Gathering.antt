@@ -9,6 +9,8 @@ use Rattle.solver_run.specs.History.{SolvedView}
 use Rattle.solver_run.specs.Options.{AreOptions}
 use Rattle.solver_run.specs.Headline.{IsSolved}
 use Rattle.list_grammar.specs.Matrices.{Matrix}
+use Rattle.std.proofs.lemmas.List.{length-map}
+use Rattle.batch_solver.specs.Asked.{AreSolvable}
 use Rattle.batch_solver.specs.Solves.{AreSolved}
 use Rattle.batch_solver.specs.Slots.{IsBlank, IsFilled}
 
@@ -62,3 +64,17 @@ solvable_at nets o i net slot h at = h.options net (slice_get-get_or nets i net 
 -- its solve, or nothing
 pub filled_by : (nets : List (Bor Network)) (o : SolveOptions) (i : ℕ) (net : Bor Network) (slot : Option SolvedView) → i < length nets → net ≡ get_or nets i net → IfSome slot (IsSolved net.now o) → IsFilled nets o i slot
 filled_by nets o i net slot lt at h = record { value = λ other e. subst (λ (n : Bor Network). IfSome slot (IsSolved n.now o)) (place_is nets i net other lt at e) h }
+
+-- the slots of all matrices, before they are solved
+pub blank_at : (o : SolveOptions) (batch : List Matrix) (nets : List (Bor Network)) (slots : List (Option SolvedView))
+    → map (λ (n : Bor Network). n.now) nets ≡ map (λ (m : Matrix). m.net.net) batch → AreSolvable batch o → length slots ≡ length batch → ((i : ℕ) → get_or slots i None ≡ None)
+    → (i : ℕ) → i < length slots → IsBlank nets o i (get_or slots i None)
+blank_at o batch nets slots same can count blank i lt = record {
+  few = omega (arith, lt, count, length-map nets (λ (n : Bor Network). n.now), length-map batch (λ (m : Matrix). m.net.net), ap (length {A = Network}) same);
+  options = λ net at. options_at o batch nets i net same can.each at;
+  blank = blank i;
+}
+
+-- the same slot, blank
+pub blank_slot : (nets : List (Bor Network)) (o : SolveOptions) (i : ℕ) (slot : Option SolvedView) → IsBlank nets o i slot → IsBlank nets o i None
+blank_slot nets o i slot h = record { few = h.few; options = h.options; blank = refl }
