@@ -8,7 +8,7 @@ use Rattle.batch_solver.proofs.Gathering.{blank_at, all_solved}
 use Rattle.batch_solver.proofs.solving.solve_batch.Goals as goal
 
 pub fill_all-requires-after_bounds : goal.fill_all-requires-after_bounds
-fill_all-requires-after_bounds g c =
+fill_all-requires-after_bounds g c κs within =
     let batch = batch_view c.args.batch.now in
     let nets = c.deref.result.now in
     let slots = c.deref_mut.result.now in
