@@ -94,12 +94,12 @@ fn tell_batch<K: Sink, G: Gate, R: Threads + Sync>(
 }
 
 // Reads the list's text on the rows of the network, and writes what came of it.
-fn batch_on<K: Sink, G: Gate, R: Threads + Sync>(
+fn batch_on<'a, K: Sink, G: Gate, R: Threads + Sync>(
     rt: &R,
     alloc: Global,
-    rows: &RawNet<'_>,
+    rows: &RawNet<'a>,
     request: &Request,
-    text: &[u8],
+    text: &'a [u8],
     out: &mut K,
     gate: &G,
 ) -> Ended

@@ -1,26 +1,25 @@
 -- The best certificate of valid ones: it is a certificate, and can be written.
-use Rattle.std.proofs.Common.{◌≡◌, ◌≤◌, ◌<◌, ℕ, zero, suc, ◌+◌, Bool, true, false, cond, List, [], ◌∷◌, ◌++◌, length, get_or, Option, Some, None, inl, inr, refl, sym, ap, subst, ◌∙◌, arith}
-use Rattle.std.specs.Prelude.{All, IfSome, IsTrue, map, option_to_list}
-use Rattle.std.specs.List.{AllByRecursion, filter_map, flat_map}
+use Rattle.std.proofs.Common.{◌≡◌, ◌≤◌, ℕ, true, List, [], ◌∷◌, Option, Some, None, inl, inr, refl, subst, arith}
+use Rattle.std.specs.Prelude.{All, IfSome, IsTrue, option_to_list}
+use Rattle.std.specs.List.{flat_map}
 use Rattle.std.proofs.lemmas.List.Elements.{All-append, All-cons, All-from_recursion, All-head, All-weaker}
 use Rattle.mcf_limits.specs.declared.TheConstants.{MAX_LENGTH}
 use Rattle.flow_model.specs.declared.net.Cell.{Cell}
-use Rattle.flow_model.specs.Network.{Network, IsNetwork}
-use Rattle.flow_paths.specs.DualRows.{Length, Potential, DualRows}
+use Rattle.flow_paths.specs.DualRows.{Length, Potential}
 use Rattle.flow_paths.specs.declared.certificate.Proof.{Proof}
 use Rattle.flow_paths.specs.Certificate.{upper_of}
-use Rattle.sndlib_grammar.specs.Rows.{NetRows, NetLink, NetDemand}
+use Rattle.sndlib_grammar.specs.Rows.{NetRows, NetLink}
 use Rattle.unit_scale.specs.declared.modes.LinkMode.{LinkMode}
 use Rattle.unit_scale.specs.declared.modes.LinkMode.TheVariants.{Directed, Undirected, Bidirected}
 use Rattle.unit_scale.specs.declared.modes.Sign.TheVariants.{Both}
 use Rattle.unit_scale.specs.declared.options.NetOptions.{NetOptions}
-use Rattle.unit_scale.specs.Sizes.{decimals_of, is_left_out, sizes}
-use Rattle.unit_scale.specs.Scaling.{ScaledNet, capacity_in, cell_going, cells_of_link, commodity_of, kept_from, link_cells, scaled_with}
+use Rattle.unit_scale.specs.Sizes.{decimals_of, sizes}
+use Rattle.unit_scale.specs.Scaling.{ScaledNet, capacity_in, cell_going, cells_of_link, link_cells}
 use Rattle.cut_bound.specs.Laws.{GoBothWays, IsBetter, IsSmall}
-use Rattle.cut_bound.specs.Tightened.{IsCertificateOf, IsTightened}
+use Rattle.cut_bound.specs.Tightened.{IsCertificateOf}
 use Rattle.cut_bound.proofs.Keeping.{routing-kept, tightened-small}
 use Rattle.cut_bound.proofs.Tightening.{tightened-best}
-use Rattle.cert_lines.specs.Sheet.{IsOf, Sheet, demand_word, sheet_of, signed_words}
+use Rattle.cert_lines.specs.Sheet.{IsOf, Sheet, sheet_of}
 use Rattle.cert_lines.specs.Spelling.{FitsLength, FitsPotential}
 use Rattle.cert_writer.specs.Text.{FitsProof, FitsRouting}
 use Rattle.cert_check.proofs.Sound.{valid_certifies}

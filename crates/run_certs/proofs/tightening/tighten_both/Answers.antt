@@ -1,4 +1,4 @@
-use Rattle.std.proofs.Common.{rules, ◌∷◌, [], inl, inr, refl}
+use Rattle.std.proofs.Common.{rules, inl, inr, refl}
 use Rattle.cert_judge.specs.declared.second.Second.TheVariants.{Valid, Refused, Invalid}
 use Rattle.cert_judge.specs.Second.{IsSecondText, with_net}
 use Rattle.mcf_limits.specs.declared.TheConstants.{MAX_CERT_BYTES}

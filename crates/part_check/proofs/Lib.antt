@@ -1,0 +1,5 @@
+pub mod Totals
+pub mod Excess
+pub mod Sound
+pub mod Certified
+pub mod Within

@@ -1,0 +1,4 @@
+pub mod Partial
+pub mod Conditions
+pub mod Verdicts
+pub mod Laws
