@@ -18,17 +18,19 @@ each_solvable o n [] gap some phases alone some_step step work within = tt
 each_solvable o n (m ∷ ms) gap some phases alone some_step step work within =
     let own = length m.net.net.commodities in
     let sum : batch_commodities (m ∷ ms) ≡ own + batch_commodities ms = sum_by-cons (λ (k : Matrix). length k.net.net.commodities) m ms in
-    let less : own ≤ n = omega (arith, sum, within) in
-    (record {
-      gap = gap;
-      some_phase = some;
-      phases = phases;
-      some_worker = omega arith;
-      workers = omega arith;
-      some_step = some_step;
-      step = step;
-      work = omega (arith, work, mul-le-mul_right o.phases less);
-    }, each_solvable o n ms gap some phases alone some_step step work (omega (arith, sum, within)))
+    let less : own ≤ n = omega (arith, sum, within) in (
+      record {
+        gap = gap;
+        some_phase = some;
+        phases = phases;
+        some_worker = omega arith;
+        workers = omega arith;
+        some_step = some_step;
+        step = step;
+        work = omega (arith, work, mul-le-mul_right o.phases less);
+      },
+      each_solvable o n ms gap some phases alone some_step step work (omega (arith, sum, within)),
+    )
 
 -- the options that are asked serve each matrix
 pub solvable : (a : BatchAsked) (batch : List Matrix) (n phases : ℕ) → IsBatchAsked a → n ≡ batch_commodities batch → (1 ≤ phases) × (phases ≤ MAX_PHASES) → n * phases ≤ MAX_WORK

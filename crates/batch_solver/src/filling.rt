@@ -85,12 +85,10 @@ pub fn fill_all<G: Gate, R: Threads + Sync>(
         &|first: usize, part: &mut [Option<Solved>]|
             requires { IsSync R.row × IsSync G.row
                 × ((i : ℕ) → i < length part.now
-                    → IsBlank nets.now options.now (first + i) (slice_index_or part.now i None)) }
+                → IsBlank nets.now options.now (first + i) (slice_index_or part.now i None)) }
             ensures { (i : ℕ) → i < length part.entry.now
                 → IsFilled nets.entry.now options.entry.now (first + i) (slice_index_or part.exit.now i None) }
-        {
-            fill_slots(rt, alloc, nets, options, gate, first, part)
-        },
+        { fill_slots(rt, alloc, nets, options, gate, first, part) },
     );
 }
 

@@ -8,7 +8,8 @@ use crate::ended::Ended;
 use crate::outcome::{Outcome, Paper};
 use crate::saying::say;
 use crate::tell_judged::{
-    tell_judged, tell_list_refusal, tell_net_refusal, tell_script_refusal, tell_second_fault, tell_second_refusal,
+    tell_judged, tell_list_refusal, tell_net_refusal, tell_script_refusal, tell_second_fault,
+    tell_second_refusal,
 };
 use mcf_base::Sink;
 use text_lines::Word;
