@@ -1,5 +1,5 @@
 -- What is asked of the solves of a batch.
-use Rattle.std.specs.Prelude.{◌≡◌, ℕ, ◌*◌, ◌/◌, ◌≤◌, ◌==◌, List, length, min, Option, Some, None, IfSome, if◌then◌else◌}
+use Rattle.std.specs.Prelude.{◌≡◌, ℕ, ◌/◌, ◌≤◌, ◌==◌, List, min, Option, Some, None, IfSome, if◌then◌else◌}
 use Rattle.std.specs.List.{AllByRecursion}
 use Rattle.mcf_limits.specs.declared.TheConstants.{DEFAULT_PHASES, MAX_GAP, MAX_PHASES, MAX_STEP, MAX_WORK}
 use Rattle.list_grammar.specs.Matrices.{Matrix}

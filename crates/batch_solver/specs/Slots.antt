@@ -1,5 +1,5 @@
 -- A place for the solve of a matrix, on the way to all of them.
-use Rattle.std.specs.Prelude.{◌≡◌, ℕ, ◌<◌, List, length, map, Option, None, Some, IfSome, slice_get}
+use Rattle.std.specs.Prelude.{◌≡◌, ℕ, ◌<◌, List, length, Option, None, Some, IfSome, slice_get}
 use Rattle.std.specs.Borrow.{Bor}
 use Rattle.flow_model.specs.Network.{Network}
 use Rattle.solver_run.specs.declared.options.SolveOptions.{SolveOptions}

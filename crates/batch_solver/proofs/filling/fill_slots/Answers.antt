@@ -1,4 +1,4 @@
-use Rattle.std.proofs.Common.{◌+◌, ◌<◌, None, length, get_or, arith}
+use Rattle.std.proofs.Common.{◌+◌, None, get_or, arith}
 use Rattle.batch_solver.proofs.Gathering.{blank_slot}
 use Rattle.batch_solver.proofs.filling.fill_slots.Goals as goal
 
