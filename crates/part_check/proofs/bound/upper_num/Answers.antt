@@ -14,7 +14,7 @@ row_places-requires-clause-once c = λ v lt.
     let few = cond_le (is_source c.args.net.now.commodities v) in
     omega arith
 
-pub weighted_excess-excess-requires-clause-rows : goal.weighted_excess-above-requires-clause-rows
+pub weighted_excess-excess-requires-clause-rows : goal.weighted_excess-excess-requires-clause-rows
 weighted_excess-excess-requires-clause-rows c = λ k d lt.
     let rows = c.args.bound.now.dual.potentials in
     let commodities = c.args.net.now.commodities in
