@@ -1,1 +1,1 @@
-pub mod Batching
+pub mod Solved

@@ -130,7 +130,7 @@ pub fn batch<F: Shelf, K: Sink, G: Gate, R: Threads + Sync>(
     gate: &G,
 ) -> Ended
     requires asked { IsBatchAsked (batch_asked_of request.now) }
-    ensures { IsTold (OfBatch files.net.now files.list.now request.now (F.seen shelf.old) (F.seen shelf.new))
+    ensures { IsTold (OfBatch files.entry.net.now files.entry.list.now request.now (F.seen shelf.old) (F.seen shelf.new))
         (K.seen out.old) (K.seen out.new) result }
 {
     let text = match file_text(alloc, shelf, files.net, MAX_NET_BYTES, Paper::Network) {
