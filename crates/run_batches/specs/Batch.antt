@@ -9,6 +9,9 @@ use Rattle.list_grammar.specs.Refusals.{BatchRefusal, InNet, InList}
 use Rattle.list_grammar.specs.Matrices.{Matrix}
 use Rattle.list_grammar.specs.Batch.{IsBatch, IsBatchTooMuch}
 use Rattle.solver_run.specs.History.{SolvedView}
+use Rattle.sndlib_grammar.specs.declared.refusal.NetRefusal.{NetRefusal}
+use Rattle.matrix_batch.specs.declared.refusal.BatchEnd.{BatchEnd}
+use Rattle.matrix_batch.specs.declared.refusal.BatchEnd.TheVariants.{Net, List as OfListEnd, Memory as NoMemory}
 use Rattle.matrix_batch.specs.Answer.{AreOwn}
 use Rattle.batch_solver.specs.declared.asked.BatchAsked.{BatchAsked}
 use Rattle.batch_solver.specs.Asked.{batch_options}
@@ -52,6 +55,11 @@ abbrev pub OnList : Request → NetRows → List ℕ → Answer → Type 0
 OnList request rows text answer =
     (found : Result (List Matrix) BatchRefusal) × IsBatch rows request.net text found × OnBatch request.net (batch_asked_of request) found answer
 
+-- the network's text is refused, or the list's text answers on its rows
+abbrev pub OnTexts : Request → Result NetRows NetRefusal → List ℕ → Answer → Type 0
+OnTexts request (Err r) list answer = answer ≡ answer_of (NetRefused r)
+OnTexts request (Ok rows) list answer = OnList request rows list answer
+
 -- the answer of the list's file
 abbrev pub OfList : Request → NetRows → List ℕ → ShelfView → ShelfView → Answer → Type 0
 OfList request rows list old new answer =
@@ -66,3 +74,9 @@ abbrev pub GivesSolves : NetOptions → BatchAsked → List Matrix → Result (V
 GivesSolves o asked batch (Ok many) = AreBatchSolves o asked batch many.items
 GivesSolves o asked batch (Err outcome) =
     (outcome ≡ Memory) ⊎ ((n : ℕ) × IsBatchTooMuch batch asked.phases n × (outcome ≡ TooMuch n))
+
+-- what one line tells of a list that gives no batch
+abbrev pub outcome_of : BatchEnd → Outcome
+outcome_of (Net r) = NetRefused r
+outcome_of (OfListEnd r) = ListRefused r
+outcome_of NoMemory = Memory

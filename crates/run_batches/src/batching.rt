@@ -2,13 +2,14 @@
 
 ghost use Rattle.std.specs.Prelude.{◌≡◌, ◌≤◌, length};
 ghost use Rattle.std.specs.List.{AllZip};
+ghost use Rattle.sndlib_grammar.specs.Net.{rows_of};
 ghost use Rattle.sndlib_grammar.specs.Rows.{AreNetRows};
 ghost use Rattle.matrix_batch.specs.Answer.{AreOwn};
 ghost use Rattle.matrix_batch.specs.Views.{batch_view};
 ghost use Rattle.batch_solver.specs.Asked.{IsBatchAsked};
 ghost use Rattle.batch_solver.specs.Solves.{IsSolvedMatrix};
 ghost use Rattle.run_base.specs.Answer.{IsTold, OrWant, Writes};
-ghost use Rattle.run_batches.specs.Batch.{GivesSolves, OfBatch, OnList, SolvesBatch, batch_answer, batch_asked_of};
+ghost use Rattle.run_batches.specs.Batch.{GivesSolves, OfBatch, OnList, OnTexts, SolvesBatch, batch_answer, batch_asked_of, outcome_of as outcome_of_lem};
 
 use batch_solver::{BatchAsked, batch_status, options_of, solve_batch, write_batch};
 use flow_solver::Solved;
@@ -93,6 +94,17 @@ fn tell_batch<K: Sink, G: Gate, R: Threads + Sync>(
     }
 }
 
+// What one line tells of a list that gives no batch.
+fn outcome_of(end: BatchEnd) -> Outcome
+    ensures { result ≡ outcome_of_lem end }
+{
+    match end {
+        BatchEnd::Net(refusal) => Outcome::NetRefused(refusal),
+        BatchEnd::List(refusal) => Outcome::ListRefused(refusal),
+        BatchEnd::Memory => Outcome::Memory,
+    }
+}
+
 // Reads the list's text on the rows of the network, and writes what came of it.
 fn batch_on<'a, K: Sink, G: Gate, R: Threads + Sync>(
     rt: &R,
@@ -110,9 +122,28 @@ fn batch_on<'a, K: Sink, G: Gate, R: Threads + Sync>(
 {
     match read_batch(alloc, rows, request.net, text) {
         Ok(batch) => tell_batch(rt, alloc, &batch, request, out, gate),
-        Err(BatchEnd::Net(refusal)) => tell(out, Outcome::NetRefused(refusal)),
-        Err(BatchEnd::List(refusal)) => tell(out, Outcome::ListRefused(refusal)),
-        Err(BatchEnd::Memory) => tell(out, Outcome::Memory),
+        Err(end) => tell(out, outcome_of(end)),
+    }
+}
+
+// Reads both texts, and writes what came of them. Their rows share one lifetime, so the network is read again here.
+fn batch_texts<'a, K: Sink, G: Gate, R: Threads + Sync>(
+    rt: &R,
+    alloc: Global,
+    net: &'a [u8],
+    request: &Request,
+    list: &'a [u8],
+    out: &mut K,
+    gate: &G,
+) -> Ended
+    requires net { length net.now ≤ MAX_NET_BYTES }
+    requires list { length list.now ≤ MAX_LIST_BYTES }
+    requires asked { IsBatchAsked (batch_asked_of request.now) }
+    ensures { IsTold (OrWant (OnTexts request.now (rows_of net.now) list.now)) (K.seen out.old) (K.seen out.new) result }
+{
+    match net_rows(alloc, net) {
+        Ok(rows) => batch_on(rt, alloc, &rows, request, list, out, gate),
+        Err(outcome) => tell(out, outcome),
     }
 }
 
@@ -133,16 +164,17 @@ pub fn batch<F: Shelf, K: Sink, G: Gate, R: Threads + Sync>(
     ensures { IsTold (OfBatch files.entry.net.now files.entry.list.now request.now (F.seen shelf.old) (F.seen shelf.new))
         (K.seen out.old) (K.seen out.new) result }
 {
-    let text = match file_text(alloc, shelf, files.net, MAX_NET_BYTES, Paper::Network) {
+    let BatchFiles { net, list } = files;
+    let text = match file_text(alloc, shelf, net, MAX_NET_BYTES, Paper::Network) {
         Ok(text) => text,
         Err(outcome) => return tell(out, outcome),
     };
-    let rows = match net_rows(alloc, &text) {
-        Ok(rows) => rows,
+    match net_rows(alloc, &text) {
+        Ok(_rows) => {}
         Err(outcome) => return tell(out, outcome),
-    };
-    match file_text(alloc, shelf, files.list, MAX_LIST_BYTES, Paper::List) {
-        Ok(list) => batch_on(rt, alloc, &rows, request, &list, out, gate),
+    }
+    match file_text(alloc, shelf, list, MAX_LIST_BYTES, Paper::List) {
+        Ok(list) => batch_texts(rt, alloc, &text, request, &list, out, gate),
         Err(outcome) => tell(out, outcome),
     }
 }

@@ -1,4 +1,4 @@
-use Rattle.std.proofs.Common.{rules, subst, ◌∙◌, ap}
+use Rattle.std.proofs.Common.{subst, ◌∙◌, ap}
 use Rattle.matrix_batch.specs.Views.{batch_view}
 use Rattle.solver_run.specs.declared.options.SolveOptions.{SolveOptions}
 use Rattle.batch_solver.specs.declared.asked.BatchAsked.{BatchAsked}
@@ -12,6 +12,6 @@ returns-in-Ok-solve_batch g c =
     let same = c.in-Ok.ensures.options ∙ ap (λ (a : BatchAsked). batch_options batch a) c.batch_asked_by.ensures in
     record {
       own = c.requires.own;
-      work = search rules;
+      work = λ n much. (rw c.batch_asked_by.ensures at c.in-Ok.ensures.within) (n, much);
       solved = subst (λ (o : SolveOptions). AreSolved o batch c.in-Ok-solve_batch.many.items) same c.in-Ok-solve_batch.ensures;
     }
