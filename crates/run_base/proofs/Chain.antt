@@ -9,7 +9,6 @@ use Rattle.sndlib_grammar.specs.Net.{rows_of}
 use Rattle.run_base.specs.declared.outcome.Paper.{Paper}
 use Rattle.run_base.specs.declared.outcome.Paper.TheVariants.{Network}
 use Rattle.run_base.specs.declared.outcome.Outcome.{Outcome}
-use Rattle.run_base.specs.declared.outcome.Outcome.TheVariants.{NetRefused}
 use Rattle.run_base.specs.Answer.{Answer, answer_of}
 use Rattle.run_base.specs.Files.{Finds, OfFile, OfNet, OnRows, OrMemory, GivesRows}
 

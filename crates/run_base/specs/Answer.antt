@@ -12,7 +12,7 @@ use Rattle.run_base.specs.declared.outcome.Paper.{Paper}
 use Rattle.run_base.specs.declared.outcome.Paper.TheVariants as papers
 use Rattle.run_base.specs.declared.outcome.Outcome.{Outcome}
 use Rattle.run_base.specs.declared.outcome.Outcome.TheVariants as outcomes
-use Rattle.run_base.specs.Judged.{net_refused, script_refused, second_refused, second_invalid, judged_words, judged_status}
+use Rattle.run_base.specs.Judged.{net_refused, script_refused, list_refused, second_refused, second_invalid, judged_words, judged_status}
 
 pub record Answer : Type 0 where
   pub status : ℕ
@@ -25,6 +25,7 @@ paper_word papers.Network = codes "net"
 paper_word papers.Certificate = codes "cert"
 paper_word papers.Second = codes "cert2"
 paper_word papers.Script = codes "script"
+paper_word papers.List = codes "list"
 
 -- the line of work over its limit
 abbrev pub work_refused : ℕ → Line
@@ -39,6 +40,7 @@ words_of (outcomes.TooLong paper) = codes "refused" ∷ paper_word paper ∷ cod
 words_of (outcomes.NetRefused r) = net_refused r
 words_of (outcomes.TooMuch work) = work_refused work
 words_of (outcomes.ScriptRefused r) = script_refused r
+words_of (outcomes.ListRefused r) = list_refused r
 words_of (outcomes.Judged judged) = judged_words judged
 words_of (outcomes.SecondRefused r) = second_refused r
 words_of (outcomes.SecondInvalid fault) = second_invalid fault
@@ -51,6 +53,7 @@ status_of (outcomes.TooLong paper) = 3
 status_of (outcomes.NetRefused r) = 3
 status_of (outcomes.TooMuch work) = 3
 status_of (outcomes.ScriptRefused r) = 3
+status_of (outcomes.ListRefused r) = 3
 status_of (outcomes.Judged judged) = judged_status judged
 status_of (outcomes.SecondRefused r) = 3
 status_of (outcomes.SecondInvalid fault) = 1

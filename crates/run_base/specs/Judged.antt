@@ -11,6 +11,9 @@ use Rattle.sndlib_grammar.specs.declared.refusal.NetRefusal.{NetRefusal}
 use Rattle.cert_lines.specs.declared.refusal.CertKind.{CertKind}
 use Rattle.cert_lines.specs.declared.refusal.CertKind.TheVariants as texts
 use Rattle.cert_lines.specs.declared.refusal.CertRefusal.{CertRefusal}
+use Rattle.list_grammar.specs.declared.refusal.ListKind.{ListKind}
+use Rattle.list_grammar.specs.declared.refusal.ListKind.TheVariants as lists
+use Rattle.list_grammar.specs.declared.refusal.ListRefusal.{ListRefusal}
 use Rattle.script.specs.declared.refusal.ScriptKind.{ScriptKind}
 use Rattle.script.specs.declared.refusal.ScriptKind.TheVariants as scripts
 use Rattle.script.specs.declared.refusal.ScriptRefusal.{ScriptRefusal}
@@ -70,6 +73,20 @@ script_kind_word scripts.BadNumber = codes "S3"
 script_kind_word scripts.TooFine = codes "S4"
 script_kind_word scripts.TooLarge = codes "S5"
 script_kind_word scripts.BelowZero = codes "S6"
+
+-- the short name of each refusal of a list
+abbrev pub list_kind_word : ListKind → List ℕ
+list_kind_word lists.Syntax = codes "M1"
+list_kind_word lists.TooMany = codes "M2"
+list_kind_word lists.Duplicate = codes "M3"
+list_kind_word lists.UnknownNode = codes "M4"
+list_kind_word lists.BadNumber = codes "M5"
+list_kind_word lists.TooFine = codes "M6"
+list_kind_word lists.TooLarge = codes "M7"
+list_kind_word lists.NoDemand = codes "M8"
+
+abbrev pub list_refused : ListRefusal → Line
+list_refused r = codes "refused" ∷ codes "list" ∷ list_kind_word r.kind ∷ codes "line" ∷ decimal r.line ∷ []
 
 abbrev pub script_refused : ScriptRefusal → Line
 script_refused r = codes "refused" ∷ codes "script" ∷ script_kind_word r.kind ∷ codes "line" ∷ decimal r.line ∷ []

@@ -1,17 +1,19 @@
 //! What a run found, where one line tells it.
 
 use cert_judge::{CertRefusal, Fault, Judged};
+use list_grammar::ListRefusal;
 use script::ScriptRefusal;
 use sndlib_read::NetRefusal;
 use std::alloc::AllocError;
 
-/// A kind of file: a network, a certificate or a routing, a second certificate, a script.
+/// A kind of file: a network, a certificate or a routing, a second certificate, a script, a list of demand matrices.
 #[derive(Clone, Copy, Debug, PartialEq, Eq)]
 pub enum Paper {
     Network,
     Certificate,
     Second,
     Script,
+    List,
 }
 
 /// What one line tells.
@@ -27,6 +29,7 @@ pub enum Outcome {
     /// There would be so many commodities times phases.
     TooMuch(u64),
     ScriptRefused(ScriptRefusal),
+    ListRefused(ListRefusal),
     /// What is said of a certificate.
     Judged(Judged),
     /// The text of a second certificate has a fault.

@@ -5,12 +5,13 @@ ghost use Rattle.text_lines.specs.Lines.{spelled};
 ghost use Rattle.text_lines.specs.Spelling.{millionths_word};
 ghost use Rattle.cert_judge.specs.declared.judged.Judged.TheVariants as JudgedIs;
 ghost use Rattle.run_base.specs.Answer.{Writes, line_answer};
-ghost use Rattle.run_base.specs.Judged.{kind_word as kind_word_lem, cert_kind_word as cert_kind_word_lem, fault_word as fault_word_lem, verdict_word as verdict_word_lem, script_kind_word as script_kind_word_lem, net_refused, script_refused, text_refused, cert_refused, second_refused, second_invalid, judged_words, judged_status};
+ghost use Rattle.run_base.specs.Judged.{kind_word as kind_word_lem, cert_kind_word as cert_kind_word_lem, fault_word as fault_word_lem, verdict_word as verdict_word_lem, script_kind_word as script_kind_word_lem, list_kind_word as list_kind_word_lem, net_refused, script_refused, list_refused, text_refused, cert_refused, second_refused, second_invalid, judged_words, judged_status};
 
 use crate::ended::Ended;
 use crate::saying::say;
 use cert_judge::{CertKind, CertRefusal, Fault, Judged};
 use gap_fraction::{Frac, Shown};
+use list_grammar::{ListKind, ListRefusal};
 use mcf_base::Sink;
 use script::{ScriptKind, ScriptRefusal};
 use sndlib_read::{NetKind, NetRefusal};
@@ -120,6 +121,30 @@ pub fn tell_script_refusal<K: Sink>(out: &mut K, refusal: ScriptRefusal) -> Ende
         b"line",
         line.bytes(),
     ];
+    say(out, b"refused", &words, 3)
+}
+
+fn list_kind_word(kind: ListKind) -> &'static [u8]
+    ensures { result.now ≡ list_kind_word_lem kind }
+{
+    match kind {
+        ListKind::Syntax => b"M1",
+        ListKind::TooMany => b"M2",
+        ListKind::Duplicate => b"M3",
+        ListKind::UnknownNode => b"M4",
+        ListKind::BadNumber => b"M5",
+        ListKind::TooFine => b"M6",
+        ListKind::TooLarge => b"M7",
+        ListKind::NoDemand => b"M8",
+    }
+}
+
+/// Writes the line of a list's refusal.
+pub fn tell_list_refusal<K: Sink>(out: &mut K, refusal: ListRefusal) -> Ended
+    ensures { Writes (K.seen out.old) (K.seen out.new) result (line_answer 3 (list_refused refusal)) }
+{
+    let line = Word::number(refusal.line as u128);
+    let words: [&[u8]; 4] = [b"list", list_kind_word(refusal.kind), b"line", line.bytes()];
     say(out, b"refused", &words, 3)
 }
 

@@ -8,7 +8,8 @@ use crate::ended::Ended;
 use crate::outcome::{Outcome, Paper};
 use crate::saying::say;
 use crate::tell_judged::{
-    tell_judged, tell_net_refusal, tell_script_refusal, tell_second_fault, tell_second_refusal,
+    tell_judged, tell_list_refusal, tell_net_refusal, tell_script_refusal, tell_second_fault,
+    tell_second_refusal,
 };
 use mcf_base::Sink;
 use text_lines::Word;
@@ -21,6 +22,7 @@ fn paper_word(paper: Paper) -> &'static [u8]
         Paper::Certificate => b"cert",
         Paper::Second => b"cert2",
         Paper::Script => b"script",
+        Paper::List => b"list",
     }
 }
 
@@ -45,6 +47,7 @@ pub fn tell<K: Sink>(out: &mut K, outcome: Outcome) -> Ended
         Outcome::NetRefused(refusal) => tell_net_refusal(out, refusal),
         Outcome::TooMuch(work) => tell_work(out, work),
         Outcome::ScriptRefused(refusal) => tell_script_refusal(out, refusal),
+        Outcome::ListRefused(refusal) => tell_list_refusal(out, refusal),
         Outcome::Judged(judged) => tell_judged(out, judged),
         Outcome::SecondRefused(refusal) => tell_second_refusal(out, refusal),
         Outcome::SecondInvalid(fault) => tell_second_fault(out, fault),

@@ -1,0 +1,4 @@
+pub mod Telling
+pub mod Batched
+pub mod Stepping
+pub mod Answered

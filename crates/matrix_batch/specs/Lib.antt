@@ -1,0 +1,4 @@
+pub mod Views
+pub mod Scaling
+pub mod Steps
+pub mod Answer

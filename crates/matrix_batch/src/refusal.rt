@@ -1,0 +1,12 @@
+//! Why a list gives no batch.
+
+use list_read::ListRefusal;
+use sndlib_read::NetRefusal;
+
+/// Why a list gives no batch: a link of the network is too fine, the list is refused, or memory ran out.
+#[derive(Clone, Copy, Debug)]
+pub enum BatchEnd {
+    Net(NetRefusal),
+    List(ListRefusal),
+    Memory,
+}
