@@ -9,7 +9,7 @@ use Rattle.unit_scale.specs.declared.modes.LinkMode.TheVariants.{Undirected}
 use Rattle.unit_scale.specs.declared.modes.ModuleMode.{ModuleMode}
 use Rattle.unit_scale.specs.declared.modes.ModuleMode.TheVariants.{Largest}
 use Rattle.mcf_words.specs.declared.request.Command.{Command}
-use Rattle.mcf_words.specs.declared.request.Command.TheVariants.{Solve, Check, WhatIf, Upgrade, Tighten, Sweep, SweepSolve, Print, Gen, Trial}
+use Rattle.mcf_words.specs.declared.request.Command.TheVariants.{Solve, Check, WhatIf, Upgrade, Tighten, Batch, Sweep, SweepSolve, Print, Gen, Trial}
 use Rattle.mcf_words.specs.declared.request.Request.{Request}
 use Rattle.mcf_words.specs.Items.{Items, Setting, items_of}
 use Rattle.mcf_words.specs.Values.{choice, gap_of, number_in, values_of}
@@ -292,6 +292,7 @@ command_again Check = refl
 command_again WhatIf = refl
 command_again Upgrade = refl
 command_again Tighten = refl
+command_again Batch = refl
 command_again Sweep = refl
 command_again SweepSolve = refl
 command_again Print = refl

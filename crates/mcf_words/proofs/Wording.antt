@@ -15,7 +15,7 @@ use Rattle.mcf_limits.specs.declared.TheConstants.{MAX_GAP, MAX_NODES, MAX_LINKS
 use Rattle.sndlib_grammar.specs.Number.{Number, behind_digits, behind_whole, front_digits, number_of, plain}
 use Rattle.unit_scale.specs.Modes.{link_word, module_word}
 use Rattle.mcf_words.specs.declared.request.Command.{Command}
-use Rattle.mcf_words.specs.declared.request.Command.TheVariants.{Solve, Check, WhatIf, Upgrade, Tighten, Sweep, SweepSolve, Print, Gen, Trial}
+use Rattle.mcf_words.specs.declared.request.Command.TheVariants.{Solve, Check, WhatIf, Upgrade, Tighten, Batch, Sweep, SweepSolve, Print, Gen, Trial}
 use Rattle.mcf_words.specs.declared.request.Request.{Request}
 use Rattle.mcf_words.specs.Items.{Setting}
 use Rattle.mcf_words.specs.Values.{values_of}
@@ -194,6 +194,7 @@ settings_for Check r = []
 settings_for WhatIf r = []
 settings_for Upgrade r = []
 settings_for Tighten r = []
+settings_for Batch r = settings_with r r.phases r.workers
 settings_for Sweep r = []
 settings_for SweepSolve r = settings_with r r.phases r.workers
 settings_for Print r = []
@@ -206,6 +207,7 @@ parts_for Check r plain none = without_options Check plain
 parts_for WhatIf r plain none = without_options WhatIf plain
 parts_for Upgrade r plain none = without_options Upgrade plain
 parts_for Tighten r plain none = without_options Tighten plain
+parts_for Batch r plain none = with_options Batch r plain (by_place_alone Batch refl) (subst (MayWork Batch) (sym (none refl)) tt)
 parts_for Sweep r plain none = without_options Sweep plain
 parts_for SweepSolve r plain none = with_options SweepSolve r plain (by_place_alone SweepSolve refl) (subst (MayWork SweepSolve) (sym (none refl)) tt)
 parts_for Print r plain none = without_options Print plain
@@ -279,6 +281,7 @@ module _ (r : Request) (limits : IsWithinLimits r) where
   options_said WhatIf none = none_said (none refl)
   options_said Upgrade none = none_said (none refl)
   options_said Tighten none = none_said (none refl)
+  options_said Batch none = all_said r.phases r.workers refl refl
   options_said Sweep none = none_said (none refl)
   options_said SweepSolve none = all_said r.phases r.workers refl refl
   options_said Print none = none_said (none refl)

@@ -27,12 +27,13 @@ static ONE_WORKER_OPTIONS: [&str; 5] = [LINKS, MODULES, GAP, PHASES, STEP];
 
 static NO_OPTIONS: [&str; 0] = [];
 
-static COMMANDS: [Command; 10] = [
+static COMMANDS: [Command; 11] = [
     Command::Solve,
     Command::Check,
     Command::WhatIf,
     Command::Upgrade,
     Command::Tighten,
+    Command::Batch,
     Command::Sweep,
     Command::SweepSolve,
     Command::Print,
@@ -95,6 +96,7 @@ pub fn form_of(command: Command) -> Form
         Command::WhatIf => takes(b"whatif", 3, NO_OPTIONS.as_slice()),
         Command::Upgrade => takes(b"upgrade", 2, NO_OPTIONS.as_slice()),
         Command::Tighten => takes_some(b"tighten", 2, 3, NO_OPTIONS.as_slice()),
+        Command::Batch => takes(b"batch", 2, ONE_WORKER_OPTIONS.as_slice()),
         Command::Sweep => takes(b"sweep", 2, NO_OPTIONS.as_slice()),
         Command::SweepSolve => takes(b"sweepsolve", 1, ONE_WORKER_OPTIONS.as_slice()),
         Command::Print => takes(b"print", 1, NO_OPTIONS.as_slice()),

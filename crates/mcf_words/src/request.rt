@@ -16,6 +16,7 @@ pub enum Command {
     WhatIf,
     Upgrade,
     Tighten,
+    Batch,
     Sweep,
     SweepSolve,
     Print,
