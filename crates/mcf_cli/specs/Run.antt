@@ -3,7 +3,7 @@ use Rattle.std.specs.Prelude.{◌≡◌, ℕ, List, [], Option, Some, None, slic
 use Rattle.mcf_base.specs.Shelf.{ShelfView}
 use Rattle.mcf_base.specs.Sink.{SinkView}
 use Rattle.mcf_words.specs.declared.request.Command.{Command}
-use Rattle.mcf_words.specs.declared.request.Command.TheVariants.{Solve, Check, WhatIf, Upgrade, Tighten, Sweep, SweepSolve, Print, Gen, Trial}
+use Rattle.mcf_words.specs.declared.request.Command.TheVariants.{Solve, Check, WhatIf, Upgrade, Tighten, Batch, Sweep, SweepSolve, Print, Gen, Trial}
 use Rattle.mcf_words.specs.declared.request.Request.{Request}
 use Rattle.mcf_words.specs.Request.{request_of}
 use Rattle.run_base.specs.declared.ended.Ended.{Ended}
@@ -15,6 +15,7 @@ use Rattle.run_solves.specs.Solve.{OfSolve}
 use Rattle.run_solves.specs.Drawn.{gen_answer, OfTrial}
 use Rattle.run_certs.specs.Check.{OfCheck}
 use Rattle.run_certs.specs.Tighten.{OfTighten}
+use Rattle.run_batches.specs.Batch.{OfBatch}
 use Rattle.run_certs.specs.Upgrade.{OfUpgrade}
 use Rattle.run_certs.specs.WhatIf.{OfWhatIf}
 use Rattle.run_sweeps.specs.Sweep.{OfSweep}
@@ -39,6 +40,7 @@ OfCommand Trial request old new answer = Ends (OfTrial request) old new answer
 OfCommand Upgrade request old new answer = OfUpgrade (file_at request 0) (file_at request 1) old new answer
 OfCommand Tighten request old new answer =
     OfTighten (file_at request 0) (file_at request 1) (file_if request 2) old new answer
+OfCommand Batch request old new answer = OfBatch (file_at request 0) (file_at request 1) request old new answer
 OfCommand Sweep request old new answer = OfSweep (file_at request 0) (file_at request 1) old new answer
 OfCommand SweepSolve request old new answer = OfSweepSolve (file_at request 0) request old new answer
 OfCommand WhatIf request old new answer =

@@ -8,6 +8,7 @@ ghost use Rattle.mcf_cli.specs.Run.{OfCommand, RunEnds};
 use mcf_base::{Gate, Shelf, Sink};
 use mcf_words::{Command, Request, WordsEnd, read_words};
 use run_base::{Ended, Outcome, tell};
+use run_batches::{BatchFiles, batch};
 use run_certs::{check, tighten, upgrade, whatif_files};
 use run_solves::{gen_net, print, solve_file, trial};
 use run_sweeps::{sweep, sweepsolve};
@@ -53,6 +54,13 @@ fn run_command<F: Shelf, K: Sink, G: Gate, R: Threads + Sync>(
             request.names.name(1),
             request.names.get(2),
         ),
+        Command::Batch => {
+            let files = BatchFiles {
+                net: request.names.name(0),
+                list: request.names.name(1),
+            };
+            batch(rt, alloc, shelf, out, files, request, gate)
+        }
         Command::Sweep => sweep(
             rt,
             alloc,

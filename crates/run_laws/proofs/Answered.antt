@@ -2,7 +2,7 @@
 use Rattle.std.proofs.Common.{◌≡◌, ℕ, ◌≤◌, Bool, true, false, List, [], ◌∷◌, Option, Some, None, Result, Ok, Err, inl, inr, ap, subst, sym, ◌∙◌, arith, refl}
 use Rattle.std.specs.Prelude.{◌⊎◌, if◌then◌else◌}
 use Rattle.std.specs.List.{list_all}
-use Rattle.mcf_limits.specs.declared.TheConstants.{MAX_CERT_BYTES, MAX_SCRIPT_BYTES}
+use Rattle.mcf_limits.specs.declared.TheConstants.{MAX_CERT_BYTES, MAX_LIST_BYTES, MAX_SCRIPT_BYTES}
 use Rattle.mcf_base.specs.Faults.{Rose}
 use Rattle.mcf_base.specs.Shelf.{Holding, ShelfView, with_file}
 use Rattle.unit_scale.specs.declared.options.NetOptions.{NetOptions}
@@ -50,13 +50,19 @@ use Rattle.run_certs.specs.Check.{OnTexts, OfCheck}
 use Rattle.run_solves.specs.Solve.{asked_of, solving_answer, SolvesRows, OfSolve}
 use Rattle.run_certs.specs.Tighten.{WritesBest, best_answer, OnBoth, OnSecond, OnFirst, OnFirstRead, OnFirstText, OfFirst, OfTighten}
 use Rattle.run_certs.specs.Upgrade.{upgrade_answer, OnUpgrade, OfUpgraded, OfUpgrade}
+use Rattle.solver_run.specs.History.{SolvedView}
+use Rattle.list_grammar.specs.Matrices.{Matrix}
+use Rattle.list_grammar.specs.Batch.{IsBatch, IsBatchTooMuch}
+use Rattle.list_grammar.specs.Refusals.{BatchRefusal}
+use Rattle.list_grammar.proofs.Only.{answers_once}
+use Rattle.run_batches.specs.Batch.{batch_asked_of, batch_answer, SolvesBatch, OnBatch, OnList, OfList, OfBatch}
 use Rattle.run_sweeps.specs.Sweep.{sweep_answer, OnSweep, OfSwept, OfSweep}
 use Rattle.run_sweeps.specs.SweepSolve.{solves_answer, sweep_asked_of, SolvesLinks, OnScaled, OnSweepSolve, OfSweepSolve}
 use Rattle.sweep_solver.specs.declared.swept.Swept.{Swept}
 use Rattle.run_certs.specs.WhatIf.{scripted_answer, OnScript, OnCertified, OnCertificate, OfWhatIf}
 use Rattle.run_solves.specs.Drawn.{links_drawn, net_drawn, gen_answer, trial_line, OfTrial}
 use Rattle.mcf_cli.specs.Run.{file_at, file_if, OfCommand}
-use Rattle.run_laws.specs.Accepted.{IsSolvable, IsSweepSolvable, IsPaperFile, IsScriptFile, IsSecondFile, AcceptsPrint, AcceptsSolve, AcceptsSweepSolve, AcceptsCheck, AcceptsTighten, AcceptsUpgrade, AcceptsWhatIf, AcceptsTrial, Accepts}
+use Rattle.run_laws.specs.Accepted.{IsSolvable, IsSweepSolvable, IsListFile, IsPaperFile, IsScriptFile, IsSecondFile, AcceptsPrint, AcceptsSolve, AcceptsSweepSolve, AcceptsBatch, AcceptsCheck, AcceptsTighten, AcceptsUpgrade, AcceptsWhatIf, AcceptsTrial, Accepts}
 use Rattle.run_laws.proofs.Given.{Memories, of_text, of_rows}
 
 -- reading answers one thing
@@ -300,6 +306,27 @@ sweepsolve_low files request old new answer tells calm (rows, net, can) of =
     (λ on. ends_low (OnSweepSolve request rows) (with_file old (file_at request 0)) new answer
     (λ e. links_low rows request answer can (subst (λ (r : Result ScaledNet NetRefusal). OnScaled rows (sweep_asked_of request) r answer) can.scaled e)) on)
 
+-- ---- batch
+
+solved_low : (request : Request) (batch : List Matrix) (answer : Answer) → ((n : ℕ) → ¬ (IsBatchTooMuch batch request.phases n))
+    → SolvesBatch request.net (batch_asked_of request) batch answer → answer.status ≤ 1
+solved_low request batch answer can (inl (n, is, same)) = absurd (can n is)
+solved_low request batch answer can (inr (many, are, same)) = status_is answer (batch_answer batch many) same (verdict_low (list_all (λ (s : SolvedView). s.proof.closed) many))
+
+list_low : (files : Holding) (name : List ℕ) (rows : NetRows) (request : Request) (answer : Answer) → (file : IsListFile files name rows request) → OnList request rows file.text answer → answer.status ≤ 1
+list_low files name rows request answer file (found, is, on) =
+    solved_low request file.batch answer file.work
+    (subst (λ (r : Result (List Matrix) BatchRefusal). OnBatch request.net (batch_asked_of request) r answer) (answers_once rows request.net file.text found (Ok file.batch) is file.read) on)
+
+batch_low : (files : Holding) (request : Request) (old new : ShelfView) (answer : Answer) → old.holds ≡ Some files → ¬ (Rose old.faults.count new.faults.count)
+    → AcceptsBatch files request → OfBatch (file_at request 0) (file_at request 1) request old new answer → Low answer
+batch_low files request old new answer tells calm (rows, given, file) of =
+    let first = file_at request 0 in
+    let list = file_at request 1 in
+    then_low answer (of_rows files first rows (λ rows. OfList request rows list) old new answer tells calm given of)
+    (λ on. then_low answer (of_text MAX_LIST_BYTES kinds.List files list file.text (λ text. Ends (OnList request rows text)) (with_file old first) new answer tells calm file.given on)
+    (λ last. ends_low (OnList request rows file.text) (with_file (with_file old first) list) new answer (λ e. list_low files list rows request answer file e) last))
+
 -- ---- all commands
 
 pub command_low : (command : Command) (files : Holding) (request : Request) (old new : ShelfView) (answer : Answer) → old.holds ≡ Some files → ¬ (Rose old.faults.count new.faults.count)
@@ -309,6 +336,7 @@ command_low commands.Check files request old new answer tells calm accepts of = 
 command_low commands.WhatIf files request old new answer tells calm accepts of = whatif_low files request old new answer tells calm accepts of
 command_low commands.Upgrade files request old new answer tells calm accepts of = upgrade_low files request old new answer tells calm accepts of
 command_low commands.Tighten files request old new answer tells calm accepts of = tighten_low files request old new answer tells calm accepts of
+command_low commands.Batch files request old new answer tells calm accepts of = batch_low files request old new answer tells calm accepts of
 command_low commands.Sweep files request old new answer tells calm accepts of = sweep_low files request old new answer tells calm accepts of
 command_low commands.SweepSolve files request old new answer tells calm accepts of = sweepsolve_low files request old new answer tells calm accepts of
 command_low commands.Print files request old new answer tells calm accepts of = print_low files request old new answer tells calm accepts of

@@ -1,7 +1,8 @@
 -- A run of accepted words and files answers in full, and no other does.
 use Rattle.std.proofs.Common.{◌≡◌, ℕ, ◌≤◌, Bool, true, false, List, Option, Some, None, Result, Ok, Err, inl, inr, refl, ap, subst, ◌∙◌, arith}
-use Rattle.mcf_limits.specs.declared.TheConstants.{MAX_CERT_BYTES, MAX_SCRIPT_BYTES}
+use Rattle.mcf_limits.specs.declared.TheConstants.{MAX_CERT_BYTES, MAX_LIST_BYTES, MAX_SCRIPT_BYTES}
 use Rattle.std.specs.Prelude.{◌⊎◌}
+use Rattle.mcf_base.specs.Reading.{IsText}
 use Rattle.mcf_base.specs.Shelf.{Holding, ShelfView, with_file}
 use Rattle.mcf_base.specs.Sink.{SinkView}
 use Rattle.text_lines.specs.Lines.{Line, lines_of}
@@ -57,12 +58,16 @@ use Rattle.run_certs.specs.Check.{OnTexts, OfCheck}
 use Rattle.run_solves.specs.Solve.{asked_of, solving_answer, SolvesRows, OfSolve}
 use Rattle.run_certs.specs.Tighten.{WritesBest, OnBoth, OnSecond, OnFirst, OnFirstRead, OnFirstText, OfFirst, OfTighten}
 use Rattle.run_certs.specs.Upgrade.{upgrade_answer, OnUpgrade, OfUpgraded, OfUpgrade}
+use Rattle.list_grammar.specs.Matrices.{Matrix}
+use Rattle.list_grammar.specs.Batch.{IsBatch, IsBatchTooMuch}
+use Rattle.list_grammar.specs.Refusals.{BatchRefusal, InNet, InList}
+use Rattle.run_batches.specs.Batch.{batch_asked_of, batch_answer, SolvesBatch, OnBatch, OnList, OfList, OfBatch}
 use Rattle.run_sweeps.specs.Sweep.{sweep_answer, OnSweep, OfSwept, OfSweep}
 use Rattle.run_sweeps.specs.SweepSolve.{sweep_asked_of, OnScaled, OnSweepSolve, OfSweepSolve}
 use Rattle.run_certs.specs.WhatIf.{scripted_answer, OnScript, OnCertified, OnCertificate, OfWhatIf}
 use Rattle.run_solves.specs.Drawn.{OfTrial}
 use Rattle.mcf_cli.specs.Run.{file_at, file_if, OfCommand, OfRequest, IsAnswer, RunEnds}
-use Rattle.run_laws.specs.Accepted.{IsSolvable, IsSweepSolvable, IsNetFile, IsPaperFile, IsScriptFile, IsSecondFile, AcceptsPrint, AcceptsSolve, AcceptsSweepSolve, AcceptsCheck, AcceptsTighten, AcceptsUpgrade, AcceptsWhatIf, AcceptsTrial, Accepts, IsAccepted}
+use Rattle.run_laws.specs.Accepted.{IsSolvable, IsSweepSolvable, IsListFile, IsNetFile, IsPaperFile, IsScriptFile, IsSecondFile, AcceptsPrint, AcceptsSolve, AcceptsSweepSolve, AcceptsBatch, AcceptsCheck, AcceptsTighten, AcceptsUpgrade, AcceptsWhatIf, AcceptsTrial, Accepts, IsAccepted}
 use Rattle.run_laws.specs.Whole.{HasNoFault, EndsWhole}
 use Rattle.run_laws.proofs.Given.{not_full, text_of_file, rows_of_file, ends_full}
 use Rattle.run_laws.proofs.Answered.{Low, command_low}
@@ -354,6 +359,28 @@ sweepsolve_accepts files request old new answer tells full of =
     let on : OnSweepSolve request r.0 answer = ends_full (OnSweepSolve request r.0) (with_file old (file_at request 0)) new answer full r.2 in
     (r.0, r.1, scaled_can r.0 request answer (scaled_of r.0 request.net) refl on full)
 
+-- ---- batch
+
+solved_can : (request : Request) (batch : List Matrix) (answer : Answer) → answer.status ≤ 1 → SolvesBatch request.net (batch_asked_of request) batch answer → (n : ℕ) → ¬ (IsBatchTooMuch batch request.phases n)
+solved_can request batch answer full (inl (n, is, same)) = absurd (not_full answer (outcomes.TooMuch n) same full (omega arith))
+solved_can request batch answer full (inr (many, are, same)) = are.work
+
+list_can : (files : Holding) (name : List ℕ) (rows : NetRows) (request : Request) (answer : Answer) (text : List ℕ) → answer.status ≤ 1 → IsText MAX_LIST_BYTES (Some files) name text
+    → (found : Result (List Matrix) BatchRefusal) → IsBatch rows request.net text found → OnBatch request.net (batch_asked_of request) found answer → IsListFile files name rows request
+list_can files name rows request answer text full given (Err (InNet r)) is same = absurd (not_full answer (outcomes.NetRefused r) same full (omega arith))
+list_can files name rows request answer text full given (Err (InList r)) is same = absurd (not_full answer (outcomes.ListRefused r) same full (omega arith))
+list_can files name rows request answer text full given (Ok batch) is on = record { text = text; given = given; batch = batch; read = is; work = solved_can request batch answer full on }
+
+batch_accepts : (files : Holding) (request : Request) (old new : ShelfView) (answer : Answer) → old.holds ≡ Some files → answer.status ≤ 1
+    → OfBatch (file_at request 0) (file_at request 1) request old new answer → AcceptsBatch files request
+batch_accepts files request old new answer tells full of =
+    let first = file_at request 0 in
+    let list = file_at request 1 in
+    let r = rows_of_file files first (λ rows. OfList request rows list) old new answer tells full of in
+    let t = text_of_file MAX_LIST_BYTES kinds.List files list (λ text. Ends (OnList request r.0 text)) (with_file old first) new answer tells full r.2 in
+    let on : OnList request r.0 t.0 answer = ends_full (OnList request r.0 t.0) (with_file (with_file old first) list) new answer full t.2 in
+    (r.0, r.1, list_can files list r.0 request answer t.0 full t.1 on.0 on.1 on.2)
+
 -- ---- all commands
 
 command_accepts : (command : Command) (files : Holding) (request : Request) (old new : ShelfView) (answer : Answer) → old.holds ≡ Some files → answer.status ≤ 1 → OfCommand command request old new answer → Accepts command files request
@@ -362,6 +389,7 @@ command_accepts commands.Check files request old new answer tells full of = chec
 command_accepts commands.WhatIf files request old new answer tells full of = whatif_accepts files request old new answer tells full of
 command_accepts commands.Upgrade files request old new answer tells full of = upgrade_accepts files request old new answer tells full of
 command_accepts commands.Tighten files request old new answer tells full of = tighten_accepts files request old new answer tells full of
+command_accepts commands.Batch files request old new answer tells full of = batch_accepts files request old new answer tells full of
 command_accepts commands.Sweep files request old new answer tells full of = sweep_accepts files request old new answer tells full of
 command_accepts commands.SweepSolve files request old new answer tells full of = sweepsolve_accepts files request old new answer tells full of
 command_accepts commands.Print files request old new answer tells full of = print_accepts files request old new answer tells full of

@@ -5,7 +5,7 @@ use Rattle.std.specs.List.{list_all}
 use Rattle.std.proofs.lemmas.List.{append-nil}
 use Rattle.std.proofs.lemmas.List.Elements.{Contains-append_right}
 use Rattle.std.proofs.Math.Seq.{take-append-add}
-use Rattle.mcf_limits.specs.declared.TheConstants.{MAX_NET_BYTES, MAX_CERT_BYTES, MAX_SCRIPT_BYTES}
+use Rattle.mcf_limits.specs.declared.TheConstants.{MAX_NET_BYTES, MAX_CERT_BYTES, MAX_LIST_BYTES, MAX_SCRIPT_BYTES}
 use Rattle.mcf_base.specs.Shelf.{ShelfView, with_file}
 use Rattle.mcf_base.specs.Reading.{IsText}
 use Rattle.mcf_base.specs.Sink.{SinkView}
@@ -40,6 +40,10 @@ use Rattle.cert_judge.specs.declared.second.Second.TheVariants as seconds
 use Rattle.flow_paths.specs.declared.certificate.Proof.{Proof}
 use Rattle.run_certs.specs.Tighten.{WritesBest, best_answer, OnBoth, OnSecond, OnFirst, OnFirstRead, OnFirstText, OfFirst}
 use Rattle.run_certs.specs.Upgrade.{upgrade_answer, OnUpgrade, OfUpgraded}
+use Rattle.solver_run.specs.History.{SolvedView}
+use Rattle.list_grammar.specs.Matrices.{Matrix}
+use Rattle.list_grammar.specs.Refusals.{BatchRefusal, InNet, InList}
+use Rattle.run_batches.specs.Batch.{batch_asked_of, batch_answer, OnBatch, OnList, OfList}
 use Rattle.run_sweeps.specs.Sweep.{sweep_answer, OnSweep, OfSwept}
 use Rattle.run_sweeps.specs.SweepSolve.{solves_answer, sweep_asked_of, OnScaled, OnSweepSolve}
 use Rattle.sweep_solver.specs.declared.swept.Swept.{Swept}
@@ -187,6 +191,12 @@ solves_calm rows asked answer (Err x) same = same_calm answer (answer_of (outcom
 solves_calm rows asked answer (Ok net) (inl (n, is, same)) = same_calm answer (answer_of (outcomes.TooMuch n)) same (omega arith)
 solves_calm rows asked answer (Ok net) (inr (swept, are, same)) = same_calm answer (solves_answer rows swept) same (verdict_low (list_all (λ (s : Swept). s.closed) swept))
 
+batch_calm : (request : Request) (answer : Answer) (found : Result (List Matrix) BatchRefusal) → OnBatch request.net (batch_asked_of request) found answer → IsCalm answer
+batch_calm request answer (Err (InNet r)) same = same_calm answer (answer_of (outcomes.NetRefused r)) same (omega arith)
+batch_calm request answer (Err (InList r)) same = same_calm answer (answer_of (outcomes.ListRefused r)) same (omega arith)
+batch_calm request answer (Ok batch) (inl (n, is, same)) = same_calm answer (answer_of (outcomes.TooMuch n)) same (omega arith)
+batch_calm request answer (Ok batch) (inr (many, are, same)) = same_calm answer (batch_answer batch many) same (verdict_low (list_all (λ (s : SolvedView). s.proof.closed) many))
+
 -- ---- the commands
 
 certified_went : (rows : NetRows) (script : List ℕ) (certified : Certified) (old new : ShelfView) (answer : Answer) → OnCertified rows script certified old new answer → Went (script ∷ []) old new answer
@@ -239,6 +249,12 @@ command_went commands.Tighten request old new answer of =
     net_went first (cert ∷ option_to_list second) (λ rows. OfFirst rows cert second) old new answer
     (λ rows on. file_went MAX_CERT_BYTES kinds.Certificate cert (option_to_list second) (λ text. OrMemory (OnFirstText rows second text)) (with_file old first) new answer
     (λ text last. or_went (option_to_list second) (OnFirstText rows second text) (with_file (with_file old first) cert) new answer (λ c. read_went rows second c.0 (with_file (with_file old first) cert) new answer c.2) last) on) of
+command_went commands.Batch request old new answer of =
+    let first = file_at request 0 in
+    let list = file_at request 1 in
+    net_went first (list ∷ []) (λ rows. OfList request rows list) old new answer
+    (λ rows on. file_went MAX_LIST_BYTES kinds.List list [] (λ text. Ends (OnList request rows text)) (with_file old first) new answer
+    (λ text last. ends_went (OnList request rows text) (with_file (with_file old first) list) new answer (λ f. batch_calm request answer f.0 f.2) last) on) of
 command_went commands.Sweep request old new answer of =
     let first = file_at request 0 in
     let cert = file_at request 1 in

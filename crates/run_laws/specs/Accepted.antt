@@ -1,6 +1,6 @@
 -- When the words of a run are in the grammar, and each file that it reads is accepted.
 use Rattle.std.specs.Prelude.{◌≡◌, ℕ, List, length, Option, Some, None, Ok}
-use Rattle.mcf_limits.specs.declared.TheConstants.{MAX_NET_BYTES, MAX_CERT_BYTES, MAX_SCRIPT_BYTES}
+use Rattle.mcf_limits.specs.declared.TheConstants.{MAX_NET_BYTES, MAX_CERT_BYTES, MAX_LIST_BYTES, MAX_SCRIPT_BYTES}
 use Rattle.mcf_base.specs.Shelf.{Holding}
 use Rattle.text_lines.specs.Lines.{lines_of}
 use Rattle.flow_paths.specs.declared.certificate.Proof.{Proof}
@@ -16,10 +16,12 @@ use Rattle.cert_text.specs.Whole.{head_in, paper_in}
 use Rattle.cert_judge.specs.Papers.{options_of}
 use Rattle.net_solve.specs.Asked.{IsTooMuch}
 use Rattle.sweep_solver.specs.Asked.{IsSweepTooMuch}
+use Rattle.list_grammar.specs.Matrices.{Matrix}
+use Rattle.list_grammar.specs.Batch.{IsBatch, IsBatchTooMuch}
 use Rattle.script.specs.declared.step.Step.{Step}
 use Rattle.script.specs.Reading.{script_of}
 use Rattle.mcf_words.specs.declared.request.Command.{Command}
-use Rattle.mcf_words.specs.declared.request.Command.TheVariants.{Solve, Check, WhatIf, Upgrade, Tighten, Sweep, SweepSolve, Print, Gen, Trial}
+use Rattle.mcf_words.specs.declared.request.Command.TheVariants.{Solve, Check, WhatIf, Upgrade, Tighten, Batch, Sweep, SweepSolve, Print, Gen, Trial}
 use Rattle.mcf_words.specs.declared.request.Request.{Request}
 use Rattle.mcf_words.specs.Request.{request_of}
 use Rattle.mcf_base.specs.Reading.{IsText}
@@ -106,6 +108,20 @@ AcceptsTighten files request =
     × (net : ScaledNet) × (proof : Proof) × IsPaperFile files (file_at request 1) rows net (Full proof)
     × (IsValid net.net proof → IsSecondFile files (file_if request 2) rows net)
 
+-- The file of that name is a list within its limit, whose matrices are these networks in whole units on the rows under the
+-- options, and the work that is asked is within its limit.
+pub record IsListFile (files : Holding) (name : List ℕ) (rows : NetRows) (request : Request) : Type 0 where
+  pub text : List ℕ
+  pub given : IsText MAX_LIST_BYTES (Some files) name text
+  pub batch : List Matrix
+  pub read : IsBatch rows request.net text (Ok batch)
+  pub work : (n : ℕ) → ¬ (IsBatchTooMuch batch request.phases n)
+
+-- a network, and a list of demand matrices for it that can be solved as asked
+abbrev pub AcceptsBatch : Holding → Request → Type 0
+AcceptsBatch files request =
+    (rows : NetRows) × IsNetFile files (file_at request 0) rows × IsListFile files (file_at request 1) rows request
+
 -- no file is read; the work that is asked on the network that is drawn is within its limit
 abbrev pub AcceptsTrial : Request → Type 0
 AcceptsTrial request = (n : ℕ) → ¬ (IsTooMuch (net_drawn request).net (asked_of request) n)
@@ -117,6 +133,7 @@ Accepts Check files request = AcceptsCheck files request
 Accepts WhatIf files request = AcceptsWhatIf files request
 Accepts Upgrade files request = AcceptsUpgrade files request
 Accepts Tighten files request = AcceptsTighten files request
+Accepts Batch files request = AcceptsBatch files request
 Accepts Sweep files request = AcceptsUpgrade files request
 Accepts SweepSolve files request = AcceptsSweepSolve files request
 Accepts Print files request = AcceptsPrint files request

@@ -1,5 +1,6 @@
 use Rattle.run_certs.specs.Check.{OfCheck}
 use Rattle.run_certs.specs.Tighten.{OfTighten}
+use Rattle.run_batches.specs.Batch.{OfBatch}
 use Rattle.run_certs.specs.Upgrade.{OfUpgrade}
 use Rattle.run_certs.specs.WhatIf.{OfWhatIf}
 use Rattle.run_sweeps.specs.Sweep.{OfSweep}
@@ -26,6 +27,13 @@ returns-in-Tighten g c =
     let of : OfTighten (file_at c.args.request.now 0) (file_at c.args.request.now 1) (file_if c.args.request.now 2) (g.F.Shelf.seen c.args.shelf.now) (g.F.Shelf.seen c.tighten.new.shelf) told.0 =
     rw (c.name-in-Tighten.ensures, c.name-in-Tighten-2.ensures, c.get.ensures) at told.1 in
     rw c.in-Tighten.is (told.0, of, told.2)
+
+pub returns-in-Batch : goal.returns-in-Batch
+returns-in-Batch g c =
+    let told = c.batch.ensures in
+    let of : OfBatch (file_at c.args.request.now 0) (file_at c.args.request.now 1) c.args.request.now (g.F.Shelf.seen c.args.shelf.now) (g.F.Shelf.seen c.batch.new.shelf) told.0 =
+    rw (c.name-in-Batch.ensures, c.name-in-Batch-2.ensures) at told.1 in
+    rw c.in-Batch.is (told.0, of, told.2)
 
 pub returns-in-Sweep : goal.returns-in-Sweep
 returns-in-Sweep g c =
