@@ -106,11 +106,9 @@ fn span_of(ranks: &[u16], cell: &Cell) -> Span
 {
     let tail = ranks[cell.tail as usize] as usize;
     let head = ranks[cell.head as usize] as usize;
-    let amount = if tail <= head || cell.both {
-        cell.cap
-    } else {
-        0
-    };
+    // no branch on the ranks, which are as good as random
+    let goes = cell.both | (tail <= head);
+    let amount = if goes { cell.cap } else { 0 };
     Span {
         low: tail.min(head),
         high: tail.max(head),
