@@ -47,7 +47,8 @@ fn figures(h: &HopProof, lower: Frac, num: u128, den: u128) -> Verdict
     ensures { (net : Network) (limits : List (Option ℕ)) → lower ≡ lower_of h.now.proof.routing
         → record { num = num; den = den } ≡ hop_upper_of net limits (dual_of h.now)
         → AllByRecursion (HopHolds net limits h.now) (earlier AllToC7)
-        → IsVerdictBy (HopHolds net limits h.now) lower (record { num = num; den = den }) h.now.proof.closed result }
+        → IsVerdictBy (HopHolds net limits h.now) lower (record { num = num; den = den })
+        h.now.proof.closed result }
 {
     if den == 0 {
         return Verdict::Invalid(Fault::C8);

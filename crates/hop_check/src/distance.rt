@@ -61,7 +61,8 @@ pub fn weighted(
     requires count { length limits.now ≡ length net.now.commodities }
     requires placed { (k : ℕ) (commodity : CommodityIs) → slice_get net.now.commodities k ≡ Some commodity
         → HasPlaces net.now.nodes (dual_of h.now) rows.now places.now (limit_at limits.now k) commodity }
-    ensures value { result ≡ weighted_distance net.now.commodities (hop_distances net.now limits.now (dual_of h.now)) }
+    ensures value { result ≡ weighted_distance net.now.commodities
+        (hop_distances net.now limits.now (dual_of h.now)) }
     ensures limit { result ≤ 2 ^ 108 }
 {
     let mut total = 0u128;

@@ -3,9 +3,12 @@ use Rattle.std.proofs.Common.{◌≡◌, ℕ, zero, suc, ◌+◌, ◌<◌, ◌�
 use Rattle.std.specs.Prelude.{All, not}
 use Rattle.std.proofs.Math.Seq.{get_or-append_seam}
 use Rattle.std.proofs.lemmas.List.{take_more, drop_more, take-append-drop, map-append}
-use Rattle.sndlib_grammar.specs.Rows.{NetDemand, no_demand}
-use Rattle.unit_scale.specs.Sizes.{is_left_out}
-use Rattle.unit_scale.specs.Scaling.{first_line, kept_from}
+use Rattle.std.specs.Prelude.{Ok}
+use Rattle.sndlib_grammar.specs.Rows.{NetDemand, NetRows, no_demand}
+use Rattle.sndlib_grammar.specs.declared.refusal.NetRefusal.{NetRefusal}
+use Rattle.unit_scale.specs.declared.options.NetOptions.{NetOptions}
+use Rattle.unit_scale.specs.Sizes.{is_left_out, decimals_of, sizes}
+use Rattle.unit_scale.specs.Scaling.{ScaledNet, first_line, kept_from, scaled_of, scaled_with, refusal, unless_refused}
 
 one_more : (q p : NetDemand → Bool) (g : ℕ → NetDemand) (n : ℕ) (ks : List ℕ) (d : NetDemand) (ds : List NetDemand) (b : Bool) → g n ≡ d → first_line q (λ x. x.line) (map g ks) ≡ first_line p (λ x. x.line) ds
     → first_line q (λ x. x.line) (map g (cond b ks (n ∷ ks))) ≡ cond (not b && q d) (Some d.line) (first_line p (λ x. x.line) ds)
@@ -67,3 +70,13 @@ found_first q g ks k lt passes h =
     let rest = map g (drop (k + 1) ks) in
     ap (λ (l : List ℕ). first_line q (λ d. d.line) (map g l)) (sym (take-append-drop k ks)) ∙ ap (first_line q (λ d. d.line)) (map-append g (take k ks) (drop k ks))
     ∙ skipped q (map g (take k ks)) (map g (drop k ks)) h ∙ ap (λ (l : List ℕ). first_line q (λ d. d.line) (map g l)) (drop_more ks k 0 lt) ∙ ap (λ (b : Bool). cond b (Some x.line) (first_line q (λ d. d.line) rest)) passes
+
+-- a network in units keeps the demands that are not left out
+pub scaled_keeps : (rows : NetRows) (o : NetOptions) (net : ScaledNet) → scaled_of rows o ≡ Ok net → net.kept ≡ kept_from 0 rows.demands
+scaled_keeps rows o net e =
+    let s = decimals_of (sizes o.modules rows) in
+    ap (λ (n : ScaledNet). n.kept) (sym (accepted (scaled_with o s rows) (refusal o.modules s rows) e))
+  where
+    accepted : (a : ScaledNet) (r : Option NetRefusal) → unless_refused a r ≡ Ok net → a ≡ net
+    accepted a None h = cc
+    accepted a (Some r) h = absurd cc

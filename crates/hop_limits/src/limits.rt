@@ -40,7 +40,8 @@ fn limit(nodes: u16, row: &DemandRow<'_>) -> Option<u32>
 
 // The limit as a small number, if it is none or not too far.
 fn near(limit: Option<u32>) -> Option<Option<u8>>
-    ensures { MatchOption result (MatchOption limit ⊥ (λ n. MOST < n)) (λ l. (l ≡ limit) × MatchOption l (Unit {0}) (λ n. n ≤ MOST)) }
+    ensures { MatchOption result (MatchOption limit ⊥ (λ n. MOST < n))
+        (λ l. (l ≡ limit) × MatchOption l (Unit {0}) (λ n. n ≤ MOST)) }
 {
     match limit {
         None => Some(None),
@@ -63,7 +64,8 @@ pub fn hop_limits(
     scaled: &Scaled,
 ) -> Result<Vec<Option<u8>>, ScaleEnd>
     requires { scaled.now.kept ≡ kept_from 0 raw.now.demands }
-    ensures { MatchResult result (λ v. FindsLimits raw.now scaled.now (Ok v.items)) (λ e. FindsLimits raw.now scaled.now (Err e)) }
+    ensures { MatchResult result (λ v. FindsLimits raw.now scaled.now (Ok v.items))
+        (λ e. FindsLimits raw.now scaled.now (Err e)) }
 {
     let (_net, nodes) = (scaled.net(), raw.nodes());
     let mut limits = Vec::new(alloc);
