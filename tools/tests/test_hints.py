@@ -150,8 +150,10 @@ def test_commands_and_options_are_those_of_the_formats(root: Path) -> None:
     text = (root / "docs/formats.md").read_text()
     part = text[text.index("## Words of the command line"):text.index("## Answers")]
     options = {"none": (), "those below": OPTIONS, "those below but `--workers`": ONE_WORKER_OPTIONS}
-    rows = re.findall(r"^\| `(\w+)` \| ([A-Z ]+) \| (none|those below.*) \|$", part, re.M)
-    assert {name: Command(tuple(words.split()), options[said]) for name, words, said in rows} == COMMANDS
+    rows = re.findall(r"^\| `(\w+)` \| ([A-Z0-9\[\] ]+) \| (none|those below.*) \|$", part, re.M)
+    found = {name: Command(tuple(re.findall(r"(?<!\[)\b[A-Z]+\b(?!\])", words)), options[said], tuple(re.findall(r"\[(\w+)\]", words)))
+             for name, words, said in rows}
+    assert found == COMMANDS
     assert tuple(re.findall(r"^\| `(--\w+)` \|", part, re.M)) == OPTIONS
 
 
@@ -159,9 +161,8 @@ def test_help_pages_have_all_commands_and_options(root: Path) -> None:
     pages = {file.stem: file.read_text() for file in (root / "tools/mcf_hints/help").iterdir()}
     assert set(pages) == {"mcf", *COMMANDS}
     for name, command in COMMANDS.items():
-        line = " ".join(["mcf", name, *command.words])
-        assert pages[name].startswith(f"usage: {line}"), name
-        assert re.search(rf"^  {name} {' '.join(command.words)}  ", pages["mcf"], re.M), name
+        assert pages[name].startswith(f"usage: mcf {name} {command.taken}"), name
+        assert re.search(rf"^  {name} {re.escape(command.taken)}  ", pages["mcf"], re.M), name
     assert re.findall(r"^  (--\w+) [A-Z]+  ", pages["solve"], re.M) == list(OPTIONS)
     assert max(len(line) for page in pages.values() for line in page.splitlines()) <= 80
 
