@@ -1,6 +1,5 @@
 -- From the matrices of a batch and their solves to what is written of them.
 use Rattle.std.proofs.Common.{◌≡◌, ℕ, List, [], ◌∷◌, Result, Ok, Err, inl, inr, refl, ap, sym, subst}
-use Rattle.std.specs.Prelude.{All}
 use Rattle.std.specs.List.{AllZip, AllByRecursion}
 use Rattle.std.proofs.lemmas.List.Elements.{recursion_from_All}
 use Rattle.mcf_base.specs.Sink.{SinkView}
@@ -9,7 +8,6 @@ use Rattle.unit_scale.specs.declared.options.NetOptions.{NetOptions}
 use Rattle.unit_scale.specs.Scaling.{scaled_of}
 use Rattle.list_grammar.specs.Matrices.{Matrix}
 use Rattle.list_grammar.specs.Batch.{IsBatch}
-use Rattle.cert_lines.specs.Sheet.{IsOf}
 use Rattle.solver_run.specs.declared.options.SolveOptions.{SolveOptions}
 use Rattle.solver_run.specs.History.{SolvedView}
 use Rattle.sndlib_grammar.specs.declared.refusal.NetRefusal.{NetRefusal}
