@@ -50,6 +50,9 @@ TABLE = (
          "links times demands times phases are over 2,097,152, so --phases has to be less, or left out; where it is, the network is "
          "too large to be solved once for each link, and sweep tells what a certificate is worth without each", 4, "sweepsolve"),
     _row("refused work W",
+         "demands of all matrices times phases are over 2,097,152, so --phases has to be less, or left out, or the list cut into several", 7,
+         "batch"),
+    _row("refused work W",
          "demands times phases are over 2,097,152, so with so many demands --phases has to be less, or left out", 5),
     _row("refused cert K1 line 1",
          "this is no certificate: another file, a routing, which whatif does not take, or line ends as on Windows, which sed "
@@ -106,6 +109,20 @@ TABLE = (
     _row("invalid2? C8", f"no demand has a potential that rises from its source to its target, {_EDITED}"),
     _row("invalid2? C9", f"the fractions of lines 9 and 10 are not those of the rows, {_OTHER}"),
     _row("invalid2? C10", f"the verdict is not that of the gap and of both fractions, {_EDITED}"),
+    _row("refused list M1 line N",
+         "the list cannot go on as this line does; mostly a matrix lacks its name or its `( )`, or the file is no list"),
+    _row("refused list M2 line N", "there are more than 64 matrices, or more than 32,768 demands in all: cut the list into several"),
+    _row("refused list M3 line N",
+         "two matrices have one name, or an id stands twice in one matrix, mostly in rows that were copied; the line is that of the second"),
+    _row("refused list M4 line N", "an end of a demand is no node of the network, mostly by a misspelt name"),
+    _row("refused list M5 line N", "a word that has to be a number is none, mostly by a sign, a decimal comma or a unit behind it"),
+    _row("refused list M6 line N", "a number is finer than a millionth, mostly one that was computed: round it, as tools/convert --round does"),
+    _row("refused list M7 line N",
+         "a number is over 2^44 units or all amounts of a matrix together over 2^46; each matrix has its own decimals, and with many of them "
+         "the capacities of the network count more units: round, or write all in a greater unit"),
+    _row("refused list M8 line N", "no demand of the matrix is left, since each has amount 0 or ends in its own node; the line is that of its name"),
+    _row("refused list TooLong", "the list is over its limit of bytes: cut it into several"),
+    _row("some matrix open", "the phases were spent before some matrix was closed; both fractions of each hold all the same", 5),
     _row("best open",
          "both fractions hold, and no cut of this kind brings them within the gap: solve with another --step and tighten both, or "
          "ask tools/certify", 5),

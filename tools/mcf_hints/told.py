@@ -19,6 +19,8 @@ def line_of(status: int, program: str, words: list[str], request: Request, outpu
         return "verdict open"
     if status == 1 and request.command == "sweepsolve":
         return "some link open"
+    if status == 1 and request.command == "batch":
+        return "some matrix open"
     line = _last_line(output) or _asked_again(status, program, words, request)
     if status == 1 and request.command == "tighten" and line in ("end", "mcf-certificate 2"):
         return "best open"

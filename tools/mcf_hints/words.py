@@ -13,7 +13,7 @@ RANGES = {"--phases": (1, 65_536), "--workers": (1, 16), "--step": (1, 1_048_576
 OPTIONS = ("--links", "--modules", "--gap", "--phases", "--workers", "--step")
 ONE_WORKER_OPTIONS = tuple(option for option in OPTIONS if option != "--workers")
 FILES = ("NET", "CERT", "SCRIPT")
-READ_ORDER = ("NET", "CERT", "CERT2", "SCRIPT")
+READ_ORDER = ("NET", "CERT", "CERT2", "LIST", "SCRIPT")
 DRAWN = {"SEED": (0, 2**64 - 1), "NODES": (2, 512), "LINKS": (2, 4096), "DEMANDS": (1, 32_768)}
 
 _NUMBER = re.compile(r"(?:[0-9]+\.?[0-9]*|\.[0-9]+)(?:[Ee][+-]?[0-9]{1,2})?")
@@ -45,6 +45,7 @@ COMMANDS = {
     "whatif": Command(FILES),
     "upgrade": Command(FILES[:2]),
     "tighten": Command(FILES[:2], spare=("CERT2",)),
+    "batch": Command(("NET", "LIST"), ONE_WORKER_OPTIONS),
     "sweep": Command(FILES[:2]),
     "sweepsolve": Command(FILES[:1], ONE_WORKER_OPTIONS),
     "print": Command(FILES[:1]),
@@ -122,7 +123,7 @@ def _take_option(name: str, command: Command, seen: set[str], word: str, rest: I
     """One more option, with its value."""
     option, equals, value = word.partition("=")
     if option not in command.options:
-        none = ", which takes none; they are those of solve, sweepsolve and trial" if not command.options else _nearest(option, command.options)
+        none = ", which takes none; they are those of solve, batch, sweepsolve and trial" if not command.options else _nearest(option, command.options)
         raise Misfit(f"{shown(option)} is no option of {name}{none}")
     if option in seen:
         raise Misfit(f"{option} stands twice")

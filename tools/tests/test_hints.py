@@ -35,7 +35,7 @@ DEMANDS (
 # -- words
 
 MISFITS = [
-    ("", "a command has to stand there: solve, check, whatif, upgrade, tighten, sweep, sweepsolve, print, gen or trial"),
+    ("", "a command has to stand there: solve, check, whatif, upgrade, tighten, batch, sweep, sweepsolve, print, gen or trial"),
     ("slove n", "`slove` is no command; perhaps solve"),
     ("Solve n", "`Solve` is no command; perhaps solve"),
     ("help slove", "`slove` is no command; perhaps solve"),
@@ -50,6 +50,9 @@ MISFITS = [
     ("tighten a b --gap 0.1", "`--gap` is no option of tighten, which takes none"),
     ("sweep n", "CERT is missing at the end: sweep takes NET CERT"),
     ("sweep a b --gap 0.1", "`--gap` is no option of sweep, which takes none"),
+    ("batch n", "LIST is missing at the end: batch takes NET LIST"),
+    ("batch a b c", "`c` is one word too many: batch takes NET LIST"),
+    ("batch a b --workers 2", "`--workers` is no option of batch"),
     ("sweepsolve", "NET is missing at the end: sweepsolve takes NET"),
     ("sweepsolve a b", "`b` is one word too many: sweepsolve takes NET"),
     ("sweepsolve a --workers 1", "`--workers` is no option of sweepsolve"),
@@ -86,7 +89,7 @@ FITS = [
     "solve n", "solve -", "solve -- --gap", "solve -- -- ", "solve --gap 0.05 n", "solve n --gap=1e3 --phases=0001 --workers 16",
     "solve n --gap 5e-6", "print x", "whatif a b c", "gen 18446744073709551615 2 2 1", "gen 007 512 4096 32768",
     "trial 1 2 2 1 --step 1048576 --links=directed --modules sum", "solve n --links bidirected", "upgrade a b", "tighten a b", "tighten a b c",
-    "sweep a b", "sweep -- -- -", "sweepsolve n --phases=7 --links bidirected", "sweepsolve --gap 0.1 --step 65536 --modules sum n",
+    "sweep a b", "sweep -- -- -", "batch n l", "batch --gap 0.1 n l", "sweepsolve n --phases=7 --links bidirected", "sweepsolve --gap 0.1 --step 65536 --modules sum n",
 ]
 
 
@@ -121,7 +124,7 @@ def words_drawn(draw: random.Random) -> list[str]:
     """Words of a command line that is right or nearly so; every file in them is missing."""
     name = draw.choice([*COMMANDS] * 4 + ["help", "--help", ""])
     words = ["no.file"] * len(COMMANDS[name].words if name in COMMANDS and draw.random() < 0.9 else "x" * draw.randrange(5))
-    for option in draw.sample(OPTIONS, draw.randrange(4) if name in ("solve", "sweepsolve", "trial") else draw.randrange(10) // 9):
+    for option in draw.sample(OPTIONS, draw.randrange(4) if name in ("solve", "batch", "sweepsolve", "trial") else draw.randrange(10) // 9):
         value = draw.choice(GOOD[option] if draw.random() < 0.85 else ODD)
         place = draw.randrange(len(words) + 1)
         words[place:place] = draw.choice([[option, value], [f"{option}={value}"]])
@@ -238,6 +241,17 @@ tighten net cert cert | 3 | refused cert2 K6 line 3 | otherwise than the first
 tighten net cert cert | 3 | refused cert2 K6 line 5 | counts
 tighten net cert cert | 1 | invalid2 C10        | verdict
 tighten net cert  | 1 | mcf-certificate 2       | another --step
+batch net list    | 3 | refused list M1 line 1  | the list cannot go on
+batch net list    | 3 | refused list M2 line 9  | 64 matrices
+batch net list    | 3 | refused list M3 line 2  | second
+batch net list    | 3 | refused list M4 line 2  | no node
+batch net list    | 3 | refused list M5 line 2  | decimal comma
+batch net list    | 3 | refused list M6 line 2  | --round
+batch net list    | 3 | refused list M7 line 2  | 2^44
+batch net list    | 3 | refused list M8 line 2  | no demand of the matrix
+batch net list    | 3 | refused list TooLong     | limit of bytes
+batch net list    | 1 | matrix m1               | both fractions of each
+batch net list    | 3 | refused work 2129920    | demands of all matrices
 sweepsolve net    | 3 | refused work 2129920    | links times demands
 check net cert    | 3 | refused cert K2 line 4  | form that is due
 check net cert    | 3 | refused cert K3 line 11 | another network
@@ -283,7 +297,7 @@ def test_line_has_its_hint(tmp_path: Path, monkeypatch: pytest.MonkeyPatch, word
                            to_file: bool) -> None:
     status = int(ended)
     monkeypatch.chdir(tmp_path)
-    for name, text in (("net", NET), ("cert", b"mcf-certificate 1\n"), ("routing", b"mcf-routing 1\n"), ("s", b"show\n")):
+    for name, text in (("net", NET), ("cert", b"mcf-certificate 1\n"), ("routing", b"mcf-routing 1\n"), ("s", b"show\n"), ("list", b"")):
         Path(name).write_bytes(text)
     program = says(tmp_path, line, status)
     reader, writer = os.pipe()
@@ -293,7 +307,7 @@ def test_line_has_its_hint(tmp_path: Path, monkeypatch: pytest.MonkeyPatch, word
         told = hint(status, program, words.split(), out.fileno() if to_file else writer)
     os.close(reader)
     os.close(writer)
-    others = {"mcf-certificate 2": "verdict open", "trial nodes": "verdict open", "sweep L1 open": "some link open",
+    others = {"mcf-certificate 2": "verdict open", "trial nodes": "verdict open", "sweep L1 open": "some link open", "matrix m1": "some matrix open",
               "something else": f"status {status}"}
     named = "best open" if words.startswith("tighten") and line in others else others.get(line, line)
     assert told is not None and re.fullmatch(rf"hint: {named}: [^\n]+ \(docs/guide\.md, part [1-8]\)", told)
@@ -302,15 +316,15 @@ def test_line_has_its_hint(tmp_path: Path, monkeypatch: pytest.MonkeyPatch, word
 
 def test_every_row_of_the_table_is_reached() -> None:
     for row in TABLE:
-        lines = {line for _, _, line, _ in LINES} | {"verdict open", "some link open", "best open", "status 1", "status 3"}
+        lines = {line for _, _, line, _ in LINES} | {"verdict open", "some link open", "some matrix open", "best open", "status 1", "status 3"}
         assert any(row.line.fullmatch(line) for line in lines), row.line.pattern
 
 
 def test_every_refusal_and_condition_of_the_formats_has_a_row(root: Path) -> None:
     text = (root / "docs/formats.md").read_text()
-    kinds = re.findall(r"^\| `([NKSC][0-9]+)` \|", text, re.M)
-    assert len(kinds) == 32 and {kind[0] for kind in kinds} == set("NKSC")
-    of = {"N": "refused net {} line 1", "K": "refused cert {} line 1", "S": "refused script {} line 1", "C": "invalid {}"}
+    kinds = re.findall(r"^\| `([NKSCM][0-9]+)` \|", text, re.M)
+    assert len(kinds) == 40 and {kind[0] for kind in kinds} == set("NKSCM")
+    of = {"N": "refused net {} line 1", "K": "refused cert {} line 1", "S": "refused script {} line 1", "M": "refused list {} line 1", "C": "invalid {}"}
     for kind in set(kinds) - {"N1"}:
         line = of[kind[0]].format(kind) if kind != "K6" else "refused cert K6 line 5"
         assert any(row.line.fullmatch(line) for row in TABLE), kind
