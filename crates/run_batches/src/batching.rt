@@ -139,7 +139,8 @@ fn batch_texts<'a, K: Sink, G: Gate, R: Threads + Sync>(
     requires net { length net.now ≤ MAX_NET_BYTES }
     requires list { length list.now ≤ MAX_LIST_BYTES }
     requires asked { IsBatchAsked (batch_asked_of request.now) }
-    ensures { IsTold (OrWant (OnTexts request.now (rows_of net.now) list.now)) (K.seen out.old) (K.seen out.new) result }
+    ensures { IsTold (OrWant (OnTexts request.now (rows_of net.now) list.now))
+        (K.seen out.old) (K.seen out.new) result }
 {
     match net_rows(alloc, net) {
         Ok(rows) => batch_on(rt, alloc, &rows, request, list, out, gate),
@@ -161,7 +162,8 @@ pub fn batch<F: Shelf, K: Sink, G: Gate, R: Threads + Sync>(
     gate: &G,
 ) -> Ended
     requires asked { IsBatchAsked (batch_asked_of request.now) }
-    ensures { IsTold (OfBatch files.entry.net.now files.entry.list.now request.now (F.seen shelf.old) (F.seen shelf.new))
+    ensures { IsTold (OfBatch files.entry.net.now files.entry.list.now request.now
+        (F.seen shelf.old) (F.seen shelf.new))
         (K.seen out.old) (K.seen out.new) result }
 {
     let BatchFiles { net, list } = files;
