@@ -122,6 +122,9 @@ fn a_held_worker_reads_the_shared_loads(rt: HostRuntime) -> Result<(), Fail> {
     Ok(())
 }
 
+/// Two matrices of one demand each.
+const TWO_MATRICES: &[u8] = b"m1 ( D1 ( A B ) 1 10 UNLIMITED )\nm2 ( D1 ( A B ) 1 5 UNLIMITED )\n";
+
 /// Holds the first call until a second one has come, whichever workers call.
 #[derive(Drop)]
 struct Pair {
@@ -160,5 +163,17 @@ fn two_solves_of_a_sweep_meet(rt: HostRuntime) -> Result<(), Fail> {
     let given = answer_through(&rt, rt.alloc(), &words, &[("net", TWO_LINKS)], AMPLE, &gate)?;
     assert!(rt; gate.met.load(Ordering::SeqCst));
     assert!(rt; given.begins(0, b"sweep L1 closed phases 1 lower 7/10 0.700000 "));
+    Ok(())
+}
+
+/// Two matrices are solved at the same time, likewise.
+#[test]
+fn two_solves_of_a_batch_meet(rt: HostRuntime) -> Result<(), Fail> {
+    let gate = Pair::new();
+    let words = ["batch", "net", "list", "--links", "directed"];
+    let files = [("net", TWO_LINKS), ("list", TWO_MATRICES)];
+    let given = answer_through(&rt, rt.alloc(), &words, &files, AMPLE, &gate)?;
+    assert!(rt; gate.met.load(Ordering::SeqCst));
+    assert!(rt; given.begins(0, b"matrix m1\nmcf-certificate 2\nverdict closed\n"));
     Ok(())
 }
