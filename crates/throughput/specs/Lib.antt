@@ -1,0 +1,4 @@
+pub mod Gates
+pub mod Gating
+pub mod Asked
+pub mod Run
