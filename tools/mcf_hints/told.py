@@ -10,7 +10,7 @@ import subprocess
 from .words import Request
 
 SECONDS = 10.0
-_LINES = {1: re.compile(r"invalid C[0-9]+"), 3: re.compile(r"refused [a-z0-9]+ [A-Za-z0-9 ]+")}
+_LINES = {1: re.compile(r"invalid2? C[0-9]+"), 3: re.compile(r"refused [a-z0-9]+ [A-Za-z0-9 ]+")}
 
 
 def line_of(status: int, program: str, words: list[str], request: Request, output: int) -> str:
@@ -20,6 +20,8 @@ def line_of(status: int, program: str, words: list[str], request: Request, outpu
     if status == 1 and request.command == "sweepsolve":
         return "some link open"
     line = _last_line(output) or _asked_again(status, program, words, request)
+    if status == 1 and request.command == "tighten" and line in ("end", "mcf-certificate 2"):
+        return "best open"
     return line if line and _LINES[status].fullmatch(line) else f"status {status}"
 
 

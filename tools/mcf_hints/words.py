@@ -13,6 +13,7 @@ RANGES = {"--phases": (1, 65_536), "--workers": (1, 16), "--step": (1, 1_048_576
 OPTIONS = ("--links", "--modules", "--gap", "--phases", "--workers", "--step")
 ONE_WORKER_OPTIONS = tuple(option for option in OPTIONS if option != "--workers")
 FILES = ("NET", "CERT", "SCRIPT")
+READ_ORDER = ("NET", "CERT", "CERT2", "SCRIPT")
 DRAWN = {"SEED": (0, 2**64 - 1), "NODES": (2, 512), "LINKS": (2, 4096), "DEMANDS": (1, 32_768)}
 
 _NUMBER = re.compile(r"(?:[0-9]+\.?[0-9]*|\.[0-9]+)(?:[Ee][+-]?[0-9]{1,2})?")
@@ -21,10 +22,21 @@ _DIGITS = re.compile(r"[0-9]{1,20}")
 
 @dataclass(frozen=True)
 class Command:
-    """What stands behind a command's word: names of positional words, and options."""
+    """What stands behind a command's word: names of positional words, options, and positional words that may be left out."""
 
     words: tuple[str, ...]
     options: tuple[str, ...] = ()
+    spare: tuple[str, ...] = ()
+
+    @property
+    def places(self) -> tuple[str, ...]:
+        """The names of all positional words that there may be."""
+        return self.words + self.spare
+
+    @property
+    def taken(self) -> str:
+        """The positional words, those that may be left out in brackets."""
+        return " ".join([*self.words, *(f"[{name}]" for name in self.spare)])
 
 
 COMMANDS = {
@@ -32,6 +44,7 @@ COMMANDS = {
     "check": Command(FILES[:2]),
     "whatif": Command(FILES),
     "upgrade": Command(FILES[:2]),
+    "tighten": Command(FILES[:2], spare=("CERT2",)),
     "sweep": Command(FILES[:2]),
     "sweepsolve": Command(FILES[:1], ONE_WORKER_OPTIONS),
     "print": Command(FILES[:1]),
@@ -50,7 +63,7 @@ class Request:
     @property
     def files(self) -> list[str]:
         """The words that name files, in the order in which they are read."""
-        return [self.words[name] for name in FILES if name in self.words]
+        return [self.words[name] for name in READ_ORDER if name in self.words]
 
 
 class Misfit(Exception):
@@ -87,16 +100,16 @@ def read(words: list[str]) -> Request:
             _take_option(name, command, seen, word, rest)
     if len(found) < len(command.words):
         missing = " and ".join(command.words[len(found):])
-        raise Misfit(f"{missing} is missing at the end: {name} takes {' '.join(command.words)}")
+        raise Misfit(f"{missing} is missing at the end: {name} takes {command.taken}")
     return Request(name, found)
 
 
 def _take_word(name: str, command: Command, found: dict[str, str], word: str) -> None:
     """One more positional word."""
-    if len(found) == len(command.words):
+    if len(found) == len(command.places):
         quotes = ", and a name with a blank stands in quotes" if "NET" in command.words else ""
-        raise Misfit(f"{shown(word)} is one word too many: {name} takes {' '.join(command.words)}{quotes}")
-    place = command.words[len(found)]
+        raise Misfit(f"{shown(word)} is one word too many: {name} takes {command.taken}{quotes}")
+    place = command.places[len(found)]
     if place in DRAWN:
         least, most = DRAWN[place]
         least = int(found["NODES"]) if place == "LINKS" else least

@@ -35,7 +35,7 @@ DEMANDS (
 # -- words
 
 MISFITS = [
-    ("", "a command has to stand there: solve, check, whatif, upgrade, sweep, sweepsolve, print, gen or trial"),
+    ("", "a command has to stand there: solve, check, whatif, upgrade, tighten, sweep, sweepsolve, print, gen or trial"),
     ("slove n", "`slove` is no command; perhaps solve"),
     ("Solve n", "`Solve` is no command; perhaps solve"),
     ("help slove", "`slove` is no command; perhaps solve"),
@@ -45,6 +45,9 @@ MISFITS = [
     ("whatif n", "CERT and SCRIPT is missing"),
     ("upgrade n", "CERT is missing at the end: upgrade takes NET CERT"),
     ("upgrade a b --links=bidirected", "`--links` is no option of upgrade, which takes none"),
+    ("tighten n", "CERT is missing at the end: tighten takes NET CERT [CERT2]"),
+    ("tighten a b c d", "`d` is one word too many: tighten takes NET CERT [CERT2]"),
+    ("tighten a b --gap 0.1", "`--gap` is no option of tighten, which takes none"),
     ("sweep n", "CERT is missing at the end: sweep takes NET CERT"),
     ("sweep a b --gap 0.1", "`--gap` is no option of sweep, which takes none"),
     ("sweepsolve", "NET is missing at the end: sweepsolve takes NET"),
@@ -82,7 +85,7 @@ MISFITS = [
 FITS = [
     "solve n", "solve -", "solve -- --gap", "solve -- -- ", "solve --gap 0.05 n", "solve n --gap=1e3 --phases=0001 --workers 16",
     "solve n --gap 5e-6", "print x", "whatif a b c", "gen 18446744073709551615 2 2 1", "gen 007 512 4096 32768",
-    "trial 1 2 2 1 --step 1048576 --links=directed --modules sum", "solve n --links bidirected", "upgrade a b",
+    "trial 1 2 2 1 --step 1048576 --links=directed --modules sum", "solve n --links bidirected", "upgrade a b", "tighten a b", "tighten a b c",
     "sweep a b", "sweep -- -- -", "sweepsolve n --phases=7 --links bidirected", "sweepsolve --gap 0.1 --step 65536 --modules sum n",
 ]
 
@@ -228,6 +231,12 @@ check net cert    | 3 | refused cert K1 line 1  | no certificate and no routing
 whatif net cert s | 3 | refused cert K1 line 1  | whatif does not take
 upgrade net cert  | 3 | refused cert K1 line 1  | upgrade does not take
 sweep net cert    | 3 | refused cert K1 line 1  | sweep does not take
+tighten net cert  | 3 | refused cert K1 line 1  | tighten does not take
+tighten net cert cert | 3 | refused cert2 K1 line 1 | tighten does not take
+tighten net cert cert | 3 | refused cert2 K6 line 3 | otherwise than the first
+tighten net cert cert | 3 | refused cert2 K6 line 5 | counts
+tighten net cert cert | 1 | invalid2 C10        | verdict
+tighten net cert  | 1 | mcf-certificate 2       | another --step
 sweepsolve net    | 3 | refused work 2129920    | links times demands
 check net cert    | 3 | refused cert K2 line 4  | form that is due
 check net cert    | 3 | refused cert K3 line 11 | another network
@@ -285,14 +294,14 @@ def test_line_has_its_hint(tmp_path: Path, monkeypatch: pytest.MonkeyPatch, word
     os.close(writer)
     others = {"mcf-certificate 2": "verdict open", "trial nodes": "verdict open", "sweep L1 open": "some link open",
               "something else": f"status {status}"}
-    named = others.get(line, line)
+    named = "best open" if words.startswith("tighten") and line in others else others.get(line, line)
     assert told is not None and re.fullmatch(rf"hint: {named}: [^\n]+ \(docs/guide\.md, part [1-8]\)", told)
     assert said in told
 
 
 def test_every_row_of_the_table_is_reached() -> None:
     for row in TABLE:
-        lines = {line for _, _, line, _ in LINES} | {"verdict open", "some link open", "status 1", "status 3"}
+        lines = {line for _, _, line, _ in LINES} | {"verdict open", "some link open", "best open", "status 1", "status 3"}
         assert any(row.line.fullmatch(line) for line in lines), row.line.pattern
 
 

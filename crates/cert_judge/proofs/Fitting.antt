@@ -1,7 +1,7 @@
 -- What fits a text fits the network whose names the text cites.
-use Rattle.std.proofs.Common.{◌≡◌, ℕ, ◌+◌, ◌<◌, List, [], ◌∷◌, ◌++◌, length, map, Option, Some, None, Result, Ok, Err, refl, ap, sym, subst, ◌∙◌}
+use Rattle.std.proofs.Common.{◌≡◌, ◌⊎◌, ℕ, suc, ◌+◌, ◌<◌, Bool, true, false, inl, inr, List, [], ◌∷◌, ◌++◌, length, map, Option, Some, None, Result, Ok, Err, refl, ap, sym, subst, ◌∙◌}
 use Rattle.std.specs.Prelude.{All}
-use Rattle.std.specs.List.{AllByRecursion, flat_map}
+use Rattle.std.specs.List.{AllByRecursion, filter_map, flat_map}
 use Rattle.std.proofs.lemmas.List.{length-append, length-map}
 use Rattle.std.proofs.lemmas.List.Elements.{All-from_recursion}
 use Rattle.flow_model.specs.Network.{Network}
@@ -13,11 +13,10 @@ use Rattle.flow_paths.specs.Certificate.{IsRowOf, IsRoutingOf, IsPotentialOf, Is
 use Rattle.unit_scale.specs.Modes.{signs}
 use Rattle.unit_scale.specs.declared.modes.Sign.{Sign}
 use Rattle.unit_scale.specs.declared.options.NetOptions.{NetOptions}
-use Rattle.sndlib_grammar.specs.Rows.{NetRows, NetLink, names_of_links}
+use Rattle.sndlib_grammar.specs.Rows.{NetRows, NetLink, NetDemand, names_of_links}
 use Rattle.sndlib_grammar.specs.declared.refusal.NetRefusal.{NetRefusal}
-use Rattle.unit_scale.specs.Sizes.{decimals_of, sizes}
-use Rattle.unit_scale.specs.Scaling.{ScaledNet, scaled_of, scaled_with, unless_refused, refusal, cell_going, capacity_in, cells_of_link}
-use Rattle.unit_scale.specs.ScaledFacts.{IsScaledNet}
+use Rattle.unit_scale.specs.Sizes.{decimals_of, is_left_out, sizes}
+use Rattle.unit_scale.specs.Scaling.{ScaledNet, scaled_of, scaled_with, unless_refused, refusal, cell_going, capacity_in, cells_of_link, commodity_of, kept_from}
 use Rattle.cert_lines.specs.Sheet.{Sheet, sheet_of, sign_mark, signed_words, demand_word}
 use Rattle.cert_lines.specs.Spelling.{FitsLength, FitsPotential, FitsPath}
 use Rattle.cert_writer.specs.Text.{FitsRouting, FitsProof}
@@ -40,6 +39,18 @@ same_count o s (l ∷ links) =
     a ∙ ap (λ (n : ℕ). n + length (flat_map (signed_words o.links) (map (λ (k : NetLink). k.id) links))) (p ∙ sym q)
     ∙ ap (λ (n : ℕ). length cells + n) more ∙ sym b
 
+bool_is : (b : Bool) → (b ≡ true) ⊎ (b ≡ false)
+bool_is true = inl refl
+bool_is false = inr refl
+
+-- as many demands are kept as there are commodities
+kept_same : (s n : ℕ) (ds : List NetDemand) → length (kept_from n ds) ≡ length (filter_map (commodity_of s) ds)
+kept_same s n [] = refl
+kept_same s n (d ∷ ds) = elim (bool_is (is_left_out d)) [
+  | inl out ↦ rw out (kept_same s (n + 1) ds)
+  | inr kept ↦ rw kept (ap suc (kept_same s (n + 1) ds))
+]
+
 abbrev net_or : ScaledNet → Result ScaledNet NetRefusal → ScaledNet
 net_or net (Ok other) = other
 net_or net (Err r) = net
@@ -59,14 +70,15 @@ pub record IsSized (sheet : Sheet) (net : Network) : Type 0 where
   pub cells : length sheet.cells ≡ length net.cells
   pub commodities : length sheet.commodities ≡ length net.commodities
 
-pub sized : (rows : NetRows) (o : NetOptions) (net : ScaledNet) → scaled_of rows o ≡ Ok net → IsScaledNet net → IsSized (sheet_of rows net) net.net
-sized rows o net e facts =
+pub sized : (rows : NetRows) (o : NetOptions) (net : ScaledNet) → scaled_of rows o ≡ Ok net → IsSized (sheet_of rows net) net.net
+sized rows o net e =
     let s = decimals_of (sizes o.modules rows) in
     let is = is_scaled rows o net e in
     record {
       nodes = length-map rows.nodes (λ n. n.id) ∙ ap (λ (n : ScaledNet). n.net.nodes) is;
       cells = subst (λ (n : ScaledNet). length (flat_map (signed_words n.options.links) (names_of_links rows)) ≡ length n.net.cells) is (same_count o s rows.links);
-      commodities = length-map net.kept (demand_word rows) ∙ facts.count;
+      commodities = length-map net.kept (demand_word rows)
+          ∙ subst (λ (n : ScaledNet). length n.kept ≡ length n.net.commodities) is (kept_same s 0 rows.demands);
     }
 
 -- ---- rows

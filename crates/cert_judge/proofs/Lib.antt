@@ -5,5 +5,6 @@ pub mod LineFits
 pub mod NewFits
 pub mod PaperFacts
 pub mod PaperFits
+pub mod Seconds
 pub mod Stages
 pub mod Steps

@@ -3,3 +3,4 @@ pub mod Chain
 pub mod Fits
 pub mod Judgement
 pub mod Papers
+pub mod Second

@@ -14,6 +14,7 @@ ghost use Rattle.cert_text.specs.declared.papers.Paper.TheVariants as PaperIs;
 ghost use Rattle.cert_text.specs.Whole.{paper_in};
 ghost use Rattle.cert_judge.specs.Fits.{FitsForm, FitsPaper, read};
 ghost use Rattle.cert_judge.specs.Papers.{IsReadOf, paper_on};
+ghost use Rattle.cert_judge.specs.Second.{SecondsAreOfOneNetwork};
 
 /// What is read is within the limits of a text, and names commodities, cells and nodes that there
 /// are, in its form; and what is read with the names of a network, in whichever form, is so in form
@@ -35,4 +36,10 @@ pub fn read_by_stages()
         ↔ IsReadOf Both rows text net (PaperIs.Full proof) }
     ensures routings { (rows : NetRows) (text : List ℕ) (net : ScaledNet) (routing : Routing)
         → ¬ (paper_on Certificates rows text ≡ Ok (net, PaperIs.Routing routing)) }
+{}
+
+/// A second certificate is read on the network of a first one exactly where it is read as one of that same network in units,
+/// which has its options.
+pub fn seconds_are_of_one_network()
+    ensures { SecondsAreOfOneNetwork }
 {}

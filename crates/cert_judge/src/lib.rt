@@ -8,12 +8,14 @@ mod judging;
 mod laws;
 mod reading;
 mod refusal;
+mod second;
 
 pub use cert_check::Fault;
 pub use cert_text::{CertKind, CertRefusal};
 pub use certifying::{Certified, read_certificate};
 pub use judged::Judged;
 pub use judging::{judge, judge_paper, refused};
-pub use laws::{papers_fit, read_by_stages};
+pub use laws::{papers_fit, read_by_stages, seconds_are_of_one_network};
 pub use reading::read_paper;
 pub use refusal::{ReadEnd, Refusal};
+pub use second::{Second, read_second};

@@ -3,6 +3,7 @@ pub mod Bounding
 pub mod Choosing
 pub mod CutDuals
 pub mod DualRows
+pub mod Keeping
 pub mod Leasts
 pub mod Leaving
 pub mod Levelling

@@ -60,7 +60,7 @@ pub record IsSound (net : Network) (d : DualRows) : Type 0 where
   pub dual : IsDualOf net d
   pub potentials : RowsArePotentials net d
 
-least-has : (net : Network) (P : DualRows → Type 0) (own cuts : List DualRows) → 1 ≤ length own → All P own → All P cuts → P (least_by (upper_of net) no_dual (own ++ cuts))
+pub least-has : (net : Network) (P : DualRows → Type 0) (own cuts : List DualRows) → 1 ≤ length own → All P own → All P cuts → P (least_by (upper_of net) no_dual (own ++ cuts))
 least-has net P [] cuts some a b = absurd (omega arith)
 least-has net P (d ∷ own) cuts some a b = least-one (upper_of net) no_dual P d (own ++ cuts) (All-append P (d ∷ own) cuts a b)
 

@@ -1,10 +1,11 @@
 -- What a cut, and the best of several bounds, promise.
 use Rattle.std.specs.Prelude.{◌≡◌, ◌≢◌, ℕ, ◌*◌, ◌≤◌, Bool, true, IsTrue, List, [], ◌∷◌, All}
+use Rattle.mcf_limits.specs.declared.TheConstants.{MAX_LENGTH}
 use Rattle.flow_model.specs.declared.net.Cell.{Cell}
 use Rattle.flow_model.specs.Network.{Network, IsNetwork}
 use Rattle.flow_model.specs.Routing.{Row, IsFeasible}
 use Rattle.gap_fraction.specs.Fraction.{FractionLe}
-use Rattle.flow_paths.specs.DualRows.{DualRows}
+use Rattle.flow_paths.specs.DualRows.{Length, Potential, DualRows}
 use Rattle.flow_paths.specs.declared.certificate.Proof.{Proof}
 use Rattle.flow_paths.specs.Certificate.{lower_of, upper_of, CellsHaveLengths, SourcesHaveRows, RowsArePotentials, DistanceDivides}
 use Rattle.cut_bound.specs.Cuts.{Side, cut_value, cut_dual}
@@ -69,3 +70,13 @@ abbrev pub TightenedStays : Type 0
 TightenedStays = (net : Network) (both : Bool) (first : Proof) (others : List Proof) (best again : Proof)
     → IsNetwork net → GoBothWays net both → All (IsCertificateOf net) (first ∷ others)
     → IsTightened net both first others best → IsTightened net both best [] again → again ≡ best
+
+-- its numbers are within the limit of a text
+pub record IsSmall (dual : DualRows) : Type 0 where
+  pub lengths : All (λ (r : Length). r.value ≤ MAX_LENGTH) dual.lengths
+  pub potentials : All (λ (r : Potential). All (λ p. p ≤ MAX_LENGTH) r.values) dual.potentials
+
+-- where the lengths and potentials of each certificate are within the limit, those of what is tightened are
+abbrev pub TightenedIsSmall : Type 0
+TightenedIsSmall = (net : Network) (both : Bool) (first : Proof) (others : List Proof) (best : Proof)
+    → All (λ (p : Proof). IsSmall p.dual) (first ∷ others) → IsTightened net both first others best → IsSmall best.dual

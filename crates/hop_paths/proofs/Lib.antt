@@ -1,3 +1,4 @@
 pub mod Layered
 pub mod Layering
 pub mod LeastOf
+pub mod Traced

@@ -3,3 +3,4 @@ pub mod Layers
 pub mod Laws
 pub mod Searching
 pub mod Searched
+pub mod Lending

@@ -1,9 +1,11 @@
 //! The room that searches by layers work in.
 
-ghost use Rattle.std.specs.Prelude.{◌≡◌, ℕ, ◌≤◌, ◌<◌, ◌+◌, ◌*◌, length, slice_index, IfOk};
+ghost use Rattle.std.specs.Prelude.{◌≡◌, ℕ, ◌≤◌, ◌<◌, ◌+◌, ◌*◌, ◌++◌, length, drop, slice_index, IfOk};
 ghost use Rattle.mcf_limits.specs.declared.TheConstants.{MAX_HOPS};
+ghost use Rattle.hop_paths.specs.Searching.{step_at};
+ghost use Rattle.hop_paths.specs.Searched.{hop_trail};
 
-use crate::search::search;
+use crate::search::{HopStep, search};
 use dijkstra_paths::Graph;
 use mcf_limits::MAX_LENGTH;
 use std::alloc::{AllocError, Global};
@@ -11,12 +13,14 @@ use std::marker::Model;
 
 /// Distances from one node over at most so many cells, for each number of cells up to a
 /// greatest. It is seen as its numbers of nodes and of the greatest layer, and the distance of
-/// each node in each layer, if there is one.
+/// each node in each layer, if there is one, with the steps that lead there.
 #[derive(Drop)]
 pub struct HopScratch {
     nodes: u16,
     layers: u8,
     dist: Vec<u64>,
+    steps: Vec<Option<HopStep>>,
+    path: Vec<u16>,
 }
 
 impl Model for HopScratch {
@@ -26,16 +30,66 @@ impl Model for HopScratch {
 
     ghost Value = { HopSearched };
 
-    ghost view = { λ s. record { nodes = s.nodes; layers = s.layers; dists = map known s.dist.items } };
+    ghost view = { λ s. record { nodes = s.nodes; layers = s.layers; dists = map known s.dist.items; steps = s.steps.items } };
 
-    ghost invariant = { λ s. IsHopReady s.nodes s.layers s.dist.items };
+    ghost invariant = { λ s. IsHopReady s.nodes s.layers s.dist.items s.steps.items s.path.items };
+}
+
+/// The step that leads to that place, if there is one.
+fn step_to(steps: &[Option<HopStep>], place: usize) -> Option<HopStep>
+    ensures { result ≡ step_at steps.now place }
+{
+    if place < steps.len() {
+        steps[place]
+    } else {
+        None
+    }
+}
+
+/// Puts the cells of the steps to a node in that layer in front of a place of the path, and gives the place where they
+/// begin.
+fn trace(
+    steps: &[Option<HopStep>],
+    nodes: u16,
+    layer: u8,
+    to: u16,
+    path: &mut [u16],
+    end: usize,
+) -> usize
+    requires room { layer ≤ end }
+    requires end { end ≤ length path.old }
+    ensures len { length path.new ≡ length path.old }
+    ensures within { result ≤ length path.new }
+    ensures value { drop result path.new ≡ hop_trail steps.now nodes layer to ++ drop end path.old }
+{
+    if layer == 0 {
+        return end;
+    }
+    match step_to(steps, layer as usize * nodes as usize + to as usize) {
+        Some(step) => {
+            path[end - 1] = step.cell;
+            trace(steps, nodes, layer - 1, step.from, path, end - 1)
+        }
+        None => trace(steps, nodes, layer - 1, to, path, end),
+    }
+}
+
+/// What stands from a place on.
+fn rest(path: &[u16], start: usize) -> &[u16]
+    requires { start ≤ length path.now }
+    ensures { result.now ≡ drop start path.now }
+{
+    &path[start..]
 }
 
 impl HopScratch {
-    ghost use Rattle.std.specs.Prelude.{◌≡◌, ℕ, ◌<◌, ◌≤◌, None, IfOk, IfSome};
+    ghost use Rattle.std.specs.Prelude.{◌≡◌, ℕ, ◌<◌, ◌≤◌, None, IfOk, IfSome, IsSomeAnd};
+    ghost use Rattle.std.specs.Option.{option_map};
+    ghost use Rattle.std.specs.Borrow.{sem};
     ghost use Rattle.flow_model.specs.Lengths.{AreLengths};
     ghost use Rattle.hop_paths.specs.Allowed.{IsShortWalk, IsLeastOf};
-    ghost use Rattle.hop_paths.specs.Searched.{layer_dist};
+    ghost use Rattle.hop_paths.specs.Lending.{Keeps};
+    ghost use Rattle.hop_paths.specs.Searched.{layer_dist, layer_path, IsShortPath};
 
     /// Room for searches over so many nodes, for walks of at most so many cells.
     pub fn new(alloc: Global, nodes: u16, layers: u8) -> Result<Self, AllocError>
@@ -48,11 +102,13 @@ impl HopScratch {
             nodes,
             layers,
             dist: vec![in alloc; MAX_LENGTH; many]?,
+            steps: vec![in alloc; None; many]?,
+            path: vec![in alloc; 0; layers as usize]?,
         })
     }
 
     /// Finds the least lengths of walks from a node over positive cells, of at most as many
-    /// cells as the layer's number, for each layer up to that one.
+    /// cells as the layer's number, for each layer up to that one, and a path of each.
     pub fn search(&mut self, graph: &Graph, lengths: &[u64], from: u16, layers: u8)
         requires lengths { AreLengths graph.now.cells lengths.now }
         requires nodes { self.old.nodes ≡ graph.now.nodes }
@@ -62,9 +118,18 @@ impl HopScratch {
         ensures layers { self.new.layers ≡ self.old.layers }
         ensures least { (i v : ℕ) → i ≤ layers → v < self.new.nodes
             → IsLeastOf (IsShortWalk graph.now.cells from v i) lengths.now (layer_dist self.new i v) }
+        ensures paths { (i v : ℕ) → i ≤ layers → v < self.new.nodes → IfSome (layer_dist self.new i v)
+            (λ d. IsSomeAnd (layer_path self.new i v) (IsShortPath graph.now.cells lengths.now from v i d)) }
     {
         let _nodes = graph.nodes();
-        search(graph, lengths, &mut self.dist, from, layers);
+        search(
+            graph,
+            lengths,
+            &mut self.dist,
+            &mut self.steps,
+            from,
+            layers,
+        );
     }
 
     /// The least length of a walk to the node in that layer, if there is one.
@@ -77,5 +142,28 @@ impl HopScratch {
         let at = layer as usize * self.nodes as usize + node as usize;
         let dist = self.dist.as_slice()[at];
         if dist < MAX_LENGTH { Some(dist) } else { None }
+    }
+
+    /// The cells of a least walk to the node in that layer, if there is one.
+    pub fn path_to(&mut self, layer: u8, to: u16) -> Option<&[u16]>
+        requires layer { layer ≤ self.old.layers }
+        requires node { to < self.old.nodes }
+        ensures* keeps { sem 𝓛 (Keeps self.entry) }
+        ensures value { option_map (λ path. path.now) result ≡ layer_path self.old layer to }
+    {
+        let at = layer as usize * self.nodes as usize + to as usize;
+        if self.dist.as_slice()[at] >= MAX_LENGTH {
+            return None;
+        }
+        let end = self.path.len();
+        let start = trace(
+            self.steps.as_slice(),
+            self.nodes,
+            layer,
+            to,
+            &mut self.path,
+            end,
+        );
+        Some(rest(&self.path, start))
     }
 }

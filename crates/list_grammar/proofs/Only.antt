@@ -53,19 +53,19 @@ bad_once tokens line other h k =
 not_bad : (tokens : List Lexeme) (line : ℕ) → AreBegun tokens → IsBadTokenAt tokens line → ⊥
 not_bad tokens line b h = h.refused (front_begun (h.before ++ h.at ∷ []) h.after (subst AreBegun (h.parts ∙ sym (append_assoc h.before (h.at ∷ []) h.after)) b))
 
-syntax_once : (tokens : List Lexeme) (end line other : ℕ) → IsSyntaxAt tokens end line → IsSyntaxAt tokens end other → line ≡ other
+pub syntax_once : (tokens : List Lexeme) (end line other : ℕ) → IsSyntaxAt tokens end line → IsSyntaxAt tokens end other → line ≡ other
 syntax_once tokens end line other (inl h) (inl k) = bad_once tokens line other h k
 syntax_once tokens end line other (inl h) (inr k) = absurd (not_bad tokens line k.begun h)
 syntax_once tokens end line other (inr h) (inl k) = absurd (not_bad tokens other h.begun k)
 syntax_once tokens end line other (inr h) (inr k) = h.line_is ∙ sym k.line_is
 
-not_both : (tokens : List Lexeme) (end line : ℕ) (ms : List MatrixEntry) → AreMatricesOf tokens ms → IsSyntaxAt tokens end line → ⊥
+pub not_both : (tokens : List Lexeme) (end line : ℕ) (ms : List MatrixEntry) → AreMatricesOf tokens ms → IsSyntaxAt tokens end line → ⊥
 not_both tokens end line ms h (inl k) = not_bad tokens line (whole_begun tokens ms h) k
 not_both tokens end line ms h (inr k) = k.none ms h.list
 
 -- ---- answers
 
-same_matrices : (tokens : List Lexeme) (ms ns : List MatrixEntry) → AreMatricesOf tokens ms → AreMatricesOf tokens ns → ms ≡ ns
+pub same_matrices : (tokens : List Lexeme) (ms ns : List MatrixEntry) → AreMatricesOf tokens ms → AreMatricesOf tokens ns → ms ≡ ns
 same_matrices tokens ms ns h k = list_once (symbols_of tokens) ms ns h.list k.list
 
 one_answer : (rows : NetRows) (o : NetOptions) (tokens : List Lexeme) (end : ℕ) (answer other : Result (List Matrix) BatchRefusal) → IsBatchOf rows o tokens end answer → IsBatchOf rows o tokens end other → answer ≡ other

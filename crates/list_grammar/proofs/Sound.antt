@@ -83,16 +83,20 @@ sound_parts rows o ms h =
 
 -- ---- of each matrix
 
--- nothing is wrong with this matrix, and its words are words
+-- nothing is wrong with the entries of this matrix, and its words are words
+pub record IsSoundEntry (rows : NetRows) (m : MatrixEntry) : Type 0 where
+  pub count : length m.demands ≤ MAX_DEMANDS
+  pub ids : line_of (first_repeated [] (map (λ (d : DemandEntry). d.id) m.demands)) ≡ None
+  pub ends : first_of (unknown_of_demand (names_of_nodes rows)) m.demands ≡ None
+  pub numbers : first_of bad_of_demand m.demands ≡ None
+  pub words : AllByRecursion (λ d. OnSymbols IsWord (demand d)) m.demands
+
+-- nor with its numbers in units
 record IsGood (rows : NetRows) (o : NetOptions) (m : MatrixEntry) : Type 0 where
-  count : length m.demands ≤ MAX_DEMANDS
-  ids : line_of (first_repeated [] (map (λ (d : DemandEntry). d.id) m.demands)) ≡ None
-  ends : first_of (unknown_of_demand (names_of_nodes rows)) m.demands ≡ None
-  numbers : first_of bad_of_demand m.demands ≡ None
+  entry : IsSoundEntry rows m
   fine : fine_in rows m ≡ None
   large : large_in o rows m ≡ None
   some : empty_in rows m ≡ None
-  words : AllByRecursion (λ d. OnSymbols IsWord (demand d)) m.demands
 
 within : (xs : List Word) (n : ℕ) → line_of (slice_get xs n) ≡ None → length xs ≤ n
 within [] n h = omega arith
@@ -104,7 +108,18 @@ second_line None b h = h
 second_line (Some a) None h = refl
 second_line (Some a) (Some b) h = absurd cc
 
-all_counted : (ms : List MatrixEntry) → too_many ms ≡ None → length (all_demands ms) ≤ MAX_DEMANDS
+first_line_of_two : (a b : Option ℕ) → lesser_line a b ≡ None → a ≡ None
+first_line_of_two None b h = refl
+first_line_of_two (Some a) None h = absurd cc
+first_line_of_two (Some a) (Some b) h = absurd cc
+
+pub names_counted : (ms : List MatrixEntry) → too_many ms ≡ None → length ms ≤ MAX_MATRICES
+names_counted ms h =
+    let names = map (λ (m : MatrixEntry). m.name) ms in
+    let few = within names MAX_MATRICES (first_line_of_two (line_of (slice_get names MAX_MATRICES)) (line_of (slice_get (map (λ (d : DemandEntry). d.id) (all_demands ms)) MAX_DEMANDS)) h) in
+    omega (arith, few, length-map ms (λ (m : MatrixEntry). m.name))
+
+pub all_counted : (ms : List MatrixEntry) → too_many ms ≡ None → length (all_demands ms) ≤ MAX_DEMANDS
 all_counted ms h =
     let ids = map (λ (d : DemandEntry). d.id) (all_demands ms) in
     let few = within ids MAX_DEMANDS (second_line (line_of (slice_get (map (λ (m : MatrixEntry). m.name) ms) MAX_MATRICES)) (line_of (slice_get ids MAX_DEMANDS)) h) in
@@ -116,33 +131,34 @@ both_none f (x ∷ xs) ys h =
     let rest = both_none f xs ys (second_none (f x) (first_of f (xs ++ ys)) h) in
     (ap (λ o. first_fault o (first_of f xs)) (first_none (f x) (first_of f (xs ++ ys)) h) ∙ rest.0, rest.1)
 
-goods : (rows : NetRows) (o : NetOptions) (known : List (List ℕ)) (ms : List MatrixEntry) → length (all_demands ms) ≤ MAX_DEMANDS → repeated known ms ≡ None
-    → first_of (unknown_of_demand (names_of_nodes rows)) (all_demands ms) ≡ None → first_of bad_of_demand (all_demands ms) ≡ None
-    → first_of (fine_in rows) ms ≡ None → first_of (large_in o rows) ms ≡ None → first_of (empty_in rows) ms ≡ None → OnSymbols IsWord (spelled ms) → AllByRecursion (IsGood rows o) ms
-goods rows o known [] count ids ends numbers fine large some words = tt
-goods rows o known (m ∷ ms) count ids ends numbers fine large some words =
+pub sound_entries : (rows : NetRows) (known : List (List ℕ)) (ms : List MatrixEntry) → length (all_demands ms) ≤ MAX_DEMANDS → repeated known ms ≡ None
+    → first_of (unknown_of_demand (names_of_nodes rows)) (all_demands ms) ≡ None → first_of bad_of_demand (all_demands ms) ≡ None → OnSymbols IsWord (spelled ms) → AllByRecursion (IsSoundEntry rows) ms
+sound_entries rows known [] count ids ends numbers words = tt
+sound_entries rows known (m ∷ ms) count ids ends numbers words =
     let size : length (m.demands ++ all_demands ms) ≡ length m.demands + length (all_demands ms) = length-append m.demands (all_demands ms) in
     let more = repeated (known ++ m.name.text ∷ []) ms in
     let own = line_of (first_repeated [] (map (λ (d : DemandEntry). d.id) m.demands)) in
     let later = not_later (line_if_among known m.name) (or_else own more) ids in
     let e = both_none (unknown_of_demand (names_of_nodes rows)) m.demands (all_demands ms) ends in
     let n = both_none bad_of_demand m.demands (all_demands ms) numbers in
-    let w = first_matrix m ms words in (
-      record {
-        count = omega (arith, count, size);
-        ids = not_first own more later;
-        ends = e.0;
-        numbers = n.0;
-        fine = first_none (fine_in rows m) (first_of (fine_in rows) ms) fine;
-        large = first_none (large_in o rows m) (first_of (large_in o rows) ms) large;
-        some = first_none (empty_in rows m) (first_of (empty_in rows) ms) some;
-        words = w.0;
-      },
-      goods rows o (known ++ m.name.text ∷ []) ms (omega (arith, count, size)) (not_later own more later) e.1 n.1
-          (second_none (fine_in rows m) (first_of (fine_in rows) ms) fine)
-          (second_none (large_in o rows m) (first_of (large_in o rows) ms) large)
-          (second_none (empty_in rows m) (first_of (empty_in rows) ms) some) w.1,
-    )
+    let w = first_matrix IsWord m ms words in
+    (record { count = omega (arith, count, size); ids = not_first own more later; ends = e.0; numbers = n.0; words = w.0 }, sound_entries rows (known ++ m.name.text ∷ []) ms (omega (arith, count, size)) (not_later own more later) e.1 n.1 w.1)
+
+goods : (rows : NetRows) (o : NetOptions) (ms : List MatrixEntry) → AllByRecursion (IsSoundEntry rows) ms
+    → first_of (fine_in rows) ms ≡ None → first_of (large_in o rows) ms ≡ None → first_of (empty_in rows) ms ≡ None → AllByRecursion (IsGood rows o) ms
+goods rows o [] entries fine large some = tt
+goods rows o (m ∷ ms) entries fine large some = (
+  record {
+    entry = entries.0;
+    fine = first_none (fine_in rows m) (first_of (fine_in rows) ms) fine;
+    large = first_none (large_in o rows m) (first_of (large_in o rows) ms) large;
+    some = first_none (empty_in rows m) (first_of (empty_in rows) ms) some;
+  },
+  goods rows o ms entries.1
+      (second_none (fine_in rows m) (first_of (fine_in rows) ms) fine)
+      (second_none (large_in o rows m) (first_of (large_in o rows) ms) large)
+      (second_none (empty_in rows m) (first_of (empty_in rows) ms) some),
+)
 
 -- ---- the rows of a matrix: those of a network that has the nodes and the matrix's demands
 
@@ -170,8 +186,8 @@ neither a b x y = rw (x, y) refl
 no_word : (xs : List Word) (n : ℕ) → length xs ≤ n → line_of (slice_get xs n) ≡ None
 no_word xs n h = ap line_of (slice_get_past xs n h)
 
-sound_entries : (rows : NetRows) (o : NetOptions) (m : MatrixEntry) → AreNetRows rows → IsGood rows o m → fault_of (with_nodes rows m.demands) ≡ None
-sound_entries rows o m are good =
+no_fault : (rows : NetRows) (m : MatrixEntry) → AreNetRows rows → IsSoundEntry rows m → fault_of (with_nodes rows m.demands) ≡ None
+no_fault rows m are good =
     let e = with_nodes rows m.demands in
     let known = names_of_nodes rows in
     let same : texts (node_ids e) ≡ known = names_again rows.nodes in
@@ -184,12 +200,12 @@ sound_entries rows o m are good =
     (subst (λ k. first_of (unknown_of_demand k) m.demands ≡ None) (sym same) good.ends)
     good.numbers
 
-rows_are : (rows : NetRows) (o : NetOptions) (m : MatrixEntry) → AreNetRows rows → IsGood rows o m → AreNetRows (rows_of rows m)
-rows_are rows o m are good =
+pub rows_are : (rows : NetRows) (m : MatrixEntry) → AreNetRows rows → IsSoundEntry rows m → AreNetRows (rows_of rows m)
+rows_are rows m are good =
     let e = with_nodes rows m.demands in
     let same : texts (node_ids e) ≡ names_of_nodes rows = names_again rows.nodes in
     let words : AreWordEntries e = record { nodes = nodes_words rows.nodes (recursion_from_All IsNetNode rows.nodes are.nodes); links = tt; demands = good.words } in
-    let hold = rows_hold 0 e words (sound_entries rows o m are good) in
+    let hold = rows_hold 0 e words (no_fault rows m are good) in
     let size : length (map net_node (map named rows.nodes)) ≡ length rows.nodes = length-map (map named rows.nodes) net_node ∙ length-map rows.nodes named in
     record {
       node_count = are.node_count;
@@ -241,7 +257,7 @@ is_scaled rows o m links good =
 pub scaled : MatricesAreScaled
 scaled rows o text batch are (ms, is, none, same) =
     let sound = sound_parts rows o ms none in
-    let each = goods rows o [] ms (all_counted ms sound.count) sound.names sound.ends sound.numbers sound.fine sound.large sound.some (matrices_words text ms is) in
+    let each = goods rows o ms (sound_entries rows [] ms (all_counted ms sound.count) sound.names sound.ends sound.numbers (matrices_words text ms is)) sound.fine sound.large sound.some in
     let Q = λ (m : Matrix). AreNetRows m.rows × (scaled_of m.rows o ≡ Ok m.net) in
     subst (All Q) (sym same) (All-from_recursion Q (map (matrix_of rows o) ms)
-    (through (matrix_of rows o) (IsGood rows o) Q (λ m good. (rows_are rows o m are good, is_scaled rows o m sound.links good)) ms each))
+    (through (matrix_of rows o) (IsGood rows o) Q (λ m good. (rows_are rows m are good.entry, is_scaled rows o m sound.links good)) ms each))

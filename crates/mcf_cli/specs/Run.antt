@@ -1,9 +1,9 @@
 -- What a run answers to its words and to the files that they name.
-use Rattle.std.specs.Prelude.{◌≡◌, ℕ, List, [], Option, Some, None, slice_index_or}
+use Rattle.std.specs.Prelude.{◌≡◌, ℕ, List, [], Option, Some, None, slice_get, slice_index_or}
 use Rattle.mcf_base.specs.Shelf.{ShelfView}
 use Rattle.mcf_base.specs.Sink.{SinkView}
 use Rattle.mcf_words.specs.declared.request.Command.{Command}
-use Rattle.mcf_words.specs.declared.request.Command.TheVariants.{Solve, Check, WhatIf, Upgrade, Sweep, SweepSolve, Print, Gen, Trial}
+use Rattle.mcf_words.specs.declared.request.Command.TheVariants.{Solve, Check, WhatIf, Upgrade, Tighten, Sweep, SweepSolve, Print, Gen, Trial}
 use Rattle.mcf_words.specs.declared.request.Request.{Request}
 use Rattle.mcf_words.specs.Request.{request_of}
 use Rattle.run_base.specs.declared.ended.Ended.{Ended}
@@ -14,6 +14,7 @@ use Rattle.run_solves.specs.Print.{OfPrint}
 use Rattle.run_solves.specs.Solve.{OfSolve}
 use Rattle.run_solves.specs.Drawn.{gen_answer, OfTrial}
 use Rattle.run_certs.specs.Check.{OfCheck}
+use Rattle.run_certs.specs.Tighten.{OfTighten}
 use Rattle.run_certs.specs.Upgrade.{OfUpgrade}
 use Rattle.run_certs.specs.WhatIf.{OfWhatIf}
 use Rattle.run_sweeps.specs.Sweep.{OfSweep}
@@ -22,6 +23,10 @@ use Rattle.run_sweeps.specs.SweepSolve.{OfSweepSolve}
 -- the file of that place among the words
 abbrev pub file_at : Request → ℕ → List ℕ
 file_at request i = slice_index_or request.names i []
+
+-- the file of that place, if the words name one
+abbrev pub file_if : Request → ℕ → Option (List ℕ)
+file_if request i = slice_get request.names i
 
 -- the answer of a command, with what the shelf has seen before and behind it: so the files that were started are those
 -- which the command comes to, in their order
@@ -32,6 +37,8 @@ OfCommand Check request old new answer = OfCheck (file_at request 0) (file_at re
 OfCommand Gen request old new answer = Ends (λ given. given ≡ gen_answer request.numbers) old new answer
 OfCommand Trial request old new answer = Ends (OfTrial request) old new answer
 OfCommand Upgrade request old new answer = OfUpgrade (file_at request 0) (file_at request 1) old new answer
+OfCommand Tighten request old new answer =
+    OfTighten (file_at request 0) (file_at request 1) (file_if request 2) old new answer
 OfCommand Sweep request old new answer = OfSweep (file_at request 0) (file_at request 1) old new answer
 OfCommand SweepSolve request old new answer = OfSweepSolve (file_at request 0) request old new answer
 OfCommand WhatIf request old new answer =

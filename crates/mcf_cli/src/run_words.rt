@@ -1,14 +1,14 @@
 //! The top call.
 
 ghost use Rattle.std.specs.Prelude.{◌≡◌, length, map, string_bytes};
-ghost use Rattle.mcf_words.specs.Request.{file_count, IsWithinLimits, AreDrawn};
+ghost use Rattle.mcf_words.specs.Request.{IsFileCount, least_files, IsWithinLimits, AreDrawn};
 ghost use Rattle.run_base.specs.Answer.{IsTold};
 ghost use Rattle.mcf_cli.specs.Run.{OfCommand, RunEnds};
 
 use mcf_base::{Gate, Shelf, Sink};
 use mcf_words::{Command, Request, WordsEnd, read_words};
 use run_base::{Ended, Outcome, tell};
-use run_certs::{check, upgrade, whatif_files};
+use run_certs::{check, tighten, upgrade, whatif_files};
 use run_solves::{gen_net, print, solve_file, trial};
 use run_sweeps::{sweep, sweepsolve};
 use std::alloc::Global;
@@ -23,9 +23,9 @@ fn run_command<F: Shelf, K: Sink, G: Gate, R: Threads + Sync>(
     out: &mut K,
     gate: &G,
 ) -> Ended
-    requires files { length request.now.names ≡ file_count request.now.command }
+    requires files { IsFileCount request.now.command (length request.now.names) }
     requires limits { IsWithinLimits request.now }
-    requires drawn { file_count request.now.command ≡ 0 → AreDrawn request.now.numbers }
+    requires drawn { least_files request.now.command ≡ 0 → AreDrawn request.now.numbers }
     ensures { IsTold (OfCommand request.now.command request.now (F.seen shelf.old)
         (F.seen shelf.new)) (K.seen out.old) (K.seen out.new) result }
 {
@@ -44,6 +44,14 @@ fn run_command<F: Shelf, K: Sink, G: Gate, R: Threads + Sync>(
             out,
             request.names.name(0),
             request.names.name(1),
+        ),
+        Command::Tighten => tighten(
+            alloc,
+            shelf,
+            out,
+            request.names.name(0),
+            request.names.name(1),
+            request.names.get(2),
         ),
         Command::Sweep => sweep(
             rt,

@@ -9,6 +9,7 @@ pub mod Adding
 pub mod Refusing
 pub mod Telling
 pub mod Counted
+pub mod FileCounts
 pub mod Basics
 pub mod PartsRead
 pub mod PartsFound

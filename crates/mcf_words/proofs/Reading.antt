@@ -2,31 +2,32 @@
 use Rattle.std.proofs.Common.{◌≡◌, ◌∙◌, ◌-◌, ◌^◌, ◌≤◌, ◌⊎◌, inl, inr, ℕ, Bool, cond, true, false, refl, sym, ap, ap₂, subst, arith, List, [], ◌∷◌, length, Option, Some, None, option_map, codes, eqb-true, eq-eqb}
 use Rattle.std.specs.Prelude.{◌==◌}
 use Rattle.std.proofs.lemmas.Bool.{eqb-false, ne_eqb}
-use Rattle.mcf_limits.specs.declared.TheConstants.{DEFAULT_GAP, DEFAULT_STEP, DEFAULT_WORKERS, MAX_NODES, MAX_LINKS, MAX_DEMANDS, MAX_PHASES, MAX_WORKERS, MAX_STEP}
+use Rattle.mcf_limits.specs.declared.TheConstants.{DEFAULT_GAP, DEFAULT_STEP, MAX_NODES, MAX_LINKS, MAX_DEMANDS, MAX_PHASES, MAX_WORKERS, MAX_STEP}
 use Rattle.unit_scale.specs.Modes.{link_mode_of, module_mode_of}
 use Rattle.unit_scale.specs.declared.modes.LinkMode.{LinkMode}
 use Rattle.unit_scale.specs.declared.modes.LinkMode.TheVariants.{Undirected}
 use Rattle.unit_scale.specs.declared.modes.ModuleMode.{ModuleMode}
 use Rattle.unit_scale.specs.declared.modes.ModuleMode.TheVariants.{Largest}
 use Rattle.mcf_words.specs.declared.request.Command.{Command}
-use Rattle.mcf_words.specs.declared.request.Command.TheVariants.{Solve, Check, WhatIf, Upgrade, Sweep, SweepSolve, Print, Gen, Trial}
+use Rattle.mcf_words.specs.declared.request.Command.TheVariants.{Solve, Check, WhatIf, Upgrade, Tighten, Sweep, SweepSolve, Print, Gen, Trial}
 use Rattle.mcf_words.specs.declared.request.Request.{Request}
 use Rattle.mcf_words.specs.Items.{Items, Setting, items_of}
 use Rattle.mcf_words.specs.Values.{choice, gap_of, number_in, values_of}
-use Rattle.mcf_words.specs.Request.{◌>>=◌, Choices, are_known, choices_of, command_of, commands, file_count, files_of, form_of, four_numbers, has_word, numbers_of, request_from, request_of}
+use Rattle.mcf_words.specs.Request.{◌>>=◌, Choices, are_known, choices_of, command_of, commands, least_files, files_of, form_of, four_numbers, has_word, numbers_of, reads_files, request_from, request_of}
 use Rattle.std.specs.List.{find}
 use Rattle.mcf_words.proofs.Rows.{text_is}
 use Rattle.mcf_words.specs.Parts.{AreParts}
 use Rattle.mcf_words.specs.Spelled.{IsSpelled, NameFiles, NameNumbers, OptionsSay}
 use Rattle.mcf_words.proofs.Basics.{bind_some, none_is, some_is}
+use Rattle.mcf_words.proofs.FileCounts.{counted, counts}
 use Rattle.mcf_words.proofs.PartsRead.{known_settings, known_test, parts_read}
 use Rattle.mcf_words.proofs.PartsFound.{parts_found}
-use Rattle.mcf_words.proofs.Saying.{choice_says, gaps_agree, links_agree, modules_agree, numbers_agree, phases_agree, says_choice}
+use Rattle.mcf_words.proofs.Saying.{choice_says, gaps_agree, links_agree, modules_agree, numbers_agree, phases_agree, says_choice, workers_agree}
 
 -- ---- options
 
 module _ (ss : List Setting) where
-  abbrev pub made : LinkMode → ModuleMode → ℕ → Option ℕ → ℕ → ℕ → Choices
+  abbrev pub made : LinkMode → ModuleMode → ℕ → Option ℕ → Option ℕ → ℕ → Choices
   made links modules gap phases workers step = record { net = record { links = links; modules = modules }; gap = gap; phases = phases; workers = workers; step = step }
 
   abbrev links_in : Option LinkMode
@@ -41,13 +42,13 @@ module _ (ss : List Setting) where
   abbrev phases_in : Option (Option ℕ)
   phases_in = choice (λ w. option_map Some (number_in 1 MAX_PHASES w)) None (values_of (codes "--phases") ss)
 
-  abbrev workers_in : Option ℕ
-  workers_in = choice (number_in 1 MAX_WORKERS) DEFAULT_WORKERS (values_of (codes "--workers") ss)
+  abbrev workers_in : Option (Option ℕ)
+  workers_in = choice (λ w. option_map Some (number_in 1 MAX_WORKERS w)) None (values_of (codes "--workers") ss)
 
   abbrev step_in : Option ℕ
   step_in = choice (number_in 1 MAX_STEP) DEFAULT_STEP (values_of (codes "--step") ss)
 
-  abbrev with_workers : LinkMode → ModuleMode → ℕ → Option ℕ → ℕ → Option Choices
+  abbrev with_workers : LinkMode → ModuleMode → ℕ → Option ℕ → Option ℕ → Option Choices
   with_workers l m g p w = step_in >>= λ s. Some (made l m g p w s)
 
   abbrev with_phases : LinkMode → ModuleMode → ℕ → Option ℕ → Option Choices
@@ -95,7 +96,7 @@ module _ (ss : List Setting) where
     modules = says_choice (codes "--modules") module_mode_of _ modules_agree Largest ss r.net.modules say.modules;
     gap = says_choice (codes "--gap") gap_of _ gaps_agree DEFAULT_GAP ss r.gap say.gap;
     phases = says_choice (codes "--phases") (λ w. option_map Some (number_in 1 MAX_PHASES w)) _ phases_agree None ss r.phases say.phases;
-    workers = says_choice (codes "--workers") (number_in 1 MAX_WORKERS) _ (numbers_agree 1 MAX_WORKERS) DEFAULT_WORKERS ss r.workers say.workers;
+    workers = says_choice (codes "--workers") (λ w. option_map Some (number_in 1 MAX_WORKERS w)) _ workers_agree None ss r.workers say.workers;
     step = says_choice (codes "--step") (number_in 1 MAX_STEP) _ (numbers_agree 1 MAX_STEP) DEFAULT_STEP ss r.step say.step;
   }
 
@@ -105,7 +106,7 @@ module _ (ss : List Setting) where
     modules = choice_says (codes "--modules") module_mode_of _ modules_agree Largest ss r.net.modules is.modules;
     gap = choice_says (codes "--gap") gap_of _ gaps_agree DEFAULT_GAP ss r.gap is.gap;
     phases = choice_says (codes "--phases") (λ w. option_map Some (number_in 1 MAX_PHASES w)) _ phases_agree None ss r.phases is.phases;
-    workers = choice_says (codes "--workers") (number_in 1 MAX_WORKERS) _ (numbers_agree 1 MAX_WORKERS) DEFAULT_WORKERS ss r.workers is.workers;
+    workers = choice_says (codes "--workers") (λ w. option_map Some (number_in 1 MAX_WORKERS w)) _ workers_agree None ss r.workers is.workers;
     step = choice_says (codes "--step") (number_in 1 MAX_STEP) _ (numbers_agree 1 MAX_STEP) DEFAULT_STEP ss r.step is.step;
   }
 
@@ -117,7 +118,7 @@ zeros = 0 ∷ 0 ∷ 0 ∷ 0 ∷ []
 abbrev Stand : List (List ℕ) → Request → Type 0
 Stand plain r = NameFiles plain r ⊎ NameNumbers plain r
 
-module _ (r : Request) (none : file_count r.command ≡ 0) (no_files : r.names ≡ []) where
+module _ (r : Request) (none : least_files r.command ≡ 0) (no_files : r.names ≡ []) where
   module _ (a b c d : List ℕ) where
     abbrev with_link : ℕ → ℕ → ℕ → Option (List ℕ)
     with_link s n l = number_in 1 MAX_DEMANDS d >>= λ k. Some (s ∷ n ∷ l ∷ k ∷ [])
@@ -173,39 +174,39 @@ module _ (r : Request) (plain : List (List ℕ)) where
   all_by b = cond b (Some plain) None
 
   abbrev files_by : Bool → Option (List (List ℕ))
-  files_by b = cond b (Some []) (all_by (length plain == file_count r.command))
+  files_by b = cond b (Some []) (all_by (reads_files r.command (length plain)))
 
-  some_files : (file_count r.command == 0) ≡ false → 1 ≤ file_count r.command
-  some_files is = from (file_count r.command) (eqb-false (file_count r.command) 0 is)
+  some_files : (least_files r.command == 0) ≡ false → 1 ≤ least_files r.command
+  some_files is = from (least_files r.command) (eqb-false (least_files r.command) 0 is)
     where
       from : (n : ℕ) → (n ≡ 0 → ⊥) → 1 ≤ n
       from n apart = omega arith
 
-  named_files : (file_count r.command == 0) ≡ false → Some zeros ≡ Some r.numbers → (b : Bool) → (length plain == file_count r.command) ≡ b → all_by b ≡ Some r.names → NameFiles plain r
+  named_files : (least_files r.command == 0) ≡ false → Some zeros ≡ Some r.numbers → (b : Bool) → reads_files r.command (length plain) ≡ b → all_by b ≡ Some r.names → NameFiles plain r
   named_files is numbers true count names = record {
     some = some_files is;
-    count = eqb-true (length plain) (file_count r.command) count;
+    count = counted r.command (length plain) count;
     files = sym (some_is plain r.names names);
     no_numbers = sym (some_is zeros r.numbers numbers);
   }
   named_files is numbers false count names = absurd (none_is r.names names)
 
   stand_found : numbers_of r.command plain ≡ Some r.numbers → files_of r.command plain ≡ Some r.names → Stand plain r
-  stand_found numbers names = by (file_count r.command == 0) refl numbers names
+  stand_found numbers names = by (least_files r.command == 0) refl numbers names
     where
-      by : (b : Bool) → (file_count r.command == 0) ≡ b → numbers_by b ≡ Some r.numbers → files_by b ≡ Some r.names → Stand plain r
-      by true is numbers names = inr (four r (eqb-true (file_count r.command) 0 is) (sym (some_is [] r.names names)) plain numbers)
-      by false is numbers names = inl (named_files is numbers (length plain == file_count r.command) refl names)
+      by : (b : Bool) → (least_files r.command == 0) ≡ b → numbers_by b ≡ Some r.numbers → files_by b ≡ Some r.names → Stand plain r
+      by true is numbers names = inr (four r (eqb-true (least_files r.command) 0 is) (sym (some_is [] r.names names)) plain numbers)
+      by false is numbers names = inl (named_files is numbers (reads_files r.command (length plain)) refl names)
 
   stand_numbers : Stand plain r → numbers_of r.command plain ≡ Some r.numbers
   stand_numbers (inl files) =
-      let apart : (file_count r.command == 0) ≡ false = ne_eqb (file_count r.command) 0 (some_none (file_count r.command) files.some) in
+      let apart : (least_files r.command == 0) ≡ false = ne_eqb (least_files r.command) 0 (some_none (least_files r.command) files.some) in
       ap numbers_by apart ∙ ap (λ ns. Some ns) (sym files.no_numbers)
     where
       some_none : (n : ℕ) → 1 ≤ n → n ≡ 0 → ⊥
       some_none n some none = omega arith
   stand_numbers (inr four) =
-      ap numbers_by (eq-eqb (file_count r.command) 0 four.none) ∙ ap four_numbers four.words
+      ap numbers_by (eq-eqb (least_files r.command) 0 four.none) ∙ ap four_numbers four.words
       ∙ four_read r four.none four.no_files four.seed_word four.nodes_word four.links_word four.demands_word four.seed four.nodes four.links four.demands
       ((numbers_agree 0 (2 ^ 64 - 1)).reads four.seed_word four.seed four.seed_is)
       ((numbers_agree 2 MAX_NODES).reads four.nodes_word four.nodes four.nodes_are)
@@ -215,12 +216,12 @@ module _ (r : Request) (plain : List (List ℕ)) where
 
   stand_files : Stand plain r → files_of r.command plain ≡ Some r.names
   stand_files (inl files) =
-      let apart : (file_count r.command == 0) ≡ false = ne_eqb (file_count r.command) 0 (some_none (file_count r.command) files.some) in
-      ap files_by apart ∙ ap all_by (eq-eqb (length plain) (file_count r.command) files.count) ∙ ap (λ ns. Some ns) (sym files.files)
+      let apart : (least_files r.command == 0) ≡ false = ne_eqb (least_files r.command) 0 (some_none (least_files r.command) files.some) in
+      ap files_by apart ∙ ap all_by (counts r.command (length plain) files.count) ∙ ap (λ ns. Some ns) (sym files.files)
     where
       some_none : (n : ℕ) → 1 ≤ n → n ≡ 0 → ⊥
       some_none n some none = omega arith
-  stand_files (inr four) = ap files_by (eq-eqb (file_count r.command) 0 four.none) ∙ ap (λ ns. Some ns) (sym four.no_files)
+  stand_files (inr four) = ap files_by (eq-eqb (least_files r.command) 0 four.none) ∙ ap (λ ns. Some ns) (sym four.no_files)
 
 -- ---- requests
 
@@ -290,6 +291,7 @@ command_again Solve = refl
 command_again Check = refl
 command_again WhatIf = refl
 command_again Upgrade = refl
+command_again Tighten = refl
 command_again Sweep = refl
 command_again SweepSolve = refl
 command_again Print = refl

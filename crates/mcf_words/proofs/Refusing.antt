@@ -5,14 +5,14 @@ use Rattle.std.specs.Char.{is_ascii_digit}
 use Rattle.std.specs.List.{cons_option, list_all, list_any}
 use Rattle.std.specs.Str.{bytes_eq}
 use Rattle.std.proofs.lemmas.Bool.{and_parts, and_right, eqb-true, false≢true, not-false, or_cases}
-use Rattle.mcf_limits.specs.declared.TheConstants.{DEFAULT_GAP, DEFAULT_STEP, DEFAULT_WORKERS, MAX_PHASES, MAX_WORKERS, MAX_STEP}
+use Rattle.mcf_limits.specs.declared.TheConstants.{DEFAULT_GAP, DEFAULT_STEP, MAX_PHASES, MAX_WORKERS, MAX_STEP}
 use Rattle.unit_scale.specs.Modes.{link_mode_of, module_mode_of}
 use Rattle.unit_scale.specs.declared.modes.LinkMode.{LinkMode}
 use Rattle.unit_scale.specs.declared.modes.LinkMode.TheVariants.{Undirected}
 use Rattle.unit_scale.specs.declared.modes.ModuleMode.{ModuleMode}
 use Rattle.unit_scale.specs.declared.modes.ModuleMode.TheVariants.{Largest}
 use Rattle.mcf_words.specs.declared.request.Command.{Command}
-use Rattle.mcf_words.specs.declared.request.Command.TheVariants.{Solve, Check, WhatIf, Upgrade, Sweep, SweepSolve, Print, Gen, Trial}
+use Rattle.mcf_words.specs.declared.request.Command.TheVariants.{Solve, Check, WhatIf, Upgrade, Tighten, Sweep, SweepSolve, Print, Gen, Trial}
 use Rattle.mcf_words.specs.declared.request.Request.{Request}
 use Rattle.mcf_words.specs.Items.{Setting, Items, is_option}
 use Rattle.mcf_words.specs.Values.{choice, gap_of, is_whole, number_in, values_of}
@@ -87,8 +87,8 @@ module _ (settings : List Setting) where
   abbrev phases : Option (Option ℕ)
   phases = choice (λ w. option_map Some (number_in 1 MAX_PHASES w)) None (values_of (codes "--phases") settings)
 
-  abbrev workers : Option ℕ
-  workers = choice (number_in 1 MAX_WORKERS) DEFAULT_WORKERS (values_of (codes "--workers") settings)
+  abbrev workers : Option (Option ℕ)
+  workers = choice (λ w. option_map Some (number_in 1 MAX_WORKERS w)) None (values_of (codes "--workers") settings)
 
   abbrev step : Option ℕ
   step = choice (number_in 1 MAX_STEP) DEFAULT_STEP (values_of (codes "--step") settings)
@@ -118,7 +118,8 @@ module _ (settings : List Setting) where
 
   workers_fail : (name : List ℕ) → Fails name → list_any (bytes_eq name) (codes "--workers" ∷ codes "--step" ∷ []) ≡ true → (workers ≡ None) ⊎ (step ≡ None)
   workers_fail name f e = elim (here_or name (codes "--workers") (codes "--step" ∷ []) e) [
-    | inl h ↦ inl (no_choice (number_in 1 MAX_WORKERS) DEFAULT_WORKERS (values_of (codes "--workers") settings) (no_number 1 MAX_WORKERS) (fails_at name _ h f))
+    | inl h ↦ inl (no_choice (λ w. option_map Some (number_in 1 MAX_WORKERS w)) None (values_of (codes "--workers") settings)
+        (λ v d. ap (option_map Some) (no_number 1 MAX_WORKERS v d)) (fails_at name _ h f))
     | inr h ↦ inr (step_fails name f h)
   ]
 
@@ -193,6 +194,7 @@ option_refused Trial items name f known = choices_refused Trial items (no_choice
 option_refused Check items name f known = absurd (no_option name known)
 option_refused WhatIf items name f known = absurd (no_option name known)
 option_refused Upgrade items name f known = absurd (no_option name known)
+option_refused Tighten items name f known = absurd (no_option name known)
 option_refused Sweep items name f known = absurd (no_option name known)
 option_refused SweepSolve items name f known = choices_refused SweepSolve items (no_choices items.settings (any_fails items.settings name f (among_solvers name known)))
 option_refused Print items name f known = absurd (no_option name known)

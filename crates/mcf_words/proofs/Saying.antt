@@ -5,7 +5,7 @@ use Rattle.std.specs.Str.{bytes_eq}
 use Rattle.std.specs.Str.Parse.{digits_value}
 use Rattle.std.proofs.lemmas.Bool.{and_from, and_parts, both_ways, false_from_ne_true}
 use Rattle.std.proofs.lemmas.List.Elements.{All-head, All-tail, All-nil, All-cons, filter_map-append}
-use Rattle.mcf_limits.specs.declared.TheConstants.{MAX_DECIMALS, MAX_GAP, MAX_PHASES}
+use Rattle.mcf_limits.specs.declared.TheConstants.{MAX_DECIMALS, MAX_GAP, MAX_PHASES, MAX_WORKERS}
 use Rattle.sndlib_grammar.specs.Number.{Number, number_of}
 use Rattle.unit_scale.specs.declared.decimal.Decimal.TheVariants.{Millionths, Huge}
 use Rattle.unit_scale.specs.Units.{decimal_from, decimal_of, digits, places, quotient, units_of, most}
@@ -19,7 +19,7 @@ use Rattle.mcf_words.specs.Items.{Setting}
 use Rattle.mcf_words.specs.Values.{choice, gap_of, is_whole, number_in, values_of, within_gap}
 use Rattle.mcf_words.proofs.Rows.{same_text, text_is}
 use Rattle.mcf_words.specs.Parts.{IsAbsent, StandsOnce}
-use Rattle.mcf_words.specs.WordValues.{IsGapWord, IsLinkWord, IsModuleWord, IsNumberWord, IsPhasesWord, Says}
+use Rattle.mcf_words.specs.WordValues.{IsGapWord, IsLinkWord, IsModuleWord, IsNumberWord, IsPhasesWord, IsWorkersWord, Says}
 use Rattle.mcf_words.proofs.Basics.{mapped, none_is, some_is}
 
 -- ---- the values of a name
@@ -138,14 +138,18 @@ module _ (low high : ℕ) where
   pub numbers_agree : Agrees (number_in low high) (IsNumberWord low high)
   numbers_agree = record { means = number_means; reads = number_reads }
 
-abbrev phases_of : List ℕ → Option (Option ℕ)
-phases_of w = option_map (λ n. Some n) (number_in 1 MAX_PHASES w)
+-- a number from 1 on that is given
+some_numbers_agree : (high : ℕ) → Agrees (λ w. option_map Some (number_in 1 high w)) (λ w said. (n : ℕ) × (said ≡ Some n) × IsNumberWord 1 high w n)
+some_numbers_agree high = record {
+  means = λ w x e. let m = mapped Some (number_in 1 high w) x e in (m.0, sym m.2, number_means 1 high w m.0 m.1);
+  reads = λ w x is. ap (option_map Some) (number_reads 1 high w is.0 is.2) ∙ ap (λ o. Some o) (sym is.1);
+}
 
 pub phases_agree : Agrees (λ w. option_map Some (number_in 1 MAX_PHASES w)) IsPhasesWord
-phases_agree = record {
-  means = λ w x e. let m = mapped Some (number_in 1 MAX_PHASES w) x e in (m.0, sym m.2, number_means 1 MAX_PHASES w m.0 m.1);
-  reads = λ w x is. ap (option_map Some) (number_reads 1 MAX_PHASES w is.0 is.2) ∙ ap (λ o. Some o) (sym is.1);
-}
+phases_agree = some_numbers_agree MAX_PHASES
+
+pub workers_agree : Agrees (λ w. option_map Some (number_in 1 MAX_WORKERS w)) IsWorkersWord
+workers_agree = some_numbers_agree MAX_WORKERS
 
 -- ---- modes
 

@@ -15,12 +15,12 @@ use Rattle.clap.specs.declared.error.kind.ErrorKind.TheVariants.{OutOfMemory}
 use Rattle.clap.specs.declared.parser.matches.ArgMatches.{ArgMatches}
 use Rattle.clap.specs.declared.parser.matches.Found.{Found}
 use Rattle.clap.proofs.WalkLemmas.{first_value-rows, raw_values-rows}
-use Rattle.mcf_limits.specs.declared.TheConstants.{DEFAULT_GAP, DEFAULT_STEP, DEFAULT_WORKERS, MAX_PHASES, MAX_WORKERS, MAX_STEP}
+use Rattle.mcf_limits.specs.declared.TheConstants.{DEFAULT_GAP, DEFAULT_STEP, MAX_PHASES, MAX_WORKERS, MAX_STEP}
 use Rattle.unit_scale.specs.Modes.{link_mode_of, module_mode_of}
 use Rattle.unit_scale.specs.declared.modes.LinkMode.TheVariants.{Undirected}
 use Rattle.unit_scale.specs.declared.modes.ModuleMode.TheVariants.{Largest}
 use Rattle.mcf_words.specs.declared.request.Command.{Command}
-use Rattle.mcf_words.specs.declared.request.Command.TheVariants.{Solve, Check, WhatIf, Upgrade, Sweep, SweepSolve, Print, Gen, Trial}
+use Rattle.mcf_words.specs.declared.request.Command.TheVariants.{Solve, Check, WhatIf, Upgrade, Tighten, Sweep, SweepSolve, Print, Gen, Trial}
 use Rattle.mcf_words.specs.Items.{Items, items_of}
 use Rattle.mcf_words.specs.Parse.{Tells, app_of_names, choices_in, names_of, read_in, request_after, request_in, words_id}
 use Rattle.mcf_words.specs.Request.{◌>>=◌, choices_of, command_of, files_of, numbers_of, options_of, request_from, request_of, one_worker_options, solver_options}
@@ -39,6 +39,7 @@ each P solver alone none Solve = solver
 each P solver alone none Check = none
 each P solver alone none WhatIf = none
 each P solver alone none Upgrade = none
+each P solver alone none Tighten = none
 each P solver alone none Sweep = none
 each P solver alone none SweepSolve = alone
 each P solver alone none Print = none
@@ -147,7 +148,7 @@ module _ (command : Command) (items : Items) (found : Found) (t : Tells command 
   unfolding choices_of choices_in
   choices_told = λ i. said (codes "links") link_mode_of Undirected refl i >>= λ links. said (codes "modules") module_mode_of Largest refl i >>= λ modules.
       said (codes "gap") gap_of DEFAULT_GAP refl i >>= λ gap. said (codes "phases") (λ w. option_map Some (number_in 1 MAX_PHASES w)) None refl i >>= λ phases.
-      said (codes "workers") (number_in 1 MAX_WORKERS) DEFAULT_WORKERS refl i >>= λ workers. said (codes "step") (number_in 1 MAX_STEP) DEFAULT_STEP refl i >>= λ step.
+      said (codes "workers") (λ w. option_map Some (number_in 1 MAX_WORKERS w)) None refl i >>= λ workers. said (codes "step") (number_in 1 MAX_STEP) DEFAULT_STEP refl i >>= λ step.
       Some (record { net = record { links = links; modules = modules }; gap = gap; phases = phases; workers = workers; step = step })
 
   request_told : request_from command items ≡ request_in command found

@@ -1,5 +1,5 @@
 -- The words for a request spell it.
-use Rattle.std.proofs.Common.{◌≡◌, ◌∙◌, ◌&&◌, ◌*◌, ◌+◌, ◌-◌, ◌^◌, ◌≤◌, ◌<◌, ◌⊎◌, inl, inr, ℕ, Bool, cond, true, false, refl, sym, ap, subst, arith, List, [], ◌∷◌, ◌++◌, append-nil, length, map, take, drop, Option, Some, None, All, Contains, codes, decimal, le-leb, eq-eqb, eqb-true, true≢false}
+use Rattle.std.proofs.Common.{◌≡◌, ◌∙◌, ◌&&◌, ◌*◌, ◌+◌, ◌-◌, ◌^◌, ◌≤◌, ◌<◌, ◌⊎◌, inl, inr, ℕ, Bool, cond, true, false, refl, sym, ap, subst, arith, List, [], ◌∷◌, ◌++◌, append-nil, length, map, take, drop, Option, Some, None, All, Contains, codes, decimal, le-leb, eq-eqb, eqb-true}
 use Rattle.std.specs.Prelude.{◌==◌, nat_le, slice_index_or}
 use Rattle.std.specs.Char.{is_ascii_digit}
 use Rattle.std.specs.Int.{IsInRange}
@@ -11,19 +11,20 @@ use Rattle.std.proofs.lemmas.Bool.Decides.{nat_tests}
 use Rattle.std.proofs.lemmas.Fmt.{decimal_is_IsNumeral, length-decimal-le}
 use Rattle.std.proofs.lemmas.List.Elements.{All-nil, All-from_recursion, All-map}
 use Rattle.std.proofs.lemmas.Str.Parse.{digit_from_value}
-use Rattle.mcf_limits.specs.declared.TheConstants.{DEFAULT_WORKERS, MAX_GAP, MAX_NODES, MAX_LINKS, MAX_DEMANDS, MAX_PHASES, MAX_WORKERS, MAX_STEP}
+use Rattle.mcf_limits.specs.declared.TheConstants.{MAX_GAP, MAX_NODES, MAX_LINKS, MAX_DEMANDS, MAX_PHASES, MAX_WORKERS, MAX_STEP}
 use Rattle.sndlib_grammar.specs.Number.{Number, behind_digits, behind_whole, front_digits, number_of, plain}
 use Rattle.unit_scale.specs.Modes.{link_word, module_word}
 use Rattle.mcf_words.specs.declared.request.Command.{Command}
-use Rattle.mcf_words.specs.declared.request.Command.TheVariants.{Solve, Check, WhatIf, Upgrade, Sweep, SweepSolve, Print, Gen, Trial}
+use Rattle.mcf_words.specs.declared.request.Command.TheVariants.{Solve, Check, WhatIf, Upgrade, Tighten, Sweep, SweepSolve, Print, Gen, Trial}
 use Rattle.mcf_words.specs.declared.request.Request.{Request}
 use Rattle.mcf_words.specs.Items.{Setting}
 use Rattle.mcf_words.specs.Values.{values_of}
-use Rattle.mcf_words.specs.Request.{IsBudget, IsWithinLimits, file_count, options_of, one_worker_options, solver_options}
+use Rattle.mcf_words.specs.Request.{AreWorkers, IsBudget, IsFileCount, IsWithinLimits, least_files, options_of, one_worker_options, solver_options}
 use Rattle.mcf_words.specs.Parts.{Apart, AreParts, MayStand, words_of, plain_of, settings_of}
-use Rattle.mcf_words.specs.WordValues.{IsGapWord, IsNumberWord, IsPhasesWord, Says}
+use Rattle.mcf_words.specs.WordValues.{IsGapWord, IsNumberWord, IsPhasesWord, IsWorkersWord, Says}
 use Rattle.mcf_words.specs.Spelled.{IsSpelled, NameFiles, NameNumbers, OptionsSay}
 use Rattle.mcf_words.specs.Words.{AreFour, HasDefaults, IsRequest, gap_word, option_words, options_for, phases_words, plain_for, takes_workers, words_for, workers_words}
+use Rattle.mcf_words.proofs.FileCounts.{no_file_counted}
 use Rattle.mcf_words.proofs.PartsRead.{IsKnown}
 use Rattle.mcf_words.proofs.Saying.{values_absent, values_once}
 
@@ -86,26 +87,26 @@ abbrev phases_settings : Option ℕ → List Setting
 phases_settings None = []
 phases_settings (Some n) = record { name = codes "--phases"; value = decimal n } ∷ []
 
-abbrev workers_settings : Bool → Request → List Setting
-workers_settings true r = record { name = codes "--workers"; value = decimal r.workers } ∷ []
-workers_settings false r = []
+abbrev workers_settings : Option ℕ → List Setting
+workers_settings None = []
+workers_settings (Some n) = record { name = codes "--workers"; value = decimal n } ∷ []
 
-abbrev settings_with : Bool → Request → Option ℕ → List Setting
-settings_with workers r phases =
+abbrev settings_with : Request → Option ℕ → Option ℕ → List Setting
+settings_with r phases workers =
     record { name = codes "--links"; value = link_word r.net.links } ∷ record { name = codes "--modules"; value = module_word r.net.modules }
     ∷ record { name = codes "--gap"; value = gap_word r.gap }
-    ∷ (phases_settings phases ++ workers_settings workers r ++ record { name = codes "--step"; value = decimal r.step } ∷ [])
+    ∷ (phases_settings phases ++ workers_settings workers ++ record { name = codes "--step"; value = decimal r.step } ∷ [])
 
-abbrev words_with : Bool → Request → Option ℕ → List (List ℕ)
-words_with workers r phases =
+abbrev words_with : Request → Option ℕ → Option ℕ → List (List ℕ)
+words_with r phases workers =
     codes "--links" ∷ link_word r.net.links ∷ codes "--modules" ∷ module_word r.net.modules ∷ codes "--gap" ∷ gap_word r.gap
-    ∷ (phases_words phases ++ workers_words workers r ++ codes "--step" ∷ decimal r.step ∷ [])
+    ∷ (phases_words phases ++ workers_words workers ++ codes "--step" ∷ decimal r.step ∷ [])
 
-words_apart : (workers : Bool) (r : Request) (phases : Option ℕ) → flat_map words_of (map Apart (settings_with workers r phases)) ≡ words_with workers r phases
-words_apart true r None = refl
-words_apart true r (Some n) = refl
-words_apart false r None = refl
-words_apart false r (Some n) = refl
+words_apart : (r : Request) (phases workers : Option ℕ) → flat_map words_of (map Apart (settings_with r phases workers)) ≡ words_with r phases workers
+words_apart r None None = refl
+words_apart r (Some n) None = refl
+words_apart r None (Some w) = refl
+words_apart r (Some n) (Some w) = refl
 
 none_plain : (ss : List Setting) → flat_map plain_of (map Apart ss) ≡ []
 none_plain [] = refl
@@ -115,14 +116,18 @@ all_settings : (ss : List Setting) → flat_map settings_of (map Apart ss) ≡ s
 all_settings [] = refl
 all_settings (s ∷ ss) = ap (λ t. s ∷ t) (all_settings ss)
 
--- a command with all options, that of workers where it takes it
-record HasAll (workers : Bool) (c : Command) : Type 0 where
+-- a command with all options but that of workers
+record HasAll (c : Command) : Type 0 where
   links : Contains (options_of c) (codes "--links")
   modules : Contains (options_of c) (codes "--modules")
   gap : Contains (options_of c) (codes "--gap")
   phases : Contains (options_of c) (codes "--phases")
-  works : workers ≡ true → Contains (options_of c) (codes "--workers")
   step : Contains (options_of c) (codes "--step")
+
+-- where a number of workers is given, the command has that option
+abbrev MayWork : Command → Option ℕ → Type 0
+MayWork c None = Unit {0}
+MayWork c (Some w) = Contains (options_of c) (codes "--workers")
 
 -- the place of an option
 place_of : (k : ℕ) (name : List ℕ) → k < 6 → slice_index_or solver_options k name ≡ name → Contains solver_options name
@@ -131,73 +136,81 @@ place_of k name below is = (k, below, is)
 place_alone : (k : ℕ) (name : List ℕ) → k < 5 → slice_index_or one_worker_options k name ≡ name → Contains one_worker_options name
 place_alone k name below is = (k, below, is)
 
-by_place_alone : (c : Command) → options_of c ≡ one_worker_options → HasAll false c
+by_place_alone : (c : Command) → options_of c ≡ one_worker_options → HasAll c
 by_place_alone c is = record {
   links = at (codes "--links") (place_alone 0 (codes "--links") (omega arith) refl);
   modules = at (codes "--modules") (place_alone 1 (codes "--modules") (omega arith) refl);
   gap = at (codes "--gap") (place_alone 2 (codes "--gap") (omega arith) refl);
   phases = at (codes "--phases") (place_alone 3 (codes "--phases") (omega arith) refl);
-  works = λ e. absurd (true≢false (sym e));
   step = at (codes "--step") (place_alone 4 (codes "--step") (omega arith) refl);
 }
   where
     at : (name : List ℕ) → Contains one_worker_options name → Contains (options_of c) name
     at name has = subst (λ os. Contains os name) (sym is) has
 
-by_place : (c : Command) → options_of c ≡ solver_options → HasAll true c
+by_place : (c : Command) → options_of c ≡ solver_options → HasAll c
 by_place c is = record {
   links = at (codes "--links") (place_of 0 (codes "--links") (omega arith) refl);
   modules = at (codes "--modules") (place_of 1 (codes "--modules") (omega arith) refl);
   gap = at (codes "--gap") (place_of 2 (codes "--gap") (omega arith) refl);
   phases = at (codes "--phases") (place_of 3 (codes "--phases") (omega arith) refl);
-  works = λ e. at (codes "--workers") (place_of 4 (codes "--workers") (omega arith) refl);
   step = at (codes "--step") (place_of 5 (codes "--step") (omega arith) refl);
 }
   where
     at : (name : List ℕ) → Contains solver_options name → Contains (options_of c) name
     at name has = subst (λ os. Contains os name) (sym is) has
 
-known_with : (workers : Bool) (c : Command) (r : Request) → HasAll workers c → (phases : Option ℕ) → All (IsKnown c) (settings_with workers r phases)
-known_with true c r has None = All-from_recursion (IsKnown c) (settings_with true r None) (has.links, (has.modules, (has.gap, (has.works refl, (has.step, tt)))))
-known_with true c r has (Some n) = All-from_recursion (IsKnown c) (settings_with true r (Some n)) (has.links, (has.modules, (has.gap, (has.phases, (has.works refl, (has.step, tt))))))
-known_with false c r has None = All-from_recursion (IsKnown c) (settings_with false r None) (has.links, (has.modules, (has.gap, (has.step, tt))))
-known_with false c r has (Some n) = All-from_recursion (IsKnown c) (settings_with false r (Some n)) (has.links, (has.modules, (has.gap, (has.phases, (has.step, tt)))))
+-- one that has that option may be given any number of workers
+may_work : (c : Command) → Contains (options_of c) (codes "--workers") → (workers : Option ℕ) → MayWork c workers
+may_work c has None = tt
+may_work c has (Some w) = has
+
+workers_of_all : (c : Command) → options_of c ≡ solver_options → (workers : Option ℕ) → MayWork c workers
+workers_of_all c is = may_work c (subst (λ os. Contains os (codes "--workers")) (sym is) (place_of 4 (codes "--workers") (omega arith) refl))
+
+known_with : (c : Command) (r : Request) → HasAll c → (phases workers : Option ℕ) → MayWork c workers → All (IsKnown c) (settings_with r phases workers)
+known_with c r has None None may = All-from_recursion (IsKnown c) (settings_with r None None) (has.links, (has.modules, (has.gap, (has.step, tt))))
+known_with c r has (Some n) None may = All-from_recursion (IsKnown c) (settings_with r (Some n) None) (has.links, (has.modules, (has.gap, (has.phases, (has.step, tt)))))
+known_with c r has None (Some w) may = All-from_recursion (IsKnown c) (settings_with r None (Some w)) (has.links, (has.modules, (has.gap, (may, (has.step, tt)))))
+known_with c r has (Some n) (Some w) may = All-from_recursion (IsKnown c) (settings_with r (Some n) (Some w)) (has.links, (has.modules, (has.gap, (has.phases, (may, (has.step, tt))))))
 
 -- options apart, and then `--`
-with_options : (workers : Bool) (c : Command) (r : Request) (plain : List (List ℕ)) → HasAll workers c → AreParts c (option_words workers r ++ codes "--" ∷ plain) plain (settings_with workers r r.phases)
-with_options workers c r plain has = record {
-  parts = map Apart (settings_with workers r r.phases);
+with_options : (c : Command) (r : Request) (plain : List (List ℕ)) → HasAll c → MayWork c r.workers → AreParts c (option_words r ++ codes "--" ∷ plain) plain (settings_with r r.phases r.workers)
+with_options c r plain has may = record {
+  parts = map Apart (settings_with r r.phases r.workers);
   last = Some plain;
-  spelled = ap (λ t. t ++ codes "--" ∷ plain) (sym (words_apart workers r r.phases));
-  stand = All-map (MayStand c) Apart (settings_with workers r r.phases) (known_with workers c r has r.phases);
-  positional = ap (λ t. t ++ plain) (sym (none_plain (settings_with workers r r.phases)));
-  options = sym (all_settings (settings_with workers r r.phases));
+  spelled = ap (λ t. t ++ codes "--" ∷ plain) (sym (words_apart r r.phases r.workers));
+  stand = All-map (MayStand c) Apart (settings_with r r.phases r.workers) (known_with c r has r.phases r.workers may);
+  positional = ap (λ t. t ++ plain) (sym (none_plain (settings_with r r.phases r.workers)));
+  options = sym (all_settings (settings_with r r.phases r.workers));
 }
 
 without_options : (c : Command) (plain : List (List ℕ)) → AreParts c (codes "--" ∷ plain) plain []
 without_options c plain = record { parts = []; last = Some plain; spelled = refl; stand = All-nil (MayStand c); positional = refl; options = refl }
 
 abbrev settings_for : Command → Request → List Setting
-settings_for Solve r = settings_with true r r.phases
+settings_for Solve r = settings_with r r.phases r.workers
 settings_for Check r = []
 settings_for WhatIf r = []
 settings_for Upgrade r = []
+settings_for Tighten r = []
 settings_for Sweep r = []
-settings_for SweepSolve r = settings_with false r r.phases
+settings_for SweepSolve r = settings_with r r.phases r.workers
 settings_for Print r = []
 settings_for Gen r = []
-settings_for Trial r = settings_with true r r.phases
+settings_for Trial r = settings_with r r.phases r.workers
 
-parts_for : (c : Command) (r : Request) (plain : List (List ℕ)) → AreParts c (options_for c r ++ codes "--" ∷ plain) plain (settings_for c r)
-parts_for Solve r plain = with_options true Solve r plain (by_place Solve refl)
-parts_for Check r plain = without_options Check plain
-parts_for WhatIf r plain = without_options WhatIf plain
-parts_for Upgrade r plain = without_options Upgrade plain
-parts_for Sweep r plain = without_options Sweep plain
-parts_for SweepSolve r plain = with_options false SweepSolve r plain (by_place_alone SweepSolve refl)
-parts_for Print r plain = without_options Print plain
-parts_for Gen r plain = without_options Gen plain
-parts_for Trial r plain = with_options true Trial r plain (by_place Trial refl)
+parts_for : (c : Command) (r : Request) (plain : List (List ℕ)) → (takes_workers c ≡ false → r.workers ≡ None) → AreParts c (options_for c r ++ codes "--" ∷ plain) plain (settings_for c r)
+parts_for Solve r plain none = with_options Solve r plain (by_place Solve refl) (workers_of_all Solve refl r.workers)
+parts_for Check r plain none = without_options Check plain
+parts_for WhatIf r plain none = without_options WhatIf plain
+parts_for Upgrade r plain none = without_options Upgrade plain
+parts_for Tighten r plain none = without_options Tighten plain
+parts_for Sweep r plain none = without_options Sweep plain
+parts_for SweepSolve r plain none = with_options SweepSolve r plain (by_place_alone SweepSolve refl) (subst (MayWork SweepSolve) (sym (none refl)) tt)
+parts_for Print r plain none = without_options Print plain
+parts_for Gen r plain none = without_options Gen plain
+parts_for Trial r plain none = with_options Trial r plain (by_place Trial refl) (workers_of_all Trial refl r.workers)
 
 -- ---- what the options say
 
@@ -205,8 +218,11 @@ module _ (r : Request) (limits : IsWithinLimits r) where
   gap_said : IsGapWord (gap_word r.gap) r.gap
   gap_said = gap_is r.gap limits.gap_limit
 
-  workers_said : IsNumberWord 1 MAX_WORKERS (decimal r.workers) r.workers
-  workers_said = let limit : r.workers ≤ MAX_WORKERS = limits.workers_limit in number_word 1 MAX_WORKERS r.workers limits.some_worker limit (omega arith)
+  workers_said : (n : ℕ) → r.workers ≡ Some n → IsNumberWord 1 MAX_WORKERS (decimal n) n
+  workers_said n is =
+      let given : (1 ≤ n) × (n ≤ MAX_WORKERS) = subst AreWorkers is limits.workers_limit in
+      let limit : n ≤ MAX_WORKERS = given.1 in
+      number_word 1 MAX_WORKERS n given.0 limit (omega arith)
 
   step_said : IsNumberWord 1 MAX_STEP (decimal r.step) r.step
   step_said = let limit : r.step ≤ MAX_STEP = limits.step_limit in number_word 1 MAX_STEP r.step limits.some_step limit (omega arith)
@@ -219,7 +235,7 @@ module _ (r : Request) (limits : IsWithinLimits r) where
 
   said : (ss : List Setting) → values_of (codes "--links") ss ≡ link_word r.net.links ∷ [] → values_of (codes "--modules") ss ≡ module_word r.net.modules ∷ []
       → values_of (codes "--gap") ss ≡ gap_word r.gap ∷ [] → values_of (codes "--step") ss ≡ decimal r.step ∷ []
-      → Says (codes "--phases") IsPhasesWord None ss r.phases → Says (codes "--workers") (IsNumberWord 1 MAX_WORKERS) DEFAULT_WORKERS ss r.workers → OptionsSay ss r
+      → Says (codes "--phases") IsPhasesWord None ss r.phases → Says (codes "--workers") IsWorkersWord None ss r.workers → OptionsSay ss r
   said ss links modules gap step phases workers = record {
     links = inl (link_word r.net.links, values_once (codes "--links") (link_word r.net.links) ss links, refl);
     modules = inl (module_word r.net.modules, values_once (codes "--modules") (module_word r.net.modules) ss modules, refl);
@@ -235,17 +251,17 @@ module _ (r : Request) (limits : IsWithinLimits r) where
   so_many : (ss : List Setting) (n : ℕ) → r.phases ≡ Some n → values_of (codes "--phases") ss ≡ decimal n ∷ [] → Says (codes "--phases") IsPhasesWord None ss r.phases
   so_many ss n is once = inl (decimal n, values_once (codes "--phases") (decimal n) ss once, (n, is, phases_said n is))
 
-  works : (ss : List Setting) → values_of (codes "--workers") ss ≡ decimal r.workers ∷ [] → Says (codes "--workers") (IsNumberWord 1 MAX_WORKERS) DEFAULT_WORKERS ss r.workers
-  works ss once = inl (decimal r.workers, values_once (codes "--workers") (decimal r.workers) ss once, workers_said)
+  no_workers : (ss : List Setting) → r.workers ≡ None → values_of (codes "--workers") ss ≡ [] → Says (codes "--workers") IsWorkersWord None ss r.workers
+  no_workers ss is none = inr (values_absent (codes "--workers") ss none, is)
 
-  works_alone : (ss : List Setting) → r.workers ≡ DEFAULT_WORKERS → values_of (codes "--workers") ss ≡ [] → Says (codes "--workers") (IsNumberWord 1 MAX_WORKERS) DEFAULT_WORKERS ss r.workers
-  works_alone ss is none = inr (values_absent (codes "--workers") ss none, is)
+  works : (ss : List Setting) (n : ℕ) → r.workers ≡ Some n → values_of (codes "--workers") ss ≡ decimal n ∷ [] → Says (codes "--workers") IsWorkersWord None ss r.workers
+  works ss n is once = inl (decimal n, values_once (codes "--workers") (decimal n) ss once, (n, is, workers_said n is))
 
-  all_said : (workers : Bool) (phases : Option ℕ) → (workers ≡ false → r.workers ≡ DEFAULT_WORKERS) → r.phases ≡ phases → OptionsSay (settings_with workers r phases) r
-  all_said true None default is = said (settings_with true r None) refl refl refl refl (no_phases (settings_with true r None) is refl) (works (settings_with true r None) refl)
-  all_said true (Some n) default is = said (settings_with true r (Some n)) refl refl refl refl (so_many (settings_with true r (Some n)) n is refl) (works (settings_with true r (Some n)) refl)
-  all_said false None default is = said (settings_with false r None) refl refl refl refl (no_phases (settings_with false r None) is refl) (works_alone (settings_with false r None) (default refl) refl)
-  all_said false (Some n) default is = said (settings_with false r (Some n)) refl refl refl refl (so_many (settings_with false r (Some n)) n is refl) (works_alone (settings_with false r (Some n)) (default refl) refl)
+  all_said : (phases workers : Option ℕ) → r.phases ≡ phases → r.workers ≡ workers → OptionsSay (settings_with r phases workers) r
+  all_said None None is w = said (settings_with r None None) refl refl refl refl (no_phases (settings_with r None None) is refl) (no_workers (settings_with r None None) w refl)
+  all_said (Some n) None is w = said (settings_with r (Some n) None) refl refl refl refl (so_many (settings_with r (Some n) None) n is refl) (no_workers (settings_with r (Some n) None) w refl)
+  all_said None (Some m) is w = said (settings_with r None (Some m)) refl refl refl refl (no_phases (settings_with r None (Some m)) is refl) (works (settings_with r None (Some m)) m w refl)
+  all_said (Some n) (Some m) is w = said (settings_with r (Some n) (Some m)) refl refl refl refl (so_many (settings_with r (Some n) (Some m)) n is refl) (works (settings_with r (Some n) (Some m)) m w refl)
 
   none_said : HasDefaults r → OptionsSay [] r
   none_said is = record {
@@ -257,16 +273,17 @@ module _ (r : Request) (limits : IsWithinLimits r) where
     step = inr (All-nil _, is.step);
   }
 
-  options_said : (c : Command) → (options_of c ≡ [] → HasDefaults r) → (takes_workers c ≡ false → r.workers ≡ DEFAULT_WORKERS) → OptionsSay (settings_for c r) r
-  options_said Solve none alone = all_said true r.phases (λ e. absurd (true≢false e)) refl
-  options_said Check none alone = none_said (none refl)
-  options_said WhatIf none alone = none_said (none refl)
-  options_said Upgrade none alone = none_said (none refl)
-  options_said Sweep none alone = none_said (none refl)
-  options_said SweepSolve none alone = all_said false r.phases (λ e. alone refl) refl
-  options_said Print none alone = none_said (none refl)
-  options_said Gen none alone = none_said (none refl)
-  options_said Trial none alone = all_said true r.phases (λ e. absurd (true≢false e)) refl
+  options_said : (c : Command) → (options_of c ≡ [] → HasDefaults r) → OptionsSay (settings_for c r) r
+  options_said Solve none = all_said r.phases r.workers refl refl
+  options_said Check none = none_said (none refl)
+  options_said WhatIf none = none_said (none refl)
+  options_said Upgrade none = none_said (none refl)
+  options_said Tighten none = none_said (none refl)
+  options_said Sweep none = none_said (none refl)
+  options_said SweepSolve none = all_said r.phases r.workers refl refl
+  options_said Print none = none_said (none refl)
+  options_said Gen none = none_said (none refl)
+  options_said Trial none = all_said r.phases r.workers refl refl
 
 -- ---- positional words
 
@@ -315,7 +332,7 @@ empty : (n : ℕ) → 1 ≤ n → n ≡ 0 → ⊥
 empty n some e = omega arith
 
 module _ (r : Request) (is : IsRequest r) where
-  by_numbers : file_count r.command ≡ 0 → NameNumbers (plain_for r) r
+  by_numbers : least_files r.command ≡ 0 → NameNumbers (plain_for r) r
   by_numbers none =
       let f : FourFacts r.numbers = four_facts r.numbers (is.drawn none) in
       let seed_fits : f.seed < 2 ^ 64 = f.seed_fits in
@@ -324,7 +341,7 @@ module _ (r : Request) (is : IsRequest r) where
       let few_demands : f.demands ≤ MAX_DEMANDS = f.few_demands in
       record {
         none = none;
-        no_files = no_names r.names (is.files ∙ none);
+        no_files = no_names r.names (no_file_counted r.command (length r.names) none is.files);
         seed_word = decimal f.seed;
         nodes_word = decimal f.nodes;
         links_word = decimal f.links;
@@ -333,7 +350,7 @@ module _ (r : Request) (is : IsRequest r) where
         nodes = f.nodes;
         links = f.links;
         demands = f.demands;
-        words = ap (λ b. cond b (map decimal r.numbers) r.names) (eq-eqb (file_count r.command) 0 none) ∙ ap (map decimal) f.are;
+        words = ap (λ b. cond b (map decimal r.numbers) r.names) (eq-eqb (least_files r.command) 0 none) ∙ ap (map decimal) f.are;
         numbers = f.are;
         seed_is = number_word 0 (2 ^ 64 - 1) f.seed (omega arith) (omega arith) seed_fits;
         nodes_are = number_word 2 MAX_NODES f.nodes f.some_nodes few_nodes (omega arith);
@@ -345,13 +362,13 @@ module _ (r : Request) (is : IsRequest r) where
       no_names [] e = refl
       no_names (x ∷ xs) e = absurd (empty (length (x ∷ xs)) (omega arith) e)
 
-  by_files : (file_count r.command ≡ 0 → ⊥) → NameFiles (plain_for r) r
+  by_files : (least_files r.command ≡ 0 → ⊥) → NameFiles (plain_for r) r
   by_files some =
-      let plain_is : plain_for r ≡ r.names = ap (λ b. cond b (map decimal r.numbers) r.names) (ne_eqb (file_count r.command) 0 some) in
-      let one : 1 ≤ file_count r.command = from (file_count r.command) some in
+      let plain_is : plain_for r ≡ r.names = ap (λ b. cond b (map decimal r.numbers) r.names) (ne_eqb (least_files r.command) 0 some) in
+      let one : 1 ≤ least_files r.command = from (least_files r.command) some in
       record {
         some = one;
-        count = ap length plain_is ∙ is.files;
+        count = subst (λ (ns : List (List ℕ)). IsFileCount r.command (length ns)) (sym plain_is) is.files;
         files = sym plain_is;
         no_numbers = is.not_drawn one;
       }
@@ -360,11 +377,11 @@ module _ (r : Request) (is : IsRequest r) where
       from n apart = omega arith
 
   positional_said : NameFiles (plain_for r) r ⊎ NameNumbers (plain_for r) r
-  positional_said = by (file_count r.command == 0) refl
+  positional_said = by (least_files r.command == 0) refl
     where
-      by : (b : Bool) → (file_count r.command == 0) ≡ b → NameFiles (plain_for r) r ⊎ NameNumbers (plain_for r) r
-      by true e = inr (by_numbers (eqb-true (file_count r.command) 0 e))
-      by false e = inl (by_files (eqb-false (file_count r.command) 0 e))
+      by : (b : Bool) → (least_files r.command == 0) ≡ b → NameFiles (plain_for r) r ⊎ NameNumbers (plain_for r) r
+      by true e = inr (by_numbers (eqb-true (least_files r.command) 0 e))
+      by false e = inl (by_files (eqb-false (least_files r.command) 0 e))
 
   pub words_spelled : IsSpelled (words_for r) r
   words_spelled = record {
@@ -372,7 +389,7 @@ module _ (r : Request) (is : IsRequest r) where
     first = refl;
     plain = plain_for r;
     settings = settings_for r.command r;
-    parts = parts_for r.command r (plain_for r);
-    options = options_said r is.limits r.command is.options is.workers;
+    parts = parts_for r.command r (plain_for r) is.workers;
+    options = options_said r is.limits r.command is.options;
     positional = positional_said;
   }

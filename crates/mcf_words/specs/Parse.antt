@@ -6,7 +6,7 @@ use Rattle.clap.specs.Simple.{new_shape}
 use Rattle.clap.specs.declared.builder.action.ArgAction.TheVariants.{Set, Append}
 use Rattle.clap.specs.declared.parser.matches.ArgMatches.{ArgMatches}
 use Rattle.clap.specs.declared.parser.matches.Found.{Found}
-use Rattle.mcf_limits.specs.declared.TheConstants.{DEFAULT_GAP, DEFAULT_STEP, DEFAULT_WORKERS, MAX_PHASES, MAX_WORKERS, MAX_STEP}
+use Rattle.mcf_limits.specs.declared.TheConstants.{DEFAULT_GAP, DEFAULT_STEP, MAX_PHASES, MAX_WORKERS, MAX_STEP}
 use Rattle.unit_scale.specs.Modes.{link_mode_of, module_mode_of}
 use Rattle.unit_scale.specs.declared.modes.LinkMode.TheVariants.{Undirected}
 use Rattle.unit_scale.specs.declared.modes.ModuleMode.TheVariants.{Largest}
@@ -76,7 +76,7 @@ choices_in found = do
   modules ← read_in found (codes "modules") module_mode_of Largest
   gap ← read_in found (codes "gap") gap_of DEFAULT_GAP
   phases ← read_in found (codes "phases") (λ w. option_map Some (number_in 1 MAX_PHASES w)) None
-  workers ← read_in found (codes "workers") (number_in 1 MAX_WORKERS) DEFAULT_WORKERS
+  workers ← read_in found (codes "workers") (λ w. option_map Some (number_in 1 MAX_WORKERS w)) None
   step ← read_in found (codes "step") (number_in 1 MAX_STEP) DEFAULT_STEP
   Some (record { net = record { links = links; modules = modules }; gap = gap; phases = phases; workers = workers; step = step })
 

@@ -1,14 +1,14 @@
 -- What the words of the command line ask for.
-use Rattle.std.specs.Prelude.{ℕ, IfSome, ◌≤◌, ◌^◌, ◌-◌, Bool, List, [], ◌∷◌, length, slice_index, Option, Some, None, codes, ◌==◌, if◌then◌else◌}
+use Rattle.std.specs.Prelude.{ℕ, IfSome, ◌≤◌, ◌^◌, ◌-◌, Bool, List, [], ◌∷◌, length, slice_index, Option, Some, None, codes, ◌==◌, ◌&&◌, nat_le, if◌then◌else◌}
 use Rattle.std.specs.List.{find, list_all, list_any}
 use Rattle.std.specs.Option.{option_map}
 use Rattle.std.specs.Str.{bytes_eq}
-use Rattle.mcf_limits.specs.declared.TheConstants.{DEFAULT_GAP, DEFAULT_STEP, DEFAULT_WORKERS, MAX_GAP, MAX_NODES, MAX_LINKS, MAX_DEMANDS, MAX_PHASES, MAX_WORKERS, MAX_STEP}
+use Rattle.mcf_limits.specs.declared.TheConstants.{DEFAULT_GAP, DEFAULT_STEP, MAX_GAP, MAX_NODES, MAX_LINKS, MAX_DEMANDS, MAX_PHASES, MAX_WORKERS, MAX_STEP}
 use Rattle.unit_scale.specs.declared.modes.LinkMode.TheVariants.{Undirected}
 use Rattle.unit_scale.specs.declared.modes.ModuleMode.TheVariants.{Largest}
 use Rattle.unit_scale.specs.declared.options.NetOptions.{NetOptions}
 use Rattle.mcf_words.specs.declared.request.Command.{Command}
-use Rattle.mcf_words.specs.declared.request.Command.TheVariants.{Solve, Check, WhatIf, Upgrade, Sweep, SweepSolve, Print, Gen, Trial}
+use Rattle.mcf_words.specs.declared.request.Command.TheVariants.{Solve, Check, WhatIf, Upgrade, Tighten, Sweep, SweepSolve, Print, Gen, Trial}
 use Rattle.mcf_words.specs.declared.request.Request.{Request}
 use Rattle.mcf_words.specs.Items.{Setting, Items, items_of}
 use Rattle.mcf_words.specs.Values.{number_in, gap_of, values_of, choice}
@@ -23,12 +23,15 @@ None >>= f = None
 abbrev pub IsBudget : Option ℕ → Type 0
 IsBudget phases = IfSome phases (λ p. (1 ≤ p) × (p ≤ MAX_PHASES))
 
+-- the number of workers, where one was given, is within its limits
+abbrev pub AreWorkers : Option ℕ → Type 0
+AreWorkers workers = IfSome workers (λ w. (1 ≤ w) × (w ≤ MAX_WORKERS))
+
 -- gap, phase budget, workers and step are within their limits
-pub record AreWithinLimits (gap : ℕ) (phases : Option ℕ) (workers step : ℕ) : Type 0 where
+pub record AreWithinLimits (gap : ℕ) (phases workers : Option ℕ) (step : ℕ) : Type 0 where
   pub gap_limit : gap ≤ MAX_GAP
   pub budget : IsBudget phases
-  pub some_worker : 1 ≤ workers
-  pub workers_limit : workers ≤ MAX_WORKERS
+  pub workers_limit : AreWorkers workers
   pub some_step : 1 ≤ step
   pub step_limit : step ≤ MAX_STEP
 
@@ -48,26 +51,28 @@ solver_options = codes "--links" ∷ codes "--modules" ∷ codes "--gap" ∷ cod
 abbrev pub one_worker_options : List (List ℕ)
 one_worker_options = codes "--links" ∷ codes "--modules" ∷ codes "--gap" ∷ codes "--phases" ∷ codes "--step" ∷ []
 
--- a command's word, how many files it reads, none where it takes numbers, and its options
+-- a command's word, how many files it reads at least, none where it takes numbers, and at most, and its options
 pub record Form : Type 0 where
   pub word : List ℕ
-  pub files : ℕ
+  pub least : ℕ
+  pub most : ℕ
   pub options : List (List ℕ)
 
 abbrev pub form_of : Command → Form
-form_of Solve = record { word = codes "solve"; files = 1; options = solver_options }
-form_of Check = record { word = codes "check"; files = 2; options = [] }
-form_of WhatIf = record { word = codes "whatif"; files = 3; options = [] }
-form_of Upgrade = record { word = codes "upgrade"; files = 2; options = [] }
-form_of Sweep = record { word = codes "sweep"; files = 2; options = [] }
-form_of SweepSolve = record { word = codes "sweepsolve"; files = 1; options = one_worker_options }
-form_of Print = record { word = codes "print"; files = 1; options = [] }
-form_of Gen = record { word = codes "gen"; files = 0; options = [] }
-form_of Trial = record { word = codes "trial"; files = 0; options = solver_options }
+form_of Solve = record { word = codes "solve"; least = 1; most = 1; options = solver_options }
+form_of Check = record { word = codes "check"; least = 2; most = 2; options = [] }
+form_of WhatIf = record { word = codes "whatif"; least = 3; most = 3; options = [] }
+form_of Upgrade = record { word = codes "upgrade"; least = 2; most = 2; options = [] }
+form_of Tighten = record { word = codes "tighten"; least = 2; most = 3; options = [] }
+form_of Sweep = record { word = codes "sweep"; least = 2; most = 2; options = [] }
+form_of SweepSolve = record { word = codes "sweepsolve"; least = 1; most = 1; options = one_worker_options }
+form_of Print = record { word = codes "print"; least = 1; most = 1; options = [] }
+form_of Gen = record { word = codes "gen"; least = 0; most = 0; options = [] }
+form_of Trial = record { word = codes "trial"; least = 0; most = 0; options = solver_options }
 
 -- the commands that there are
 abbrev pub commands : List Command
-commands = Solve ∷ Check ∷ WhatIf ∷ Upgrade ∷ Sweep ∷ SweepSolve ∷ Print ∷ Gen ∷ Trial ∷ []
+commands = Solve ∷ Check ∷ WhatIf ∷ Upgrade ∷ Tighten ∷ Sweep ∷ SweepSolve ∷ Print ∷ Gen ∷ Trial ∷ []
 
 -- the word is that of the command
 abbrev pub has_word : List ℕ → Command → Bool
@@ -77,9 +82,21 @@ has_word word command = bytes_eq word (form_of command).word
 abbrev pub command_of : List ℕ → Option Command
 command_of word = find (has_word word) commands
 
--- how many files the command reads
-abbrev pub file_count : Command → ℕ
-file_count command = (form_of command).files
+-- how many files the command reads at least
+abbrev pub least_files : Command → ℕ
+least_files command = (form_of command).least
+
+-- how many it reads at most
+abbrev pub most_files : Command → ℕ
+most_files command = (form_of command).most
+
+-- the command reads so many files
+abbrev pub reads_files : Command → ℕ → Bool
+reads_files command n = nat_le (least_files command) n && nat_le n (most_files command)
+
+pub record IsFileCount (command : Command) (n : ℕ) : Type 0 where
+  pub least : least_files command ≤ n
+  pub most : n ≤ most_files command
 
 -- the options of the command
 abbrev pub options_of : Command → List (List ℕ)
@@ -94,7 +111,7 @@ pub record Choices : Type 0 where
   pub net : NetOptions
   pub gap : ℕ
   pub phases : Option ℕ
-  pub workers : ℕ
+  pub workers : Option ℕ
   pub step : ℕ
 
 unfoldable pub choices_of : List Setting → Option Choices
@@ -103,7 +120,7 @@ choices_of settings = do
   modules ← choice module_mode_of Largest (values_of (codes "--modules") settings)
   gap ← choice gap_of DEFAULT_GAP (values_of (codes "--gap") settings)
   phases ← choice (λ w. option_map Some (number_in 1 MAX_PHASES w)) None (values_of (codes "--phases") settings)
-  workers ← choice (number_in 1 MAX_WORKERS) DEFAULT_WORKERS (values_of (codes "--workers") settings)
+  workers ← choice (λ w. option_map Some (number_in 1 MAX_WORKERS w)) None (values_of (codes "--workers") settings)
   step ← choice (number_in 1 MAX_STEP) DEFAULT_STEP (values_of (codes "--step") settings)
   Some (record { net = record { links = links; modules = modules }; gap = gap; phases = phases; workers = workers; step = step })
 
@@ -119,11 +136,11 @@ four_numbers _ = None
 
 -- the numbers of a command that takes them, and else four zeros
 abbrev pub numbers_of : Command → List (List ℕ) → Option (List ℕ)
-numbers_of command positional = if file_count command == 0 then four_numbers positional else Some (0 ∷ 0 ∷ 0 ∷ 0 ∷ [])
+numbers_of command positional = if least_files command == 0 then four_numbers positional else Some (0 ∷ 0 ∷ 0 ∷ 0 ∷ [])
 
 -- the files of a command that reads some
 abbrev pub files_of : Command → List (List ℕ) → Option (List (List ℕ))
-files_of command positional = if file_count command == 0 then Some [] else (if length positional == file_count command then Some positional else None)
+files_of command positional = if least_files command == 0 then Some [] else (if reads_files command (length positional) then Some positional else None)
 
 unfoldable pub request_from : Command → Items → Option Request
 request_from command items = if are_known command items.settings then (do

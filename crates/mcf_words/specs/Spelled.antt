@@ -1,13 +1,13 @@
 -- Which words spell which requests.
 use Rattle.std.specs.Prelude.{◌≡◌, ℕ, ◌-◌, ◌^◌, ◌≤◌, ◌⊎◌, List, [], ◌∷◌, None, codes, length}
-use Rattle.mcf_limits.specs.declared.TheConstants.{DEFAULT_GAP, DEFAULT_STEP, DEFAULT_WORKERS, MAX_NODES, MAX_LINKS, MAX_DEMANDS, MAX_WORKERS, MAX_STEP}
+use Rattle.mcf_limits.specs.declared.TheConstants.{DEFAULT_GAP, DEFAULT_STEP, MAX_NODES, MAX_LINKS, MAX_DEMANDS, MAX_STEP}
 use Rattle.unit_scale.specs.declared.modes.LinkMode.TheVariants.{Undirected}
 use Rattle.unit_scale.specs.declared.modes.ModuleMode.TheVariants.{Largest}
 use Rattle.mcf_words.specs.declared.request.Request.{Request}
 use Rattle.mcf_words.specs.Items.{Setting}
-use Rattle.mcf_words.specs.Request.{file_count, form_of}
+use Rattle.mcf_words.specs.Request.{IsFileCount, form_of, least_files}
 use Rattle.mcf_words.specs.Parts.{AreParts}
-use Rattle.mcf_words.specs.WordValues.{IsLinkWord, IsModuleWord, IsNumberWord, IsGapWord, IsPhasesWord, Says}
+use Rattle.mcf_words.specs.WordValues.{IsLinkWord, IsModuleWord, IsNumberWord, IsGapWord, IsPhasesWord, IsWorkersWord, Says}
 
 -- each option says what the request has
 pub record OptionsSay (settings : List Setting) (r : Request) : Type 0 where
@@ -15,19 +15,19 @@ pub record OptionsSay (settings : List Setting) (r : Request) : Type 0 where
   pub modules : Says (codes "--modules") IsModuleWord Largest settings r.net.modules
   pub gap : Says (codes "--gap") IsGapWord DEFAULT_GAP settings r.gap
   pub phases : Says (codes "--phases") IsPhasesWord None settings r.phases
-  pub workers : Says (codes "--workers") (IsNumberWord 1 MAX_WORKERS) DEFAULT_WORKERS settings r.workers
+  pub workers : Says (codes "--workers") IsWorkersWord None settings r.workers
   pub step : Says (codes "--step") (IsNumberWord 1 MAX_STEP) DEFAULT_STEP settings r.step
 
--- the positional words of a command that reads files: just so many, their names
+-- the positional words of a command that reads files: as many as it reads, their names
 pub record NameFiles (plain : List (List ℕ)) (r : Request) : Type 0 where
-  pub some : 1 ≤ file_count r.command
-  pub count : length plain ≡ file_count r.command
+  pub some : 1 ≤ least_files r.command
+  pub count : IsFileCount r.command (length plain)
   pub files : r.names ≡ plain
   pub no_numbers : r.numbers ≡ 0 ∷ 0 ∷ 0 ∷ 0 ∷ []
 
 -- and of one that draws a network: its seed, and how many nodes, links and demands, not fewer links than nodes
 pub record NameNumbers (plain : List (List ℕ)) (r : Request) : Type 0 where
-  pub none : file_count r.command ≡ 0
+  pub none : least_files r.command ≡ 0
   pub no_files : r.names ≡ []
   pub seed_word : List ℕ
   pub nodes_word : List ℕ

@@ -1,7 +1,7 @@
 -- Which words stand for which values.
 use Rattle.std.specs.Prelude.{◌≡◌, ℕ, ◌+◌, ◌*◌, ◌^◌, ◌≤◌, true, ◌⊎◌, List, Option, Some}
 use Rattle.std.specs.Str.Parse.{digits_value}
-use Rattle.mcf_limits.specs.declared.TheConstants.{MAX_DECIMALS, MAX_GAP, MAX_PHASES}
+use Rattle.mcf_limits.specs.declared.TheConstants.{MAX_DECIMALS, MAX_GAP, MAX_PHASES, MAX_WORKERS}
 use Rattle.sndlib_grammar.specs.Number.{Number, number_of}
 use Rattle.unit_scale.specs.Units.{digits, places}
 use Rattle.unit_scale.specs.Modes.{link_word, module_word}
@@ -34,6 +34,10 @@ pub record IsGapWord (word : List ℕ) (gap : ℕ) : Type 0 where
 -- a phase budget that is given
 abbrev pub IsPhasesWord : List ℕ → Option ℕ → Type 0
 IsPhasesWord word phases = (n : ℕ) × (phases ≡ Some n) × IsNumberWord 1 MAX_PHASES word n
+
+-- a number of workers that is given
+abbrev pub IsWorkersWord : List ℕ → Option ℕ → Type 0
+IsWorkersWord word workers = (n : ℕ) × (workers ≡ Some n) × IsNumberWord 1 MAX_WORKERS word n
 
 -- The option of that name stands once, with a word for x; or it does not stand, and x is the default.
 abbrev pub Says : {X : Type 0} → List ℕ → (List ℕ → X → Type 0) → X → List Setting → X → Type 0

@@ -2,7 +2,7 @@
 
 ghost use Rattle.std.specs.Prelude.{◌≡◌, map};
 ghost use Rattle.mcf_words.specs.Parse.{names_of};
-ghost use Rattle.mcf_words.specs.Request.{command_of as command_of_lem, file_count, form_of as form_of_lem};
+ghost use Rattle.mcf_words.specs.Request.{command_of as command_of_lem, least_files, most_files, form_of as form_of_lem};
 
 use crate::request::Command;
 
@@ -27,11 +27,12 @@ static ONE_WORKER_OPTIONS: [&str; 5] = [LINKS, MODULES, GAP, PHASES, STEP];
 
 static NO_OPTIONS: [&str; 0] = [];
 
-static COMMANDS: [Command; 9] = [
+static COMMANDS: [Command; 10] = [
     Command::Solve,
     Command::Check,
     Command::WhatIf,
     Command::Upgrade,
+    Command::Tighten,
     Command::Sweep,
     Command::SweepSolve,
     Command::Print,
@@ -43,28 +44,49 @@ static COMMANDS: [Command; 9] = [
 #[derive(Clone, Copy)]
 pub struct Form {
     pub word: &'static [u8],
-    /// How many files the command reads; none where it takes numbers.
-    pub files: usize,
+    /// How many files the command reads at least; none where it takes numbers.
+    pub least: usize,
+    /// How many it reads at most.
+    pub most: usize,
     /// The names of its options, without their dashes.
     pub options: &'static [&'static str],
 }
 
-fn takes(word: &'static [u8], files: usize, options: &'static [&'static str]) -> Form
+// A command that reads so many files at least, and so many at most.
+fn takes_some(
+    word: &'static [u8],
+    least: usize,
+    most: usize,
+    options: &'static [&'static str],
+) -> Form
     ensures word { result.word.now ≡ word.entry.now }
-    ensures files { result.files ≡ files }
+    ensures least { result.least ≡ least }
+    ensures most { result.most ≡ most }
     ensures options { result.options.now ≡ options.entry.now }
 {
     Form {
         word,
-        files,
+        least,
+        most,
         options,
     }
+}
+
+// A command that reads just so many files.
+fn takes(word: &'static [u8], files: usize, options: &'static [&'static str]) -> Form
+    ensures word { result.word.now ≡ word.entry.now }
+    ensures least { result.least ≡ files }
+    ensures most { result.most ≡ files }
+    ensures options { result.options.now ≡ options.entry.now }
+{
+    takes_some(word, files, files, options)
 }
 
 /// The form of the command.
 pub fn form_of(command: Command) -> Form
     ensures word { result.word.now ≡ (form_of_lem command).word }
-    ensures files { result.files ≡ file_count command }
+    ensures least { result.least ≡ least_files command }
+    ensures most { result.most ≡ most_files command }
     ensures options { map (λ n. n.now) result.options.now ≡ names_of command }
 {
     match command {
@@ -72,6 +94,7 @@ pub fn form_of(command: Command) -> Form
         Command::Check => takes(b"check", 2, NO_OPTIONS.as_slice()),
         Command::WhatIf => takes(b"whatif", 3, NO_OPTIONS.as_slice()),
         Command::Upgrade => takes(b"upgrade", 2, NO_OPTIONS.as_slice()),
+        Command::Tighten => takes_some(b"tighten", 2, 3, NO_OPTIONS.as_slice()),
         Command::Sweep => takes(b"sweep", 2, NO_OPTIONS.as_slice()),
         Command::SweepSolve => takes(b"sweepsolve", 1, ONE_WORKER_OPTIONS.as_slice()),
         Command::Print => takes(b"print", 1, NO_OPTIONS.as_slice()),

@@ -5,7 +5,7 @@ ghost use Rattle.std.specs.Option.{option_map};
 ghost use Rattle.clap.specs.Words.{found_of};
 ghost use Rattle.mcf_words.specs.Answers.{Answers};
 ghost use Rattle.mcf_words.specs.Parse.{choices_in, read_in, request_in, words_in};
-ghost use Rattle.mcf_words.specs.Request.{file_count as file_count_lem, IsBudget, AreWithinLimits, IsWithinLimits, AreDrawn, four_numbers as four_numbers_lem, numbers_of as numbers_of_lem, files_of as files_of_lem, request_of};
+ghost use Rattle.mcf_words.specs.Request.{IsFileCount, least_files as least_files_lem, IsBudget, AreWorkers, AreWithinLimits, IsWithinLimits, AreDrawn, four_numbers as four_numbers_lem, numbers_of as numbers_of_lem, files_of as files_of_lem, request_of};
 ghost use Rattle.mcf_words.specs.Values.{gap_of as gap_of_lem, number_in as number_in_lem};
 ghost use Rattle.unit_scale.specs.Modes.{link_mode_of as link_mode_of_lem, module_mode_of as module_mode_of_lem};
 ghost use Rattle.mcf_words.specs.Views.{choices_view};
@@ -18,8 +18,8 @@ use crate::request::{Command, Names, Request, WordsEnd};
 use crate::values::{gap_of, number_in};
 use clap::ArgMatches;
 use mcf_limits::{
-    DEFAULT_GAP, DEFAULT_STEP, DEFAULT_WORKERS, MAX_DEMANDS, MAX_GAP, MAX_LINKS, MAX_NODES,
-    MAX_PHASES, MAX_STEP, MAX_WORKERS,
+    DEFAULT_GAP, DEFAULT_STEP, MAX_DEMANDS, MAX_GAP, MAX_LINKS, MAX_NODES, MAX_PHASES, MAX_STEP,
+    MAX_WORKERS,
 };
 use std::alloc::{AllocError, Global};
 use unit_scale::{LinkMode, ModuleMode, NetOptions, link_mode_of, module_mode_of};
@@ -30,7 +30,7 @@ pub struct Choices {
     pub net: NetOptions,
     pub gap: u64,
     pub phases: Option<u32>,
-    pub workers: u16,
+    pub workers: Option<u16>,
     pub step: u32,
 }
 
@@ -89,14 +89,18 @@ fn phases_choice(matches: &ArgMatches<'_>) -> Option<Option<u32>>
     }
 }
 
-fn workers_choice(matches: &ArgMatches<'_>) -> Option<u16>
+// The number of workers, if one is asked.
+fn workers_choice(matches: &ArgMatches<'_>) -> Option<Option<u16>>
     ensures value { result ≡ read_in (found_of matches.now) WORKERS.now
-        (number_in_lem 1 MAX_WORKERS) DEFAULT_WORKERS }
-    ensures limits { IfSome result (λ n. (1 ≤ n) × (n ≤ MAX_WORKERS)) }
+        (λ w. option_map Some (number_in_lem 1 MAX_WORKERS w)) None }
+    ensures limits { IfSome result AreWorkers }
 {
-    match number_choice(matches, WORKERS, MAX_WORKERS as u64, DEFAULT_WORKERS as u64) {
-        Some(workers) => Some(workers as u16),
-        None => None,
+    match matches.get_str(WORKERS) {
+        Some(value) => match number_in(1, MAX_WORKERS as u64, value.as_bytes()) {
+            Some(workers) => Some(Some(workers as u16)),
+            None => None,
+        },
+        None => Some(None),
     }
 }
 
@@ -169,9 +173,9 @@ fn four_numbers(positional: &[&str]) -> Option<[u64; 4]>
 // The numbers of a command that takes them, and else four zeros.
 fn numbers_of(command: Command, positional: &[&str]) -> Option<[u64; 4]>
     ensures value { result ≡ numbers_of_lem command (map (λ w. w.now) positional.now) }
-    ensures drawn { IfSome result (λ n. file_count_lem command ≡ 0 → AreDrawn n) }
+    ensures drawn { IfSome result (λ n. least_files_lem command ≡ 0 → AreDrawn n) }
 {
-    if form_of(command).files == 0 {
+    if form_of(command).least == 0 {
         return four_numbers(positional);
     }
     Some([0; 4])
@@ -190,13 +194,14 @@ fn names_of(alloc: Global, words: &[&str]) -> Result<Names, AllocError>
 
 // The files of a command that reads some.
 fn files_of(alloc: Global, command: Command, positional: &[&str]) -> Result<Names, WordsEnd>
-    ensures count { IfOk result (λ names. length names ≡ file_count_lem command) }
+    ensures count { IfOk result (λ names. IsFileCount command (length names)) }
     ensures value { Answers (λ n. n) result (files_of_lem command (map (λ w. w.now) positional.now)) }
 {
-    if form_of(command).files == 0 {
+    let form = form_of(command);
+    if form.least == 0 {
         return Ok(Names::new(alloc));
     }
-    if positional.len() != form_of(command).files {
+    if positional.len() < form.least || positional.len() > form.most {
         return Err(WordsEnd::Usage);
     }
     Ok(names_of(alloc, positional)?)
@@ -211,9 +216,9 @@ fn request_with(
     words: &[&str],
 ) -> Result<Request, WordsEnd>
     requires { map (λ w. w.now) words.now ≡ words_in (found_of matches.now) }
-    ensures count { IfOk result (λ r. length r.names ≡ file_count_lem r.command) }
+    ensures count { IfOk result (λ r. IsFileCount r.command (length r.names)) }
     ensures limits { IfOk result IsWithinLimits }
-    ensures drawn { IfOk result (λ r. file_count_lem r.command ≡ 0 → AreDrawn r.numbers) }
+    ensures drawn { IfOk result (λ r. least_files_lem r.command ≡ 0 → AreDrawn r.numbers) }
     ensures value { Answers (λ r. r) result (request_in command (found_of matches.now)) }
 {
     let Some(choices) = choices_of(matches) else {
@@ -241,9 +246,9 @@ fn request_from(
     command: Command,
     matches: &ArgMatches<'_>,
 ) -> Result<Request, WordsEnd>
-    ensures count { IfOk result (λ r. length r.names ≡ file_count_lem r.command) }
+    ensures count { IfOk result (λ r. IsFileCount r.command (length r.names)) }
     ensures limits { IfOk result IsWithinLimits }
-    ensures drawn { IfOk result (λ r. file_count_lem r.command ≡ 0 → AreDrawn r.numbers) }
+    ensures drawn { IfOk result (λ r. least_files_lem r.command ≡ 0 → AreDrawn r.numbers) }
     ensures value { Answers (λ r. r) result (request_in command (found_of matches.now)) }
 {
     match matches.get_strs(WORDS) {
@@ -254,9 +259,9 @@ fn request_from(
 
 /// What the words ask for. `Usage` exactly where they are not in the grammar of the command line.
 pub fn read_words(alloc: Global, words: &[String]) -> Result<Request, WordsEnd>
-    ensures files { IfOk result (λ r. length r.names ≡ file_count_lem r.command) }
+    ensures files { IfOk result (λ r. IsFileCount r.command (length r.names)) }
     ensures limits { IfOk result IsWithinLimits }
-    ensures drawn { IfOk result (λ r. file_count_lem r.command ≡ 0 → AreDrawn r.numbers) }
+    ensures drawn { IfOk result (λ r. least_files_lem r.command ≡ 0 → AreDrawn r.numbers) }
     ensures value { Answers (λ r. r) result (request_of (map string_bytes words.now)) }
 {
     let Some((first, others)) = words.split_first() else {

@@ -1,6 +1,7 @@
 //! What the words ask for.
 
-ghost use Rattle.std.specs.Prelude.{◌≡◌, ◌<◌, ℕ, [], ◌∷◌, ◌++◌, length, string_bytes, slice_index_or, OnOk, OnErr};
+ghost use Rattle.std.specs.Prelude.{◌≡◌, ◌<◌, ℕ, [], ◌∷◌, ◌++◌, length, string_bytes, slice_get, slice_index_or, OnOk, OnErr};
+ghost use Rattle.std.specs.Option.{option_map};
 ghost use Rattle.mcf_words.specs.declared.request.WordsEnd.TheVariants.{Memory};
 
 use std::alloc::{AllocError, AllocFailed, Global};
@@ -14,6 +15,7 @@ pub enum Command {
     Check,
     WhatIf,
     Upgrade,
+    Tighten,
     Sweep,
     SweepSolve,
     Print,
@@ -62,6 +64,16 @@ impl Names {
         self.items.len()
     }
 
+    /// The name at that place, if there is one.
+    pub fn get(&self, i: usize) -> Option<&str>
+        ensures { option_map (λ w. w.now) result ≡ slice_get self.now i }
+    {
+        match self.items.get(i) {
+            Some(name) => Some(name.as_str()),
+            None => None,
+        }
+    }
+
     /// The name at that place.
     pub fn name(&self, i: usize) -> &str
         requires { i < length self.now }
@@ -84,7 +96,8 @@ pub struct Request {
     pub gap: u64,
     /// `None` where the words leave the phase budget open.
     pub phases: Option<u32>,
-    pub workers: u16,
+    /// `None` where the words leave the number of workers open.
+    pub workers: Option<u16>,
     pub step: u32,
 }
 

@@ -25,7 +25,7 @@ use Rattle.net_solve.proofs.PathWeights.{weights-small}
 
 -- ---- rows of the network, with numbers within the limits, are rows of its text
 
-each : {X : Type 0} (P : X → Type 0) (xs : List X) → All P xs → AllByRecursion P xs
+pub each : {X : Type 0} (P : X → Type 0) (xs : List X) → All P xs → AllByRecursion P xs
 each P [] h = tt
 each P (x ∷ xs) h = (All-head P x xs h, each P xs (All-tail P x xs h))
 
@@ -45,10 +45,10 @@ routing-fits sheet net r size is small = record {
   paths = each (FitsPath sheet) r.paths (λ i d l. path-fits sheet net _ size (is.rows i d l) (small i d l));
 }
 
-length-fits : (sheet : Sheet) (net : Network) (r : Length) → IsSized sheet net → r.cell < length net.cells → r.value ≤ MAX_LENGTH → FitsLength sheet r
+pub length-fits : (sheet : Sheet) (net : Network) (r : Length) → IsSized sheet net → r.cell < length net.cells → r.value ≤ MAX_LENGTH → FitsLength sheet r
 length-fits sheet net r size inside small = record { cell = subst (λ n. r.cell < n) (sym size.cells) inside; value = small }
 
-potential-fits : (sheet : Sheet) (net : Network) (r : Potential) → IsSized sheet net → IsPotentialOf net r → All (λ p. p ≤ MAX_LENGTH) r.values → FitsPotential sheet r
+pub potential-fits : (sheet : Sheet) (net : Network) (r : Potential) → IsSized sheet net → IsPotentialOf net r → All (λ p. p ≤ MAX_LENGTH) r.values → FitsPotential sheet r
 potential-fits sheet net r size is small = record {
   node = subst (λ n. r.node < n) (sym size.nodes) is.node;
   count = is.values ∙ sym size.nodes;
@@ -71,4 +71,4 @@ solved-fits sheet net o s size n solved =
     }
 
 pub written : (rows : NetRows) (net : ScaledNet) (o : SolveOptions) (s : SolvedView) → IsOf rows net → IsScaledNet net → IsNetwork net.net → IsSolved net.net o s → FitsProof (sheet_of rows net) s.proof
-written rows net o s of facts n solved = solved-fits (sheet_of rows net) net.net o s (sized rows of.options net of.scaled facts) n solved
+written rows net o s of facts n solved = solved-fits (sheet_of rows net) net.net o s (sized rows of.options net of.scaled) n solved

@@ -1,19 +1,25 @@
 //! What is asked of a solve.
 
-ghost use Rattle.std.specs.Prelude.{◌≡◌, ◌≤◌, ℕ, IfOk, IfErr, OnOk};
+ghost use Rattle.std.specs.Prelude.{◌≡◌, ◌≤◌, ℕ, length, IfOk, IfErr, IfSome, OnOk};
+ghost use Rattle.mcf_limits.specs.declared.TheConstants.{MAX_WORKERS};
+ghost use Rattle.flow_model.specs.Network.{Network};
 ghost use Rattle.solver_run.specs.Options.{AreOptions};
-ghost use Rattle.net_solve.specs.Asked.{IsAsked, default_budget, options_for, IsTooMuch};
+ghost use Rattle.net_solve.specs.Asked.{IsAsked, default_budget, options_for, workers_of, IsTooMuch};
 
 use flow_model::Net;
-use mcf_limits::{DEFAULT_PHASES, MAX_WORK};
+use mcf_limits::{DEFAULT_PHASES, DEFAULT_WORKERS, MAX_WORK};
 use solver_run::SolveOptions;
 
-/// The gap in millionths, the phase budget if one was given, the number of workers, and the step of the lengths.
+/// With fewer commodities than this a solve takes one worker, where no number is given.
+pub const FEW_COMMODITIES: u64 = 1000;
+
+/// The gap in millionths, the phase budget if one was given, the number of workers if one was given, and the step of the
+/// lengths.
 #[derive(Clone, Copy, Debug, PartialEq, Eq)]
 pub struct Asked {
     pub gap: u64,
     pub phases: Option<u32>,
-    pub workers: u16,
+    pub workers: Option<u16>,
     pub step: u32,
 }
 
@@ -23,6 +29,20 @@ fn default_phases(commodities: u64) -> u32
     ensures { result ≡ default_budget commodities }
 {
     DEFAULT_PHASES.min(MAX_WORK / commodities) as u32
+}
+
+// The number of workers, where none was given: a phase of few commodities takes less time than starting threads.
+fn workers_for(commodities: u64, asked: Option<u16>) -> u16
+    requires { IfSome asked (λ w. (1 ≤ w) × (w ≤ MAX_WORKERS)) }
+    ensures value { (net : Network) → length net.commodities ≡ commodities → result ≡ workers_of net asked }
+    ensures some { 1 ≤ result }
+    ensures limit { result ≤ MAX_WORKERS }
+{
+    match asked {
+        Some(workers) => workers,
+        None if commodities < FEW_COMMODITIES => 1,
+        None => DEFAULT_WORKERS,
+    }
 }
 
 /// The options of a solve, or how many commodities times phases there would be, where that is too much.
@@ -44,7 +64,7 @@ pub fn options_of(net: &Net, asked: &Asked) -> Result<SolveOptions, u64>
     Ok(SolveOptions {
         gap: asked.gap,
         phases,
-        workers: asked.workers,
+        workers: workers_for(commodities, asked.workers),
         step: asked.step,
     })
 }

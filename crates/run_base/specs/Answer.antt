@@ -12,7 +12,7 @@ use Rattle.run_base.specs.declared.outcome.Paper.{Paper}
 use Rattle.run_base.specs.declared.outcome.Paper.TheVariants as papers
 use Rattle.run_base.specs.declared.outcome.Outcome.{Outcome}
 use Rattle.run_base.specs.declared.outcome.Outcome.TheVariants as outcomes
-use Rattle.run_base.specs.Judged.{net_refused, script_refused, judged_words, judged_status}
+use Rattle.run_base.specs.Judged.{net_refused, script_refused, second_refused, second_invalid, judged_words, judged_status}
 
 pub record Answer : Type 0 where
   pub status : ℕ
@@ -23,6 +23,7 @@ pub record Answer : Type 0 where
 abbrev pub paper_word : Paper → List ℕ
 paper_word papers.Network = codes "net"
 paper_word papers.Certificate = codes "cert"
+paper_word papers.Second = codes "cert2"
 paper_word papers.Script = codes "script"
 
 -- the line of work over its limit
@@ -39,6 +40,8 @@ words_of (outcomes.NetRefused r) = net_refused r
 words_of (outcomes.TooMuch work) = work_refused work
 words_of (outcomes.ScriptRefused r) = script_refused r
 words_of (outcomes.Judged judged) = judged_words judged
+words_of (outcomes.SecondRefused r) = second_refused r
+words_of (outcomes.SecondInvalid fault) = second_invalid fault
 
 abbrev pub status_of : Outcome → ℕ
 status_of outcomes.Usage = 2
@@ -49,6 +52,8 @@ status_of (outcomes.NetRefused r) = 3
 status_of (outcomes.TooMuch work) = 3
 status_of (outcomes.ScriptRefused r) = 3
 status_of (outcomes.Judged judged) = judged_status judged
+status_of (outcomes.SecondRefused r) = 3
+status_of (outcomes.SecondInvalid fault) = 1
 
 -- one line of words, with this status
 abbrev pub line_answer : ℕ → Line → Answer

@@ -74,8 +74,19 @@ script_kind_word scripts.BelowZero = codes "S6"
 abbrev pub script_refused : ScriptRefusal → Line
 script_refused r = codes "refused" ∷ codes "script" ∷ script_kind_word r.kind ∷ codes "line" ∷ decimal r.line ∷ []
 
+-- a text of a certificate is refused, and this is how its file is named
+abbrev pub text_refused : List ℕ → CertRefusal → Line
+text_refused paper r = codes "refused" ∷ paper ∷ cert_kind_word r.kind ∷ codes "line" ∷ decimal r.line ∷ []
+
 abbrev pub cert_refused : CertRefusal → Line
-cert_refused r = codes "refused" ∷ codes "cert" ∷ cert_kind_word r.kind ∷ codes "line" ∷ decimal r.line ∷ []
+cert_refused r = text_refused (codes "cert") r
+
+abbrev pub second_refused : CertRefusal → Line
+second_refused r = text_refused (codes "cert2") r
+
+-- a condition that a second certificate fails
+abbrev pub second_invalid : Fault → Line
+second_invalid fault = codes "invalid2" ∷ fault_word fault ∷ []
 
 -- the words of the line: a fraction that is carried is rounded down, a bound is rounded up
 abbrev pub judged_words : Judged → Line

@@ -1,15 +1,16 @@
 //! What a run found, where one line tells it.
 
-use cert_judge::Judged;
+use cert_judge::{CertRefusal, Fault, Judged};
 use script::ScriptRefusal;
 use sndlib_read::NetRefusal;
 use std::alloc::AllocError;
 
-/// A kind of file: a network, a certificate or a routing, a script.
+/// A kind of file: a network, a certificate or a routing, a second certificate, a script.
 #[derive(Clone, Copy, Debug, PartialEq, Eq)]
 pub enum Paper {
     Network,
     Certificate,
+    Second,
     Script,
 }
 
@@ -28,6 +29,10 @@ pub enum Outcome {
     ScriptRefused(ScriptRefusal),
     /// What is said of a certificate.
     Judged(Judged),
+    /// The text of a second certificate has a fault.
+    SecondRefused(CertRefusal),
+    /// The first condition that a second certificate fails.
+    SecondInvalid(Fault),
 }
 
 impl From<AllocError> for Outcome {

@@ -5,7 +5,7 @@ ghost use Rattle.text_lines.specs.Lines.{spelled};
 ghost use Rattle.text_lines.specs.Spelling.{millionths_word};
 ghost use Rattle.cert_judge.specs.declared.judged.Judged.TheVariants as JudgedIs;
 ghost use Rattle.run_base.specs.Answer.{Writes, line_answer};
-ghost use Rattle.run_base.specs.Judged.{kind_word as kind_word_lem, cert_kind_word as cert_kind_word_lem, fault_word as fault_word_lem, verdict_word as verdict_word_lem, script_kind_word as script_kind_word_lem, net_refused, script_refused, cert_refused, judged_words, judged_status};
+ghost use Rattle.run_base.specs.Judged.{kind_word as kind_word_lem, cert_kind_word as cert_kind_word_lem, fault_word as fault_word_lem, verdict_word as verdict_word_lem, script_kind_word as script_kind_word_lem, net_refused, script_refused, text_refused, cert_refused, second_refused, second_invalid, judged_words, judged_status};
 
 use crate::ended::Ended;
 use crate::saying::say;
@@ -123,12 +123,34 @@ pub fn tell_script_refusal<K: Sink>(out: &mut K, refusal: ScriptRefusal) -> Ende
     say(out, b"refused", &words, 3)
 }
 
+// Writes the line of a refusal of a certificate's text, whose file is named so.
+fn tell_text_refusal<K: Sink>(out: &mut K, paper: &'static [u8], refusal: CertRefusal) -> Ended
+    ensures { Writes (K.seen out.old) (K.seen out.new) result
+        (line_answer 3 (text_refused paper.now refusal)) }
+{
+    let line = Word::number(refusal.line as u128);
+    let words: [&[u8]; 4] = [paper, cert_kind_word(refusal.kind), b"line", line.bytes()];
+    say(out, b"refused", &words, 3)
+}
+
 fn tell_cert_refusal<K: Sink>(out: &mut K, refusal: CertRefusal) -> Ended
     ensures { Writes (K.seen out.old) (K.seen out.new) result (line_answer 3 (cert_refused refusal)) }
 {
-    let line = Word::number(refusal.line as u128);
-    let words: [&[u8]; 4] = [b"cert", cert_kind_word(refusal.kind), b"line", line.bytes()];
-    say(out, b"refused", &words, 3)
+    tell_text_refusal(out, b"cert", refusal)
+}
+
+/// Writes the line of a refusal of a second certificate's text.
+pub fn tell_second_refusal<K: Sink>(out: &mut K, refusal: CertRefusal) -> Ended
+    ensures { Writes (K.seen out.old) (K.seen out.new) result (line_answer 3 (second_refused refusal)) }
+{
+    tell_text_refusal(out, b"cert2", refusal)
+}
+
+/// Writes the line of the first condition that a second certificate fails.
+pub fn tell_second_fault<K: Sink>(out: &mut K, fault: Fault) -> Ended
+    ensures { Writes (K.seen out.old) (K.seen out.new) result (line_answer 1 (second_invalid fault)) }
+{
+    say(out, b"invalid2", &[fault_word(fault)], 1)
 }
 
 fn tell_feasible<K: Sink>(out: &mut K, options: NetOptions, value: Frac) -> Ended

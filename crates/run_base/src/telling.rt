@@ -7,7 +7,9 @@ ghost use Rattle.run_base.specs.Answer.{Writes, answer_of, line_answer, paper_wo
 use crate::ended::Ended;
 use crate::outcome::{Outcome, Paper};
 use crate::saying::say;
-use crate::tell_judged::{tell_judged, tell_net_refusal, tell_script_refusal};
+use crate::tell_judged::{
+    tell_judged, tell_net_refusal, tell_script_refusal, tell_second_fault, tell_second_refusal,
+};
 use mcf_base::Sink;
 use text_lines::Word;
 
@@ -17,6 +19,7 @@ fn paper_word(paper: Paper) -> &'static [u8]
     match paper {
         Paper::Network => b"net",
         Paper::Certificate => b"cert",
+        Paper::Second => b"cert2",
         Paper::Script => b"script",
     }
 }
@@ -43,5 +46,7 @@ pub fn tell<K: Sink>(out: &mut K, outcome: Outcome) -> Ended
         Outcome::TooMuch(work) => tell_work(out, work),
         Outcome::ScriptRefused(refusal) => tell_script_refusal(out, refusal),
         Outcome::Judged(judged) => tell_judged(out, judged),
+        Outcome::SecondRefused(refusal) => tell_second_refusal(out, refusal),
+        Outcome::SecondInvalid(fault) => tell_second_fault(out, fault),
     }
 }

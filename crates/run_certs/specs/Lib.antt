@@ -1,3 +1,4 @@
 pub mod Check
 pub mod WhatIf
 pub mod Upgrade
+pub mod Tighten

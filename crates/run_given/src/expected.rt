@@ -18,6 +18,12 @@ pub const WHAT_IF: &[&str] = &["whatif", "net", "cert", "script"];
 /// Writes the certificate of the network in form 2.
 pub const UPGRADE: &[&str] = &["upgrade", "net", "cert"];
 
+/// Writes the best certificate that the certificate of the network gives.
+pub const TIGHTEN: &[&str] = &["tighten", "net", "cert"];
+
+/// The same of two certificates.
+pub const TIGHTEN_BOTH: &[&str] = &["tighten", "net", "cert", "cert2"];
+
 /// Closes each link for the certificate of the network.
 pub const SWEEP: &[&str] = &["sweep", "net", "cert"];
 

@@ -8,7 +8,8 @@ mod running;
 
 pub use edits::{Edit, expect_certs, expect_nets, expect_on_nets};
 pub use expected::{
-    CHECK, PRINT, SWEEP, UPGRADE, WHAT_IF, expect, expect_cert, expect_net, expect_script,
+    CHECK, PRINT, SWEEP, TIGHTEN, TIGHTEN_BOTH, UPGRADE, WHAT_IF, expect, expect_cert, expect_net,
+    expect_script,
 };
 pub use networks::{
     BOTH_ROUTED, BOTH_WAYS, BOTH_WAYS_SOLVED, CUT, CUT_SIGNED, EACH_WAY_ROUTED, FREE_LAYOUT,

@@ -1,5 +1,5 @@
 -- What each command answers to accepted files: an answer with status 0 or 1.
-use Rattle.std.proofs.Common.{◌≡◌, ℕ, ◌≤◌, Bool, true, false, List, Some, Result, Ok, Err, inl, inr, ap, subst, sym, ◌∙◌, arith, refl}
+use Rattle.std.proofs.Common.{◌≡◌, ℕ, ◌≤◌, Bool, true, false, List, [], ◌∷◌, Option, Some, None, Result, Ok, Err, inl, inr, ap, subst, sym, ◌∙◌, arith, refl}
 use Rattle.std.specs.Prelude.{◌⊎◌, if◌then◌else◌}
 use Rattle.std.specs.List.{list_all}
 use Rattle.mcf_limits.specs.declared.TheConstants.{MAX_CERT_BYTES, MAX_SCRIPT_BYTES}
@@ -17,10 +17,15 @@ use Rattle.cert_text.specs.declared.papers.Paper.TheVariants as papers
 use Rattle.cert_judge.specs.declared.judged.Judged.{Judged}
 use Rattle.cert_judge.specs.declared.judged.Judged.TheVariants as judges
 use Rattle.cert_text.specs.declared.opening.Known.TheVariants.{Both}
-use Rattle.cert_judge.specs.Papers.{IsReadOf}
+use Rattle.cert_judge.specs.declared.second.Second.{Second}
+use Rattle.cert_judge.specs.declared.second.Second.TheVariants as seconds
+use Rattle.cert_judge.specs.Papers.{IsReadOf, options_of}
+use Rattle.cert_judge.specs.Second.{with_net}
 use Rattle.cert_judge.specs.Judgement.{IsSaidOf}
 use Rattle.cert_judge.proofs.Judgements.{certified_of, judged_of}
 use Rattle.cert_judge.proofs.KnownHeaders.{certificate_either}
+use Rattle.cert_judge.proofs.PaperFacts.{scaled_own}
+use Rattle.cert_judge.proofs.Seconds.{second_of}
 use Rattle.net_solve.specs.declared.solving.Solving.{Solving}
 use Rattle.net_solve.specs.declared.solving.Solving.TheVariants as solvings
 use Rattle.net_solve.specs.Solving.{IsSolving}
@@ -43,14 +48,15 @@ use Rattle.run_base.specs.Files.{Ends, OfFile, OrMemory}
 use Rattle.run_solves.specs.Print.{OfPrint, printed}
 use Rattle.run_certs.specs.Check.{OnTexts, OfCheck}
 use Rattle.run_solves.specs.Solve.{asked_of, solving_answer, SolvesRows, OfSolve}
+use Rattle.run_certs.specs.Tighten.{WritesBest, best_answer, OnBoth, OnSecond, OnFirst, OnFirstRead, OnFirstText, OfFirst, OfTighten}
 use Rattle.run_certs.specs.Upgrade.{upgrade_answer, OnUpgrade, OfUpgraded, OfUpgrade}
 use Rattle.run_sweeps.specs.Sweep.{sweep_answer, OnSweep, OfSwept, OfSweep}
 use Rattle.run_sweeps.specs.SweepSolve.{solves_answer, sweep_asked_of, SolvesLinks, OnScaled, OnSweepSolve, OfSweepSolve}
 use Rattle.sweep_solver.specs.declared.swept.Swept.{Swept}
 use Rattle.run_certs.specs.WhatIf.{scripted_answer, OnScript, OnCertified, OnCertificate, OfWhatIf}
 use Rattle.run_solves.specs.Drawn.{links_drawn, net_drawn, gen_answer, trial_line, OfTrial}
-use Rattle.mcf_cli.specs.Run.{file_at, OfCommand}
-use Rattle.run_laws.specs.Accepted.{IsSolvable, IsSweepSolvable, IsPaperFile, IsScriptFile, AcceptsPrint, AcceptsSolve, AcceptsSweepSolve, AcceptsCheck, AcceptsUpgrade, AcceptsWhatIf, AcceptsTrial, Accepts}
+use Rattle.mcf_cli.specs.Run.{file_at, file_if, OfCommand}
+use Rattle.run_laws.specs.Accepted.{IsSolvable, IsSweepSolvable, IsPaperFile, IsScriptFile, IsSecondFile, AcceptsPrint, AcceptsSolve, AcceptsSweepSolve, AcceptsCheck, AcceptsTighten, AcceptsUpgrade, AcceptsWhatIf, AcceptsTrial, Accepts}
 use Rattle.run_laws.proofs.Given.{Memories, of_text, of_rows}
 
 -- reading answers one thing
@@ -120,7 +126,7 @@ said_low o net (papers.Routing r) (judges.CertRefused x) is = absurd is
 said_low o net (papers.Full p) (judges.CertRefused x) is = absurd is
 
 -- a file that is accepted is read, stage by stage
-file_read : (files : Holding) (name : List ℕ) (rows : NetRows) (net : ScaledNet) (paper : Paper) → (file : IsPaperFile files name rows net paper) → IsReadOf Both rows file.text net paper
+pub file_read : (files : Holding) (name : List ℕ) (rows : NetRows) (net : ScaledNet) (paper : Paper) → (file : IsPaperFile files name rows net paper) → IsReadOf Both rows file.text net paper
 file_read files name rows net paper file = record { head_of = file.head; head_read = file.head_read; scaled = file.scaled; fits = refl; rest_read = file.rest_read }
 
 texts_low : (files : Holding) (name : List ℕ) (rows : NetRows) (net : ScaledNet) (paper : Paper) (answer : Answer) → (file : IsPaperFile files name rows net paper) → OnTexts rows file.text answer → answer.status ≤ 1
@@ -180,6 +186,57 @@ whatif_low files request old new answer tells calm (rows, given, net, proof, fil
     by first cert third (inl (memory, same)) = inl memory
     by first cert third (inr on) =
         certified_low files (file_at request 2) rows net proof on.0 (with_file (with_file old (file_at request 0)) (file_at request 1)) new answer tells calm script
+        (certificate_of files (file_at request 1) rows net proof on.0 file on.1) on.2
+
+-- ---- tighten
+
+best_low : (rows : NetRows) (net : ScaledNet) (first : Proof) (others : List Proof) (answer : Answer) → WritesBest rows net first others answer → answer.status ≤ 1
+best_low rows net first others answer (best, is, same) = status_is answer (best_answer rows net best) same (verdict_low best.closed)
+
+both_low : (rows : NetRows) (net : ScaledNet) (first proof : Proof) (second : Second) (answer : Answer) → CertOnCertificate rows net proof (with_net net second) → OnBoth rows net first second answer → answer.status ≤ 1
+both_low rows net first proof (seconds.Valid p) answer is on = best_low rows net first (p ∷ []) answer on
+both_low rows net first proof (seconds.Invalid fault) answer is on = status_is answer (answer_of (outcomes.SecondInvalid fault)) on (omega arith)
+both_low rows net first proof (seconds.Refused r) answer is on = absurd is
+
+second_text_low : (files : Holding) (name : List ℕ) (rows : NetRows) (net : ScaledNet) (first proof : Proof) (answer : Answer) → (file : IsPaperFile files name rows net (papers.Full proof))
+    → OnSecond rows net first file.text answer → answer.status ≤ 1
+second_text_low files name rows net first proof answer file (second, is, on) =
+    both_low rows net first proof second answer
+    (second_of rows net file.text (with_net net second) (scaled_own rows (options_of file.head) net file.scaled) proof
+    (certificate_either rows file.text net proof (file_read files name rows net (papers.Full proof) file)) is) on
+
+second_low : (files : Holding) (second : Option (List ℕ)) (rows : NetRows) (net : ScaledNet) (first : Proof) (old new : ShelfView) (answer : Answer) → old.holds ≡ Some files → ¬ (Rose old.faults.count new.faults.count)
+    → IsSecondFile files second rows net → OnFirst rows second net first old new answer → Low answer
+second_low files None rows net first old new answer tells calm file of = ends_low (WritesBest rows net first []) old new answer (λ w. best_low rows net first [] answer w) of
+second_low files (Some name) rows net first old new answer tells calm (proof, file) of =
+    then_low answer (of_text MAX_CERT_BYTES kinds.Second files name file.text (λ text. Ends (OnSecond rows net first text)) old new answer tells calm file.given of)
+    (λ last. ends_low (OnSecond rows net first file.text) (with_file old name) new answer (λ on. second_text_low files name rows net first proof answer file on) last)
+
+first_low : (files : Holding) (second : Option (List ℕ)) (rows : NetRows) (net : ScaledNet) (proof : Proof) (certified : Certified) (old new : ShelfView) (answer : Answer) → old.holds ≡ Some files → ¬ (Rose old.faults.count new.faults.count)
+    → (IsValid net.net proof → IsSecondFile files second rows net) → CertOnCertificate rows net proof certified → OnFirstRead rows second certified old new answer → Low answer
+first_low files second rows net proof (certs.Valid n p) old new answer tells calm file is on =
+    let moved = subst (λ (m : ScaledNet). OnFirst rows second m p old new answer) is.0 on in
+    second_low files second rows net p old new answer tells calm (file is.2.valid) moved
+first_low files second rows net proof (certs.Said (judges.Invalid fault)) old new answer tells calm file is on = inr (status_is answer (answer_of (outcomes.Judged (judges.Invalid fault))) on.0 (omega arith))
+first_low files second rows net proof (certs.Said (judges.NetRefused x)) old new answer tells calm file is on = absurd is
+first_low files second rows net proof (certs.Said (judges.CertRefused x)) old new answer tells calm file is on = absurd is
+first_low files second rows net proof (certs.Said (judges.Feasible o v)) old new answer tells calm file is on = absurd is
+first_low files second rows net proof (certs.Said (judges.Valid o c l u)) old new answer tells calm file is on = absurd is
+
+tighten_low : (files : Holding) (request : Request) (old new : ShelfView) (answer : Answer) → old.holds ≡ Some files → ¬ (Rose old.faults.count new.faults.count)
+    → AcceptsTighten files request → OfTighten (file_at request 0) (file_at request 1) (file_if request 2) old new answer → Low answer
+tighten_low files request old new answer tells calm (rows, given, net, proof, file, more) of =
+    let net_name = file_at request 0 in
+    let cert = file_at request 1 in
+    let second = file_if request 2 in
+    then_low answer (of_rows files net_name rows (λ rows. OfFirst rows cert second) old new answer tells calm given of)
+    (λ on. then_low answer (of_text MAX_CERT_BYTES kinds.Certificate files cert file.text (λ text. OrMemory (OnFirstText rows second text)) (with_file old net_name) new answer tells calm file.given on)
+    (λ last. by last))
+  where
+    by : OrMemory (OnFirstText rows (file_if request 2) file.text) (with_file (with_file old (file_at request 0)) (file_at request 1)) new answer → Low answer
+    by (inl (memory, same)) = inl memory
+    by (inr on) =
+        first_low files (file_if request 2) rows net proof on.0 (with_file (with_file old (file_at request 0)) (file_at request 1)) new answer tells calm more
         (certificate_of files (file_at request 1) rows net proof on.0 file on.1) on.2
 
 -- ---- upgrade
@@ -251,6 +308,7 @@ command_low commands.Solve files request old new answer tells calm accepts of = 
 command_low commands.Check files request old new answer tells calm accepts of = check_low files request old new answer tells calm accepts of
 command_low commands.WhatIf files request old new answer tells calm accepts of = whatif_low files request old new answer tells calm accepts of
 command_low commands.Upgrade files request old new answer tells calm accepts of = upgrade_low files request old new answer tells calm accepts of
+command_low commands.Tighten files request old new answer tells calm accepts of = tighten_low files request old new answer tells calm accepts of
 command_low commands.Sweep files request old new answer tells calm accepts of = sweep_low files request old new answer tells calm accepts of
 command_low commands.SweepSolve files request old new answer tells calm accepts of = sweepsolve_low files request old new answer tells calm accepts of
 command_low commands.Print files request old new answer tells calm accepts of = print_low files request old new answer tells calm accepts of

@@ -24,7 +24,12 @@ use Rattle.cert_judge.specs.declared.judged.Judged.{Judged}
 use Rattle.cert_judge.specs.declared.judged.Judged.TheVariants as judges
 use Rattle.cert_judge.specs.declared.refusal.Refusal.{Refusal}
 use Rattle.cert_judge.specs.declared.refusal.Refusal.TheVariants.{Net, Cert}
+use Rattle.cert_judge.specs.declared.second.Second.{Second}
+use Rattle.cert_judge.specs.declared.second.Second.TheVariants as seconds
 use Rattle.cert_judge.specs.Papers.{options_of}
+use Rattle.cert_judge.specs.Second.{with_net}
+use Rattle.cert_judge.proofs.PaperFacts.{scaled_own}
+use Rattle.cert_judge.proofs.Seconds.{second_by}
 use Rattle.cert_judge.specs.Judgement.{refused}
 use Rattle.cert_judge.proofs.Judgements.{certified_by, judged_by}
 use Rattle.net_solve.specs.declared.solving.Solving.{Solving}
@@ -50,13 +55,14 @@ use Rattle.run_base.specs.Files.{Ends, OfFile, OrMemory}
 use Rattle.run_solves.specs.Print.{OfPrint, printed}
 use Rattle.run_certs.specs.Check.{OnTexts, OfCheck}
 use Rattle.run_solves.specs.Solve.{asked_of, solving_answer, SolvesRows, OfSolve}
+use Rattle.run_certs.specs.Tighten.{WritesBest, OnBoth, OnSecond, OnFirst, OnFirstRead, OnFirstText, OfFirst, OfTighten}
 use Rattle.run_certs.specs.Upgrade.{upgrade_answer, OnUpgrade, OfUpgraded, OfUpgrade}
 use Rattle.run_sweeps.specs.Sweep.{sweep_answer, OnSweep, OfSwept, OfSweep}
 use Rattle.run_sweeps.specs.SweepSolve.{sweep_asked_of, OnScaled, OnSweepSolve, OfSweepSolve}
 use Rattle.run_certs.specs.WhatIf.{scripted_answer, OnScript, OnCertified, OnCertificate, OfWhatIf}
 use Rattle.run_solves.specs.Drawn.{OfTrial}
-use Rattle.mcf_cli.specs.Run.{file_at, OfCommand, OfRequest, IsAnswer, RunEnds}
-use Rattle.run_laws.specs.Accepted.{IsSolvable, IsSweepSolvable, IsPaperFile, IsScriptFile, AcceptsPrint, AcceptsSolve, AcceptsSweepSolve, AcceptsCheck, AcceptsUpgrade, AcceptsWhatIf, AcceptsTrial, Accepts, IsAccepted}
+use Rattle.mcf_cli.specs.Run.{file_at, file_if, OfCommand, OfRequest, IsAnswer, RunEnds}
+use Rattle.run_laws.specs.Accepted.{IsSolvable, IsSweepSolvable, IsNetFile, IsPaperFile, IsScriptFile, IsSecondFile, AcceptsPrint, AcceptsSolve, AcceptsSweepSolve, AcceptsCheck, AcceptsTighten, AcceptsUpgrade, AcceptsWhatIf, AcceptsTrial, Accepts, IsAccepted}
 use Rattle.run_laws.specs.Whole.{HasNoFault, EndsWhole}
 use Rattle.run_laws.proofs.Given.{not_full, text_of_file, rows_of_file, ends_full}
 use Rattle.run_laws.proofs.Answered.{Low, command_low}
@@ -127,7 +133,7 @@ check_accepts files request old new answer tells full of =
 -- ---- whatif
 
 -- no condition of a valid certificate fails
-no_fault : (net : Network) (p : Proof) → IsValid net p → (fault : Fault) → IsFirstFault net p fault → ⊥
+pub no_fault : (net : Network) (p : Proof) → IsValid net p → (fault : Fault) → IsFirstFault net p fault → ⊥
 no_fault net p v C1 h = h v.routing.walks
 no_fault net p v C2 h = h.1 v.routing.carried
 no_fault net p v C3 h = h.2 v.routing.loads
@@ -219,6 +225,97 @@ whatif_accepts files request old new answer tells full of =
       λ valid. script_where_valid files script r.0 p.net p.proof on.0 (with_file (with_file old first) cert) new answer tells full p.on on.2 valid,
     )
 
+-- ---- tighten
+
+first_full : (old new : ShelfView) (rows : NetRows) (second : Option (List ℕ)) (certified : Certified) (answer : Answer) → OnFirstRead rows second certified old new answer → answer.status ≤ 1 → IsNotRefused certified
+first_full old new rows second certified answer on full judged e above =
+    let told : OnFirstRead rows second (certs.Said judged) old new answer = subst (λ (c : Certified). OnFirstRead rows second c old new answer) e on in
+    not_full answer (outcomes.Judged judged) told.0 full above
+
+-- no line that refuses a second text is this answer
+second_full : (rows : NetRows) (net : ScaledNet) (first : Proof) (second : Second) (answer : Answer) → OnBoth rows net first second answer → answer.status ≤ 1 → (r : Refusal) → with_net net second ≡ told r → ⊥
+second_full rows net first (seconds.Refused x) answer same full r e = not_full answer (outcomes.SecondRefused x) same full (omega arith)
+second_full rows net first (seconds.Invalid fault) answer same full (Net r) e = absurd cc
+second_full rows net first (seconds.Invalid fault) answer same full (Cert r) e = absurd cc
+second_full rows net first (seconds.Valid proof) answer writes full r e = absurd cc
+
+-- what came of a second certificate that was read
+pub second_read : (files : Holding) (name : List ℕ) (rows : NetRows) (net : ScaledNet) (first : Proof) (old new : ShelfView) (answer : Answer) → old.holds ≡ Some files → scaled_of rows net.options ≡ Ok net → answer.status ≤ 1
+    → OfFile MAX_CERT_BYTES kinds.Second name (λ text. Ends (OnSecond rows net first text)) old new answer
+    → (proof : Proof) × IsPaperFile files name rows net (papers.Full proof) × (second : Second) × CertOnCertificate rows net proof (with_net net second) × OnBoth rows net first second answer
+second_read files name rows net first old new answer tells scaled full of =
+    let t = text_of_file MAX_CERT_BYTES kinds.Second files name (λ text. Ends (OnSecond rows net first text)) old new answer tells full of in
+    let on : OnSecond rows net first t.0 answer = ends_full (OnSecond rows net first t.0) (with_file old name) new answer full t.2 in
+    let s = second_by rows net t.0 (with_net net on.0) scaled (second_full rows net first on.0 answer on.2 full) on.1 in
+    (s.0, record { text = t.0; given = t.1; head = s.1.head_of; head_read = s.1.head_read; scaled = s.1.scaled; rest_read = s.1.rest_read }, on.0, s.2, on.2)
+
+second_accepts : (files : Holding) (second : Option (List ℕ)) (rows : NetRows) (net : ScaledNet) (first : Proof) (old new : ShelfView) (answer : Answer) → old.holds ≡ Some files → scaled_of rows net.options ≡ Ok net → answer.status ≤ 1
+    → OnFirst rows second net first old new answer → IsSecondFile files second rows net
+second_accepts files None rows net first old new answer tells scaled full of = tt
+second_accepts files (Some name) rows net first old new answer tells scaled full of =
+    let s = second_read files name rows net first old new answer tells scaled full of in
+    (s.0, s.1)
+
+second_where_valid : (files : Holding) (second : Option (List ℕ)) (rows : NetRows) (net : ScaledNet) (proof : Proof) (certified : Certified) (old new : ShelfView) (answer : Answer) → old.holds ≡ Some files → scaled_of rows net.options ≡ Ok net → answer.status ≤ 1
+    → CertOnCertificate rows net proof certified → OnFirstRead rows second certified old new answer → IsValid net.net proof → IsSecondFile files second rows net
+second_where_valid files second rows net proof (certs.Valid n p) old new answer tells scaled full is on valid =
+    second_accepts files second rows net p old new answer tells scaled full (subst (λ (m : ScaledNet). OnFirst rows second m p old new answer) is.0 on)
+second_where_valid files second rows net proof (certs.Said (judges.Invalid fault)) old new answer tells scaled full is on valid = absurd (no_fault net.net proof valid fault is)
+second_where_valid files second rows net proof (certs.Said (judges.NetRefused x)) old new answer tells scaled full is on valid = absurd is
+second_where_valid files second rows net proof (certs.Said (judges.CertRefused x)) old new answer tells scaled full is on valid = absurd is
+second_where_valid files second rows net proof (certs.Said (judges.Feasible o v)) old new answer tells scaled full is on valid = absurd is
+second_where_valid files second rows net proof (certs.Said (judges.Valid o c l u)) old new answer tells scaled full is on valid = absurd is
+
+-- the first certificate that a run of `tighten` read, and what came of it
+pub record IsFirstRead (files : Holding) (request : Request) (old new : ShelfView) (answer : Answer) : Type 0 where
+  pub rows : NetRows
+  pub net_file : IsNetFile files (file_at request 0) rows
+  pub net : ScaledNet
+  pub scaled : scaled_of rows net.options ≡ Ok net
+  pub proof : Proof
+  pub cert_file : IsPaperFile files (file_at request 1) rows net (papers.Full proof)
+  pub certified : Certified
+  pub is : CertOnCertificate rows net proof certified
+  pub on : OnFirstRead rows (file_if request 2) certified (with_file (with_file old (file_at request 0)) (file_at request 1)) new answer
+
+first_told : (rows : NetRows) (second : Option (List ℕ)) (text : List ℕ) (old new : ShelfView) (answer : Answer) → answer.status ≤ 1 → OrMemory (OnFirstText rows second text) old new answer → OnFirstText rows second text old new answer
+first_told rows second text old new answer full (inl (memory, same)) = absurd (not_full answer outcomes.Memory memory full (omega arith))
+first_told rows second text old new answer full (inr on) = on
+
+pub first_read : (files : Holding) (request : Request) (old new : ShelfView) (answer : Answer) → old.holds ≡ Some files → answer.status ≤ 1
+    → OfTighten (file_at request 0) (file_at request 1) (file_if request 2) old new answer → IsFirstRead files request old new answer
+first_read files request old new answer tells full of =
+    let first = file_at request 0 in
+    let cert = file_at request 1 in
+    let second = file_if request 2 in
+    let r = rows_of_file files first (λ rows. OfFirst rows cert second) old new answer tells full of in
+    let t = text_of_file MAX_CERT_BYTES kinds.Certificate files cert (λ text. OrMemory (OnFirstText r.0 second text)) (with_file old first) new answer tells full r.2 in
+    let on = first_told r.0 second t.0 (with_file (with_file old first) cert) new answer full t.2 in
+    let p = cert_read r.0 t.0 on.0 on.1 (first_full (with_file (with_file old first) cert) new r.0 second on.0 answer on.2 full) in
+    record {
+      rows = r.0;
+      net_file = r.1;
+      net = p.net;
+      scaled = scaled_own r.0 (options_of p.head) p.net p.scaled;
+      proof = p.proof;
+      cert_file = record { text = t.0; given = t.1; head = p.head; head_read = p.head_read; scaled = p.scaled; rest_read = p.rest_read };
+      certified = on.0;
+      is = p.on;
+      on = on.2;
+    }
+
+tighten_accepts : (files : Holding) (request : Request) (old new : ShelfView) (answer : Answer) → old.holds ≡ Some files → answer.status ≤ 1
+    → OfTighten (file_at request 0) (file_at request 1) (file_if request 2) old new answer → AcceptsTighten files request
+tighten_accepts files request old new answer tells full of =
+    let r = first_read files request old new answer tells full of in (
+      r.rows,
+      r.net_file,
+      r.net,
+      r.proof,
+      r.cert_file,
+      λ valid. second_where_valid files (file_if request 2) r.rows r.net r.proof r.certified (with_file (with_file old (file_at request 0)) (file_at request 1)) new answer tells r.scaled full r.is r.on valid,
+    )
+
 -- ---- upgrade
 
 upgrade_accepts : (files : Holding) (request : Request) (old new : ShelfView) (answer : Answer) → old.holds ≡ Some files → answer.status ≤ 1 → OfUpgrade (file_at request 0) (file_at request 1) old new answer → AcceptsUpgrade files request
@@ -264,6 +361,7 @@ command_accepts commands.Solve files request old new answer tells full of = solv
 command_accepts commands.Check files request old new answer tells full of = check_accepts files request old new answer tells full of
 command_accepts commands.WhatIf files request old new answer tells full of = whatif_accepts files request old new answer tells full of
 command_accepts commands.Upgrade files request old new answer tells full of = upgrade_accepts files request old new answer tells full of
+command_accepts commands.Tighten files request old new answer tells full of = tighten_accepts files request old new answer tells full of
 command_accepts commands.Sweep files request old new answer tells full of = sweep_accepts files request old new answer tells full of
 command_accepts commands.SweepSolve files request old new answer tells full of = sweepsolve_accepts files request old new answer tells full of
 command_accepts commands.Print files request old new answer tells full of = print_accepts files request old new answer tells full of

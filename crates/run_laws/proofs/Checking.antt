@@ -94,6 +94,7 @@ pub record RunAnswer (command : Command) (most : ℕ) (files : Holding) (request
   pub low : answer.status ≤ most
   pub of : OfCommand command request old new answer
   pub text_is : text ≡ answer.text
+  pub status_is : ended.status ≡ answer.status
   pub found : ended.found ≡ answer.found
 
 text_same : (before after : Option (List ℕ)) (text answer : List ℕ) → before ≡ Some [] → after ≡ Some text → Appends before after answer → text ≡ answer
@@ -128,6 +129,7 @@ run_answered command most files request text ended few run = by run.runs.1 run.r
       low = low given.ends;
       of = subst (λ (c : Command). OfCommand c request run.old run.new answer) run.is (subst (λ (r : Option Request). OfRequest r run.old run.new answer) run.asked of);
       text_is = text_same run.before.written run.after.written text answer.text run.empty run.wrote given.text;
+      status_is = ap (λ (x : Ended). x.status) given.ends;
       found = ap (λ (x : Ended). x.found) given.ends;
     }
 
@@ -244,7 +246,7 @@ module _ (files again : Holding) (first check : Request) (text : List ℕ) (befo
           last (of_text MAX_CERT_BYTES kinds.Certificate again (file_at check 1) text (λ text. Ends (OnTexts rows text)) (with_file run.old (file_at check 0)) run.new answer run.tells run.calm.shelf
           (record { file = run.certificate; short = run.short }) on)
 
-  checked : IsToldValid net proof before after second
+  pub checked : IsToldValid net proof before after second
   checked = by run.runs.1 run.runs.2
     where
       answer : Answer

@@ -5,3 +5,4 @@ pub mod Asked
 pub mod Starting
 pub mod Checking
 pub mod Sweeping
+pub mod Tightening

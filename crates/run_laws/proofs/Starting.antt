@@ -1,6 +1,6 @@
 -- A run starts the files of its words alone, and its status tells what has failed.
 use Rattle.std.proofs.Common.{◌≡◌, ℕ, Bool, true, false, ◌+◌, ◌≤◌, List, [], ◌∷◌, ◌++◌, take, Option, Some, None, Result, Ok, Err, inl, inr, refl, sym, ap, subst, ◌∙◌, append_assoc, arith}
-use Rattle.std.specs.Prelude.{◌⊎◌, if◌then◌else◌}
+use Rattle.std.specs.Prelude.{◌⊎◌, option_to_list, if◌then◌else◌}
 use Rattle.std.specs.List.{list_all}
 use Rattle.std.proofs.lemmas.List.{append-nil}
 use Rattle.std.proofs.lemmas.List.Elements.{Contains-append_right}
@@ -35,13 +35,17 @@ use Rattle.run_solves.specs.Print.{printed}
 use Rattle.run_solves.specs.Solve.{SolvesRows, solving_answer}
 use Rattle.run_solves.specs.Drawn.{gen_answer, links_drawn, net_drawn, trial_line, OfTrial}
 use Rattle.run_certs.specs.Check.{OnTexts, judged_answer}
+use Rattle.cert_judge.specs.declared.second.Second.{Second}
+use Rattle.cert_judge.specs.declared.second.Second.TheVariants as seconds
+use Rattle.flow_paths.specs.declared.certificate.Proof.{Proof}
+use Rattle.run_certs.specs.Tighten.{WritesBest, best_answer, OnBoth, OnSecond, OnFirst, OnFirstRead, OnFirstText, OfFirst}
 use Rattle.run_certs.specs.Upgrade.{upgrade_answer, OnUpgrade, OfUpgraded}
 use Rattle.run_sweeps.specs.Sweep.{sweep_answer, OnSweep, OfSwept}
 use Rattle.run_sweeps.specs.SweepSolve.{solves_answer, sweep_asked_of, OnScaled, OnSweepSolve}
 use Rattle.sweep_solver.specs.declared.swept.Swept.{Swept}
 use Rattle.sweep_solver.specs.declared.asked.SweepAsked.{SweepAsked}
 use Rattle.run_certs.specs.WhatIf.{scripted_answer, OnScript, OnCertified, OnCertificate}
-use Rattle.mcf_cli.specs.Run.{file_at, OfCommand, OfRequest, IsAnswer, RunEnds}
+use Rattle.mcf_cli.specs.Run.{file_at, file_if, OfCommand, OfRequest, IsAnswer, RunEnds}
 use Rattle.run_laws.specs.Started.{FailsAtOne, Starts, StartsItsFiles, files_in}
 use Rattle.mcf_words.proofs.Counted.{names_count}
 use Rattle.run_laws.proofs.Named.{files_of, names_are}
@@ -191,6 +195,24 @@ certified_went rows script (certs.Valid net proof) old new answer of =
     file_went MAX_SCRIPT_BYTES kinds.Script script [] (λ text. Ends (OnScript rows net proof text)) old new answer
     (λ text on. ends_went (OnScript rows net proof text) (with_file old script) new answer (λ s. same_calm answer (scripted_answer s.0) s.2 (scripted_low s.0)) on) of
 
+best_calm : (rows : NetRows) (net : ScaledNet) (first : Proof) (others : List Proof) (answer : Answer) → WritesBest rows net first others answer → IsCalm answer
+best_calm rows net first others answer (best, is, same) = same_calm answer (best_answer rows net best) same (verdict_low best.closed)
+
+both_calm : (rows : NetRows) (net : ScaledNet) (first : Proof) (second : Second) (answer : Answer) → OnBoth rows net first second answer → IsCalm answer
+both_calm rows net first (seconds.Refused r) answer same = same_calm answer (answer_of (outcomes.SecondRefused r)) same (omega arith)
+both_calm rows net first (seconds.Invalid fault) answer same = same_calm answer (answer_of (outcomes.SecondInvalid fault)) same (omega arith)
+both_calm rows net first (seconds.Valid proof) answer writes = best_calm rows net first (proof ∷ []) answer writes
+
+first_went : (rows : NetRows) (second : Option (List ℕ)) (net : ScaledNet) (first : Proof) (old new : ShelfView) (answer : Answer) → OnFirst rows second net first old new answer → Went (option_to_list second) old new answer
+first_went rows None net first old new answer of = ends_went (WritesBest rows net first []) old new answer (λ w. best_calm rows net first [] answer w) of
+first_went rows (Some name) net first old new answer of =
+    file_went MAX_CERT_BYTES kinds.Second name [] (λ text. Ends (OnSecond rows net first text)) old new answer
+    (λ text on. ends_went (OnSecond rows net first text) (with_file old name) new answer (λ s. both_calm rows net first s.0 answer s.2) on) of
+
+read_went : (rows : NetRows) (second : Option (List ℕ)) (certified : Certified) (old new : ShelfView) (answer : Answer) → OnFirstRead rows second certified old new answer → Went (option_to_list second) old new answer
+read_went rows second (certs.Said judged) old new answer (told, same) = stays (option_to_list second) old new answer (same_calm answer (answer_of (outcomes.Judged judged)) told (judged_low judged)) same
+read_went rows second (certs.Valid net first) old new answer of = first_went rows second net first old new answer of
+
 command_went : (command : Command) (request : Request) (old new : ShelfView) (answer : Answer) → OfCommand command request old new answer → Went (files_of command request) old new answer
 command_went commands.Solve request old new answer of =
     net_went (file_at request 0) [] (λ rows. Ends (SolvesRows request rows)) old new answer
@@ -210,6 +232,13 @@ command_went commands.Upgrade request old new answer of =
     net_went first (cert ∷ []) (λ rows. OfUpgraded rows cert) old new answer
     (λ rows on. file_went MAX_CERT_BYTES kinds.Certificate cert [] (λ text. Ends (OnUpgrade rows text)) (with_file old first) new answer
     (λ text last. ends_went (OnUpgrade rows text) (with_file (with_file old first) cert) new answer (λ u. same_calm answer (upgrade_answer rows u.0) u.2 (upgrade_low rows u.0)) last) on) of
+command_went commands.Tighten request old new answer of =
+    let first = file_at request 0 in
+    let cert = file_at request 1 in
+    let second = file_if request 2 in
+    net_went first (cert ∷ option_to_list second) (λ rows. OfFirst rows cert second) old new answer
+    (λ rows on. file_went MAX_CERT_BYTES kinds.Certificate cert (option_to_list second) (λ text. OrMemory (OnFirstText rows second text)) (with_file old first) new answer
+    (λ text last. or_went (option_to_list second) (OnFirstText rows second text) (with_file (with_file old first) cert) new answer (λ c. read_went rows second c.0 (with_file (with_file old first) cert) new answer c.2) last) on) of
 command_went commands.Sweep request old new answer of =
     let first = file_at request 0 in
     let cert = file_at request 1 in

@@ -1,5 +1,5 @@
 -- When the words of a run are in the grammar, and each file that it reads is accepted.
-use Rattle.std.specs.Prelude.{◌≡◌, ℕ, List, length, Some, Ok}
+use Rattle.std.specs.Prelude.{◌≡◌, ℕ, List, length, Option, Some, None, Ok}
 use Rattle.mcf_limits.specs.declared.TheConstants.{MAX_NET_BYTES, MAX_CERT_BYTES, MAX_SCRIPT_BYTES}
 use Rattle.mcf_base.specs.Shelf.{Holding}
 use Rattle.text_lines.specs.Lines.{lines_of}
@@ -19,11 +19,11 @@ use Rattle.sweep_solver.specs.Asked.{IsSweepTooMuch}
 use Rattle.script.specs.declared.step.Step.{Step}
 use Rattle.script.specs.Reading.{script_of}
 use Rattle.mcf_words.specs.declared.request.Command.{Command}
-use Rattle.mcf_words.specs.declared.request.Command.TheVariants.{Solve, Check, WhatIf, Upgrade, Sweep, SweepSolve, Print, Gen, Trial}
+use Rattle.mcf_words.specs.declared.request.Command.TheVariants.{Solve, Check, WhatIf, Upgrade, Tighten, Sweep, SweepSolve, Print, Gen, Trial}
 use Rattle.mcf_words.specs.declared.request.Request.{Request}
 use Rattle.mcf_words.specs.Request.{request_of}
 use Rattle.mcf_base.specs.Reading.{IsText}
-use Rattle.mcf_cli.specs.Run.{file_at}
+use Rattle.mcf_cli.specs.Run.{file_at, file_if}
 use Rattle.run_solves.specs.Solve.{asked_of}
 use Rattle.run_solves.specs.Drawn.{net_drawn}
 
@@ -94,6 +94,18 @@ AcceptsWhatIf files request =
     × (net : ScaledNet) × (proof : Proof) × IsPaperFile files (file_at request 1) rows net (Full proof)
     × (IsValid net.net proof → IsScriptFile files (file_at request 2) rows net)
 
+-- there is no second file, or it is a certificate for that network in units, and so under the same options
+abbrev pub IsSecondFile : Holding → Option (List ℕ) → NetRows → ScaledNet → Type 0
+IsSecondFile files None rows net = Unit {0}
+IsSecondFile files (Some name) rows net = (proof : Proof) × IsPaperFile files name rows net (Full proof)
+
+-- a network, a certificate for it, and, where that is valid, so that a second one is read, a second one for the same
+abbrev pub AcceptsTighten : Holding → Request → Type 0
+AcceptsTighten files request =
+    (rows : NetRows) × IsNetFile files (file_at request 0) rows
+    × (net : ScaledNet) × (proof : Proof) × IsPaperFile files (file_at request 1) rows net (Full proof)
+    × (IsValid net.net proof → IsSecondFile files (file_if request 2) rows net)
+
 -- no file is read; the work that is asked on the network that is drawn is within its limit
 abbrev pub AcceptsTrial : Request → Type 0
 AcceptsTrial request = (n : ℕ) → ¬ (IsTooMuch (net_drawn request).net (asked_of request) n)
@@ -104,6 +116,7 @@ Accepts Solve files request = AcceptsSolve files request
 Accepts Check files request = AcceptsCheck files request
 Accepts WhatIf files request = AcceptsWhatIf files request
 Accepts Upgrade files request = AcceptsUpgrade files request
+Accepts Tighten files request = AcceptsTighten files request
 Accepts Sweep files request = AcceptsUpgrade files request
 Accepts SweepSolve files request = AcceptsSweepSolve files request
 Accepts Print files request = AcceptsPrint files request

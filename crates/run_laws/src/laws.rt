@@ -2,6 +2,7 @@
 
 ghost use Rattle.run_laws.specs.Checked.{SolvedRunsCheck, UpgradedRunsCheck, UpgradedRunsKeep};
 ghost use Rattle.run_laws.specs.Swept.{SweptRunsAreBounds};
+ghost use Rattle.run_laws.specs.Tightened.{TightenedRunsAreBest, TightenedRunsCheck, TightenedRunsStay};
 ghost use Rattle.run_laws.specs.Laws.{AcceptedRunsAreWhole, OnlyAcceptedRunsAre, RunsStartTheirFiles};
 
 use cert_inverse::{networks_are_citable, texts_read_exactly, valid_texts_are_judged_valid};
@@ -56,4 +57,22 @@ pub fn upgraded_runs_check()
 /// lower fraction is that of a feasible routing, and its upper one bounds every feasible routing.
 pub fn swept_runs_are_bounds()
     ensures { SweptRunsAreBounds }
+{}
+
+/// What a run of `tighten` wrote is the best certificate that those it read give, in form 2, with status 0 where it is closed and
+/// 1 where it is open: it is valid, its lower fraction is not below and its upper one not above that of any of them. Else it is
+/// the first condition that one of them fails.
+pub fn tightened_runs_are_best()
+    ensures { TightenedRunsAreBest }
+{}
+
+/// Such a certificate is called `valid` by a run of `check` on the same network, with its verdict and fractions and status 0,
+/// unless something fails, memory is wanting, or the text is over the limit of certificate texts.
+pub fn tightened_runs_check()
+    ensures { TightenedRunsCheck }
+{}
+
+/// A run of `tighten` on that network and such a certificate alone writes it again byte for byte, with the same status.
+pub fn tightened_runs_stay()
+    ensures { TightenedRunsStay }
 {}

@@ -5,5 +5,6 @@ mod laws;
 
 pub use laws::{
     accepted_runs_are_whole, only_accepted_runs_are, runs_start_their_files, solved_runs_check,
-    swept_runs_are_bounds, upgraded_runs_check, upgraded_runs_keep_their_certificate,
+    swept_runs_are_bounds, tightened_runs_are_best, tightened_runs_check, tightened_runs_stay,
+    upgraded_runs_check, upgraded_runs_keep_their_certificate,
 };

@@ -14,6 +14,8 @@ mod sweep_solves;
 #[cfg(test)]
 mod sweeps;
 #[cfg(test)]
+mod tightens;
+#[cfg(test)]
 mod upgrades;
 #[cfg(test)]
 mod usages;

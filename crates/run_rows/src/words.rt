@@ -56,7 +56,7 @@ fn options(rt: HostRuntime) -> Result<(), Fail> {
     assert!(rt; request.command == Command::Trial);
     assert!(rt; request.numbers == [0, 512, 4096, 32768]);
     assert!(rt; request.phases == Some(7));
-    assert!(rt; request.workers == 16);
+    assert!(rt; request.workers == Some(16));
     assert!(rt; request.step == 8);
     assert!(rt; request.gap == 1);
     Ok(())

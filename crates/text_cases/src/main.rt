@@ -1,20 +1,23 @@
-//! Reads texts of networks, numbers, certificates and scripts, and writes what they say.
+//! Reads texts of networks, numbers, certificates, scripts and lists, and writes what they say.
 //!
 //! Words, in any number:
 //! - `rows FILE`: the rows of a network text, or its refusal; `cuts FILE`: the same for each cut of it;
 //! - `nested N`: a network text with a skipped section of N nested groups; `time FILE`: how long reading takes;
 //! - `number WORD`, `units DECIMALS:WORD`: a number in millionths, and in units;
 //! - `script NET CERT SCRIPT`: what a script shows of a certificate;
+//! - `list NET LIST`: the matrices of a list, or its refusal; `listtime NET LIST`: how long reading it takes;
 //! - `LINKS-MODULES FILE`, as `undirected-largest net`: the network of a text in units.
 #![tactic(auto)]
 
 mod files;
+mod lists;
 mod rows;
 mod scripts;
 mod texts;
 mod units;
 
 use anyhow::{Context, Result};
+use lists::{tell_list, tell_list_time};
 use rows::{tell_cuts, tell_nested, tell_rows, tell_time};
 use scripts::tell_script;
 use std::env;
@@ -40,6 +43,14 @@ fn main(rt: HostRuntime) -> Result<()> {
                 let cert = args.next().context("CERT")?;
                 let script = args.next().context("SCRIPT")?;
                 tell_script(&rt, what.as_str(), cert.as_str(), script.as_str())?;
+            }
+            "list" => {
+                let list = args.next().context("LIST")?;
+                tell_list(&rt, what.as_str(), list.as_str())?;
+            }
+            "listtime" => {
+                let list = args.next().context("LIST")?;
+                tell_list_time(&rt, what.as_str(), list.as_str())?;
             }
             options => tell_net(&rt, options, what.as_str())?,
         }

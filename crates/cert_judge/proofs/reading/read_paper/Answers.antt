@@ -34,7 +34,7 @@ returns-in-Ok-read_rest-clause-own c =
     let modes = says_modes rows c.in-Ok.opened.head c.in-Ok-scale.net c.in-Ok-scale.ensures in
     let few : c.args.rows.now.skipped ≤ MAX_COUNT = search rules in
     let network : IsNetwork c.in-Ok-scale.net.net = subst IsNetwork c.net-2.ensures.value c.cells-cells.ensures.net in
-    paper_of rows (options_of c.in-Ok.opened.head) c.in-Ok-scale.net c.args.text.now c.in-Ok-read_rest.paper c.requires.rows c.in-Ok-scale.ensures c.net-2.ensures.facts network few
+    paper_of rows (options_of c.in-Ok.opened.head) c.in-Ok-scale.net c.args.text.now c.in-Ok-read_rest.paper c.requires.rows c.in-Ok-scale.ensures network few
     (c.in-Ok-read_rest.ensures c.args.known lines (sym c.in-Ok.ensures.exact) modes)
 
 pub returns-in-Err-Refused-read_rest-clause-value : goal.returns-in-Err-Refused-read_rest-clause-value

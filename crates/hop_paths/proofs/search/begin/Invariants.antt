@@ -1,8 +1,10 @@
-use Rattle.std.proofs.Common.{◌≡◌, ℕ, ◌+◌, ◌<◌, get_or}
+use Rattle.std.proofs.Common.{◌≡◌, ℕ, ◌+◌, ◌<◌, None, get_or}
+use Rattle.hop_paths.specs.Searching.{step_at, IsSameBelow}
 use Rattle.hop_paths.proofs.search.begin.Given as goal
 
 abbrev pub invariant-loop-v : goal.invariant-loop-v
 invariant-loop-v l = record {
-  same : (v : ℕ) → v < l.v → get_or l.dist (l.base + l.nodes + v) 0 ≡ get_or l.fn.dist (l.base + v) 0;
-  front : (k : ℕ) → k < l.base + l.nodes → get_or l.dist k 0 ≡ get_or l.fn.dist k 0;
+  same : (v : ℕ) → v < l.v → get_or l.dist (l.base + l.nodes + v) 0 ≡ get_or l.dist (l.base + v) 0;
+  none : (v : ℕ) → v < l.v → step_at l.steps (l.base + l.nodes + v) ≡ None;
+  front : IsSameBelow (l.base + l.nodes) l.fn.dist l.dist l.fn.steps l.steps;
 }

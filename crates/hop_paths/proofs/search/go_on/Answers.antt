@@ -16,4 +16,4 @@ relax-requires-clause-nodes c =
 pub returns-clause-done : goal.returns-clause-done
 returns-clause-done c = λ near.
     arcs-gone c.args.graph.now.cells c.args.lengths.now c.args.graph.now.nodes c.loop-arc.dist c.args.base c.args.node c.out-arcs.result.now
-    (λ k l. omega (arith, c.loop-arc.invariant.done k (omega arith), c.loop-arc.invariant.front (c.args.base + c.args.node) (omega arith))) c.out-arcs.ensures.each
+    (λ k l. omega (arith, c.loop-arc.invariant.done k (omega arith), c.loop-arc.invariant.front.dist (c.args.base + c.args.node) (omega arith))) c.out-arcs.ensures.each

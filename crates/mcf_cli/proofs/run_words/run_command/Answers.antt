@@ -1,8 +1,9 @@
 use Rattle.run_certs.specs.Check.{OfCheck}
+use Rattle.run_certs.specs.Tighten.{OfTighten}
 use Rattle.run_certs.specs.Upgrade.{OfUpgrade}
 use Rattle.run_certs.specs.WhatIf.{OfWhatIf}
 use Rattle.run_sweeps.specs.Sweep.{OfSweep}
-use Rattle.mcf_cli.specs.Run.{file_at}
+use Rattle.mcf_cli.specs.Run.{file_at, file_if}
 use Rattle.mcf_cli.proofs.run_words.run_command.Goals as goal
 
 pub returns-in-Check : goal.returns-in-Check
@@ -18,6 +19,13 @@ returns-in-Upgrade g c =
     let of : OfUpgrade (file_at c.args.request.now 0) (file_at c.args.request.now 1) (g.F.Shelf.seen c.args.shelf.now) (g.F.Shelf.seen c.upgrade.new.shelf) told.0 =
     rw (c.name-in-Upgrade.ensures, c.name-in-Upgrade-2.ensures) at told.1 in
     rw c.in-Upgrade.is (told.0, of, told.2)
+
+pub returns-in-Tighten : goal.returns-in-Tighten
+returns-in-Tighten g c =
+    let told = c.tighten.ensures in
+    let of : OfTighten (file_at c.args.request.now 0) (file_at c.args.request.now 1) (file_if c.args.request.now 2) (g.F.Shelf.seen c.args.shelf.now) (g.F.Shelf.seen c.tighten.new.shelf) told.0 =
+    rw (c.name-in-Tighten.ensures, c.name-in-Tighten-2.ensures, c.get.ensures) at told.1 in
+    rw c.in-Tighten.is (told.0, of, told.2)
 
 pub returns-in-Sweep : goal.returns-in-Sweep
 returns-in-Sweep g c =

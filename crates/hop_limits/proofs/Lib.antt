@@ -1,0 +1,4 @@
+pub mod Capped
+pub mod Cutting
+pub mod KeptDemands
+pub mod FarLimits
