@@ -4,6 +4,8 @@
 
 mod gate_cells;
 mod lengths;
+mod prices;
 
 pub use gate_cells::gates;
 pub use lengths::{Gated, gated_lengths};
+pub use prices::least_price;
