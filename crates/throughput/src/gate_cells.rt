@@ -1,6 +1,6 @@
 //! The gates of commodities.
 
-ghost use Rattle.std.specs.Prelude.{◌≡◌, ◌↔◌, ℕ, ◌<◌, List, All, length, OnOk, IfOk, IsTrue, []};
+ghost use Rattle.std.specs.Prelude.{◌≡◌, ◌↔◌, ℕ, ◌<◌, ◌≤◌, List, All, length, OnOk, IfOk, IsTrue, []};
 ghost use Rattle.flow_model.specs.declared.net.Cell.{Cell as CellIs};
 ghost use Rattle.flow_model.specs.Least.{IsJoined};
 ghost use Rattle.dijkstra_paths.specs.Reach.{AreRows};
@@ -9,6 +9,7 @@ ghost use Rattle.throughput.specs.Gating.{IsGate};
 
 use dijkstra_paths::Graph;
 use flow_model::{Cell, Commodity, Net};
+use mcf_limits::MAX_UNITS;
 use std::alloc::{AllocError, Global};
 
 // A row for each node, none of them filled.
@@ -46,8 +47,9 @@ fn is_joined(
 
 // The gate of a commodity: of its amount where it has a walk, else of nothing.
 fn gate_of(commodity: Commodity, joined: bool) -> Cell
-    ensures { (cells : List CellIs) → IsTrue joined ↔ IsJoined cells commodity.from commodity.to
+    ensures value { (cells : List CellIs) → IsTrue joined ↔ IsJoined cells commodity.from commodity.to
         → IsGate cells commodity result }
+    ensures limit { result.cap ≤ commodity.amount }
 {
     Cell {
         tail: commodity.from,
@@ -61,7 +63,8 @@ fn gate_of(commodity: Commodity, joined: bool) -> Cell
 /// is the one that the graph was made from.
 pub fn gates(alloc: Global, net: &Net, graph: &Graph) -> Result<Vec<Cell>, AllocError>
     requires { graph.now ≡ net.now }
-    ensures { IfOk result (λ v. AreGates net.now v.items) }
+    ensures value { IfOk result (λ v. AreGates net.now v.items) }
+    ensures caps { IfOk result (λ v. All (λ cell. cell.cap ≤ MAX_UNITS) v.items) }
 {
     let mut rows = no_rows(alloc, net.nodes())?;
     let mut gates = Vec::with_capacity(alloc, net.commodities().len())?;
