@@ -92,24 +92,34 @@ fn fault(verdict: Verdict) -> Option<Fault> {
     }
 }
 
+// The condition that fails first of such a certificate, if one does.
+fn judged(
+    alloc: Global,
+    weight: u64,
+    threshold: u64,
+    gap: u64,
+    closed: bool,
+) -> Result<Option<Fault>, AllocError>
+    requires weight { weight ≤ MAX_LENGTH }
+    requires threshold { threshold ≤ MAX_LENGTH }
+    requires gap { gap ≤ MAX_GAP }
+{
+    let net = network(alloc)?;
+    let p = proof(alloc, weight, threshold, gap, closed)?;
+    let verdict = check_part(alloc, &net, &p)?;
+    Ok(fault(verdict))
+}
+
+const RIGHT: u64 = 4728779608739020;
+
 #[test]
 fn certificates_of_one_link(rt: HostRuntime) -> Result<(), Fail> {
     let alloc = rt.alloc();
-    let net = network(alloc)?;
-    let open = proof(alloc, 4, 4728779608739020, 50000, false)?;
-    assert_eq!(rt; fault(check_part(alloc, &net, &open)?), None);
-    let closed = proof(alloc, 4, 4728779608739020, 100000, true)?;
-    assert_eq!(rt; fault(check_part(alloc, &net, &closed)?), None);
-    let wrongly_closed = proof(alloc, 4, 4728779608739020, 50000, true)?;
-    assert_eq!(rt;
-        fault(check_part(alloc, &net, &wrongly_closed)?),
-        Some(Fault::C10)
-    );
-    let without = proof(alloc, 4, 0, 50000, false)?;
-    assert_eq!(rt; fault(check_part(alloc, &net, &without)?), Some(Fault::C8));
-    let heavy = proof(alloc, 5, 4728779608739020, 50000, false)?;
-    assert_eq!(rt; fault(check_part(alloc, &net, &heavy)?), Some(Fault::C2));
-    let light = proof(alloc, 3, 4728779608739020, 50000, false)?;
-    assert_eq!(rt; fault(check_part(alloc, &net, &light)?), Some(Fault::C9));
+    assert_eq!(rt; judged(alloc, 4, RIGHT, 50000, false)?, None);
+    assert_eq!(rt; judged(alloc, 4, RIGHT, 100000, true)?, None);
+    assert_eq!(rt; judged(alloc, 4, RIGHT, 50000, true)?, Some(Fault::C10));
+    assert_eq!(rt; judged(alloc, 4, 0, 50000, false)?, Some(Fault::C8));
+    assert_eq!(rt; judged(alloc, 5, RIGHT, 50000, false)?, Some(Fault::C2));
+    assert_eq!(rt; judged(alloc, 3, RIGHT, 50000, false)?, Some(Fault::C9));
     Ok(())
 }

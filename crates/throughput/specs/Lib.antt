@@ -1,0 +1,5 @@
+pub mod Gates
+pub mod Gating
+pub mod Asked
+pub mod Run
+pub mod Prices
