@@ -113,9 +113,12 @@ pub fn gated_lengths(
 )
     requires setting { IsSetting setting.now }
     requires caps { All (λ cell. cell.cap ≤ MAX_UNITS) gates.now }
-    requires loads { (length loads.now.cells.now ≡ length net.now.cells) × (length loads.now.gates.now ≡ length gates.now) }
-    requires small { All (λ x. x ≤ MAX_LENGTH) loads.now.cells.now × All (λ x. x ≤ MAX_LENGTH) loads.now.gates.now }
-    requires into { (length cells_into.old ≡ length net.now.cells) × (length gates_into.old ≡ length gates.now) }
+    requires loads { (length loads.now.cells.now ≡ length net.now.cells)
+        × (length loads.now.gates.now ≡ length gates.now) }
+    requires small { All (λ x. x ≤ MAX_LENGTH) loads.now.cells.now
+        × All (λ x. x ≤ MAX_LENGTH) loads.now.gates.now }
+    requires into { (length cells_into.old ≡ length net.now.cells)
+        × (length gates_into.old ≡ length gates.now) }
     ensures value { cells_into.new ++ gates_into.new
         ≡ lengths_of (gated net.now gates.now) setting.now (loads.now.cells.now ++ loads.now.gates.now) }
     ensures long { length cells_into.new ≡ length net.now.cells }
