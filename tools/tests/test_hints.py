@@ -471,7 +471,8 @@ def judged(case: str, status: int, wrote: str, said: str) -> int:
         return 0
     line = wrote.rstrip("\n")
     if status == 1 and not wrote.startswith("invalid"):
-        line = "some link open" if wrote.startswith("sweep ") else "verdict open"
+        opens = {"sweep": "some link open", "matrix": "some matrix open"}
+        line = opens.get(wrote.split(" ", 1)[0], "verdict open")
     assert re.fullmatch(rf"hint: {re.escape(line)}: [^\n]+ \(docs/guide\.md, part [1-8]\)\n", said), (case, line, said)
     assert USAGE not in said and "docs/formats.md tells" not in said, (case, said)
     return 1
