@@ -460,19 +460,19 @@ def test_cases_through_the_starter(program: Program, root: Path, tmp_path: Path,
         assert str(ran.returncode) in (case / "status").read_text().split(), case
         if (case / "stdout").exists():
             assert wrote == (case / "stdout").read_bytes(), case
-        hinted += judged(case.name, ran.returncode, wrote.decode("latin-1"), ran.stderr.decode())
+        hinted += judged(case, ran.returncode, wrote.decode("latin-1"), ran.stderr.decode())
     assert hinted > 100
 
 
-def judged(case: str, status: int, wrote: str, said: str) -> int:
-    """Whether a hint was given, which has to be right."""
+def judged(case: Path, status: int, wrote: str, said: str) -> int:
+    """Whether a hint was given, which has to be right. A case lies in the folder of its command."""
     if status not in (1, 2, 3, 4):
         assert said == "", case
         return 0
     line = wrote.rstrip("\n")
     if status == 1 and not wrote.startswith("invalid"):
-        opens = {"sweep": "some link open", "matrix": "some matrix open"}
-        line = opens.get(wrote.split(" ", 1)[0], "verdict open")
+        opens = {"batch": "some matrix open", "sweep": "some link open", "tighten": "best open"}
+        line = opens.get(case.parent.name, "verdict open")
     assert re.fullmatch(rf"hint: {re.escape(line)}: [^\n]+ \(docs/guide\.md, part [1-8]\)\n", said), (case, line, said)
     assert USAGE not in said and "docs/formats.md tells" not in said, (case, said)
     return 1
