@@ -471,7 +471,7 @@ def judged(case: Path, status: int, wrote: str, said: str) -> int:
         return 0
     line = wrote.rstrip("\n")
     if status == 1 and not wrote.startswith("invalid"):
-        opens = {"batch": "some matrix open", "sweep": "some link open", "tighten": "best open"}
+        opens = {"batch": "some matrix open", "sweepsolve": "some link open", "tighten": "best open"}
         line = opens.get(case.parent.name, "verdict open")
     assert re.fullmatch(rf"hint: {re.escape(line)}: [^\n]+ \(docs/guide\.md, part [1-8]\)\n", said), (case, line, said)
     assert USAGE not in said and "docs/formats.md tells" not in said, (case, said)
