@@ -1,0 +1,5 @@
+pub mod Heads
+pub mod HopsRead
+pub mod HopsText
+pub mod PartRead
+pub mod PartText
