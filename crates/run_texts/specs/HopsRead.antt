@@ -8,13 +8,14 @@ use Rattle.cert_lines.specs.declared.refusal.CertKind.TheVariants.{Syntax, Unkno
 use Rattle.cert_lines.specs.declared.refusal.CertRefusal.{CertRefusal}
 use Rattle.cert_lines.specs.Forms.{◌>>=◌, or_fault, row_behind}
 use Rattle.cert_lines.specs.Numbers.{number_within}
-use Rattle.cert_lines.specs.Rows.{path_row, potentials_from}
+use Rattle.cert_lines.specs.Rows.{potentials_from}
 use Rattle.cert_text.specs.Reading.{Place, rows_at, closing}
-use Rattle.cert_text.specs.Papers.{opening_at, scale_at, values_at, dual_at}
+use Rattle.cert_text.specs.Papers.{opening_at, scale_at, values_at}
 use Rattle.cert_inverse.specs.Inverse.{IsCitable}
 use Rattle.hop_check.specs.LayerRows.{Layer}
 use Rattle.hop_check.specs.declared.hop_proof.HopProof.{HopProof}
 use Rattle.run_texts.specs.Heads.{header_at}
+use Rattle.run_texts.specs.Rows.{flows_at}
 use Rattle.run_texts.specs.HopsText.{hops_text, FitsHops}
 
 -- the parts of a row behind two words, where that many words follow
@@ -36,18 +37,17 @@ unfoldable pub hops_from : Sheet → (Bool × ℕ) × Place → Result HopProof 
 hops_from sheet opening = do
   scale ← scale_at opening.1
   values ← values_at scale.1
-  paths ← rows_at (codes "path") (path_row sheet) values.1
-  dual ← dual_at sheet paths.1
-  layers ← rows_at (codes "layer") (layer_row sheet) dual.1
+  flows ← flows_at sheet values.1
+  layers ← rows_at (codes "layer") (layer_row sheet) flows.1
   last ← closing layers.1
   Ok (record {
     proof = record {
       closed = opening.0.0;
       gap = opening.0.1;
-      routing = record { phases = scale.0.0; scale_cap = scale.0.1.0; scale_load = scale.0.1.1; paths = paths.0 };
+      routing = record { phases = scale.0.0; scale_cap = scale.0.1.0; scale_load = scale.0.1.1; paths = flows.0.0 };
       lower = values.0.0;
       upper = values.0.1;
-      dual = dual.0;
+      dual = flows.0.1;
     };
     layers = layers.0;
   })

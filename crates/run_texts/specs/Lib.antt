@@ -3,3 +3,4 @@ pub mod HopsRead
 pub mod HopsText
 pub mod PartRead
 pub mod PartText
+pub mod Rows

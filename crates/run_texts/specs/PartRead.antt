@@ -11,12 +11,12 @@ use Rattle.cert_lines.specs.declared.refusal.CertRefusal.{CertRefusal}
 use Rattle.cert_lines.specs.Forms.{◌>>=◌, or_fault, one_behind}
 use Rattle.cert_lines.specs.Numbers.{number_within}
 use Rattle.cert_lines.specs.HeadLines.{value_line}
-use Rattle.cert_lines.specs.Rows.{path_row}
-use Rattle.cert_text.specs.Reading.{Place, next_line, rows_at, closing}
-use Rattle.cert_text.specs.Papers.{opening_at, scale_at, dual_at}
+use Rattle.cert_text.specs.Reading.{Place, next_line, closing}
+use Rattle.cert_text.specs.Papers.{opening_at, scale_at}
 use Rattle.cert_inverse.specs.Inverse.{IsCitable}
 use Rattle.part_check.specs.declared.part_proof.PartProof.{PartProof}
 use Rattle.run_texts.specs.Heads.{header_at}
+use Rattle.run_texts.specs.Rows.{flows_at}
 use Rattle.run_texts.specs.PartText.{part_text, FitsPart}
 
 -- `threshold` and a number
@@ -38,16 +38,15 @@ unfoldable pub part_from : Sheet → (Bool × ℕ) × Place → Result PartProof
 part_from sheet opening = do
   scale ← scale_at opening.1
   totals ← totals_at scale.1
-  paths ← rows_at (codes "path") (path_row sheet) totals.1
-  dual ← dual_at sheet paths.1
-  last ← closing dual.1
+  flows ← flows_at sheet totals.1
+  last ← closing flows.1
   Ok (record {
     closed = opening.0.0;
     gap = opening.0.1;
-    routing = record { phases = scale.0.0; scale_cap = scale.0.1.0; scale_load = scale.0.1.1; paths = paths.0 };
+    routing = record { phases = scale.0.0; scale_cap = scale.0.1.0; scale_load = scale.0.1.1; paths = flows.0.0 };
     lower = totals.0.0;
     upper = totals.0.1;
-    bound = record { threshold = totals.0.2; dual = dual.0 };
+    bound = record { threshold = totals.0.2; dual = flows.0.1 };
   })
 
 -- the certificate that the lines spell, or the first fault
