@@ -161,7 +161,8 @@ fn next_modules(place: Place<'_>) -> Result<(ModuleMode, Place<'_>), CertRefusal
 #[tactic(auto, unfolding(cert_text::specs::Whole::modes_behind))]
 fn modes_behind(place: Place<'_>) -> Result<(NetOptions, Place<'_>), CertRefusal>
     requires { HasRoom place }
-    ensures { seen (λ x. (x.0, place_view x.1)) result ≡ modes_behind Second (place_view place.entry) }
+    ensures { seen (λ x. (x.0, place_view x.1)) result
+        ≡ modes_behind Second (place_view place.entry) }
 {
     let (links, place) = match next_links(place) {
         Ok(read) => read,

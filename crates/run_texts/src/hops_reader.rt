@@ -1,10 +1,11 @@
 //! The text of a certificate with hop limits, read.
 
-ghost use Rattle.std.specs.Prelude.{◌≡◌, ◌≤◌, length};
+ghost use Rattle.std.specs.Prelude.{◌≡◌, ◌≤◌, IfOk, length};
 ghost use Rattle.text_lines.specs.Lines.{lines_of};
 ghost use Rattle.cert_text.specs.Views.{place_view, HasRoom};
 ghost use Rattle.cert_text.specs.Reading.{Gives};
 ghost use Rattle.run_texts.specs.HopsRead.{hops_from, hops_in};
+ghost use Rattle.run_texts.specs.HopsText.{FitsHops};
 
 use crate::heads::{HOPS, header_at};
 use crate::layer_rows::layers_of;
@@ -65,13 +66,9 @@ fn hops_from(
     Ok(HopProof { proof, layers })
 }
 
-/// The certificate with hop limits that the text spells in the words of the names, or the first line with a fault.
+// What the text spells, or the first line with a fault.
 #[tactic(auto, unfolding(crate::specs::HopsRead::hops_in))]
-pub fn read_hops_text(
-    alloc: Global,
-    names: &Names<'_, '_>,
-    text: &[u8],
-) -> Result<HopProof, CertEnd>
+fn read_hops(alloc: Global, names: &Names<'_, '_>, text: &[u8]) -> Result<HopProof, CertEnd>
     requires { length text.now ≤ MAX_CERT_BYTES }
     ensures { Gives (λ x. x) result (hops_in names.now (lines_of text.now)) }
 {
@@ -84,4 +81,18 @@ pub fn read_hops_text(
         Err(end) => return Err(end),
     };
     hops_from(alloc, names, opening, place)
+}
+
+/// The certificate with hop limits that the text spells in the words of the names, or the first line with a fault.
+/// It keeps the limits of a text.
+pub fn read_hops_text(
+    alloc: Global,
+    names: &Names<'_, '_>,
+    text: &[u8],
+) -> Result<HopProof, CertEnd>
+    requires { length text.now ≤ MAX_CERT_BYTES }
+    ensures exact { Gives (λ x. x) result (hops_in names.now (lines_of text.now)) }
+    ensures fits { IfOk result (λ p. FitsHops names.now p) }
+{
+    read_hops(alloc, names, text)
 }

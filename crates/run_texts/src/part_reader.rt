@@ -5,6 +5,7 @@ ghost use Rattle.text_lines.specs.Lines.{words_of, lines_of};
 ghost use Rattle.cert_text.specs.Views.{place_view, HasRoom};
 ghost use Rattle.cert_text.specs.Reading.{Gives, next_line};
 ghost use Rattle.run_texts.specs.PartRead.{threshold_line, totals_at, part_from, part_in};
+ghost use Rattle.run_texts.specs.PartText.{FitsPart};
 
 use crate::heads::{THROUGHPUT, header_at};
 use crate::rows::flows_of;
@@ -120,13 +121,9 @@ fn part_from(
     })
 }
 
-/// The certificate of a total that the text spells in the words of the names, or the first line with a fault.
+// What the text spells, or the first line with a fault.
 #[tactic(auto, unfolding(crate::specs::PartRead::part_in))]
-pub fn read_part_text(
-    alloc: Global,
-    names: &Names<'_, '_>,
-    text: &[u8],
-) -> Result<PartProof, CertEnd>
+fn read_part(alloc: Global, names: &Names<'_, '_>, text: &[u8]) -> Result<PartProof, CertEnd>
     requires { length text.now ≤ MAX_CERT_BYTES }
     ensures { Gives (λ x. x) result (part_in names.now (lines_of text.now)) }
 {
@@ -139,4 +136,18 @@ pub fn read_part_text(
         Err(end) => return Err(end),
     };
     part_from(alloc, names, opening, place)
+}
+
+/// The certificate of a total that the text spells in the words of the names, or the first line with a fault.
+/// It keeps the limits of a text.
+pub fn read_part_text(
+    alloc: Global,
+    names: &Names<'_, '_>,
+    text: &[u8],
+) -> Result<PartProof, CertEnd>
+    requires { length text.now ≤ MAX_CERT_BYTES }
+    ensures exact { Gives (λ x. x) result (part_in names.now (lines_of text.now)) }
+    ensures fits { IfOk result (λ p. FitsPart names.now p) }
+{
+    read_part(alloc, names, text)
 }
