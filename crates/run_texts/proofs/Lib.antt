@@ -1,5 +1,6 @@
 pub mod CleanLines
 pub mod Exactly
+pub mod Fitting
 pub mod HopsTakes
 pub mod LayerLaws
 pub mod PartTakes

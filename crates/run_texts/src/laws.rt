@@ -2,6 +2,7 @@
 
 ghost use Rattle.run_texts.specs.HopsRead.{HopsAreRead, HopTextsAreUnique};
 ghost use Rattle.run_texts.specs.PartRead.{PartsAreRead, PartTextsAreUnique};
+ghost use Rattle.run_texts.specs.OfNetwork.{HopsAreOfTheNetwork, PartsAreOfTheNetwork};
 
 /// A text is read as a certificate with hop limits exactly where it is that certificate's text, and the certificate is
 /// within the limits. So what is written is read back as the same, and what is read was written so.
@@ -23,4 +24,14 @@ pub fn parts_are_read()
 /// Two certificates of a total that have one text are equal.
 pub fn part_texts_are_unique()
     ensures { PartTextsAreUnique }
+{}
+
+/// A certificate with hop limits that fits the text of a network is of that network, as checking it needs.
+pub fn hops_are_of_the_network()
+    ensures { HopsAreOfTheNetwork }
+{}
+
+/// A certificate of a total that fits the text of a network is of that network, as checking it needs.
+pub fn parts_are_of_the_network()
+    ensures { PartsAreOfTheNetwork }
 {}
