@@ -1,0 +1,7 @@
+pub mod Heads
+pub mod HopsRead
+pub mod HopsText
+pub mod OfNetwork
+pub mod PartRead
+pub mod PartText
+pub mod Rows
