@@ -162,7 +162,7 @@ pub fn fill_all<R: Threads + Sync>(
         fill_rows(alloc, graph, lengths, rows);
         return;
     }
-    thread_chain::for_each_chunk_mut(
+    mcf_base::for_each_chunk_mut(
         rt,
         rows,
         rows.len().div_ceil(threads),

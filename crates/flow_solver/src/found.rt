@@ -38,7 +38,7 @@ fn find_all<R: Threads + Sync>(
     ensures { (k : ℕ) → k < length places.now → IsRowFor store.now places.now k (slice_index_or rows.new k None) }
 {
     let share = rows.len().div_ceil(threads.max(1));
-    thread_chain::for_each_chunk_mut(
+    mcf_base::for_each_chunk_mut(
         rt,
         rows,
         share.max(PATHS_OF_A_START),

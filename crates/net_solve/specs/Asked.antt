@@ -1,10 +1,9 @@
 -- What is asked of a solve.
 use Rattle.std.specs.Prelude.{◌≡◌, ℕ, ◌*◌, ◌/◌, ◌<◌, ◌≤◌, min, length, nat_lt, Option, Some, None, IfSome, if◌then◌else◌}
-use Rattle.mcf_limits.specs.declared.TheConstants.{DEFAULT_PHASES, DEFAULT_WORKERS, MAX_GAP, MAX_PHASES, MAX_STEP, MAX_WORK, MAX_WORKERS}
+use Rattle.mcf_limits.specs.declared.TheConstants.{DEFAULT_PHASES, DEFAULT_WORKERS, FEW_COMMODITIES, MAX_GAP, MAX_PHASES, MAX_STEP, MAX_WORK, MAX_WORKERS}
 use Rattle.flow_model.specs.Network.{Network}
 use Rattle.solver_run.specs.declared.options.SolveOptions.{SolveOptions}
 use Rattle.net_solve.specs.declared.asked.Asked.{Asked}
-use Rattle.net_solve.specs.declared.asked.TheConstants.{FEW_COMMODITIES}
 
 -- within the limits
 pub record IsAsked (a : Asked) : Type 0 where

@@ -7,11 +7,8 @@ ghost use Rattle.solver_run.specs.Options.{AreOptions};
 ghost use Rattle.net_solve.specs.Asked.{IsAsked, default_budget, options_for, workers_of, IsTooMuch};
 
 use flow_model::Net;
-use mcf_limits::{DEFAULT_PHASES, DEFAULT_WORKERS, MAX_WORK};
+use mcf_limits::{DEFAULT_PHASES, DEFAULT_WORKERS, FEW_COMMODITIES, MAX_WORK};
 use solver_run::SolveOptions;
-
-/// With fewer commodities than this a solve takes one worker, where no number is given.
-pub const FEW_COMMODITIES: u64 = 1000;
 
 /// The gap in millionths, the phase budget if one was given, the number of workers if one was given, and the step of the
 /// lengths.

@@ -101,7 +101,7 @@ pub(crate) fn run_all<G: Gate, R: Threads + Sync>(
     let input = shared.input;
     let loads = shared.loads;
     let gate = shared.gate;
-    thread_chain::for_each_chunk_mut(
+    mcf_base::for_each_chunk_mut(
         rt,
         hands,
         1,

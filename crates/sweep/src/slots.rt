@@ -83,7 +83,7 @@ pub fn fill_all<R: Threads + Sync>(
         → IsSwept mode plan.now i (slice_index_or slots.new i None) }
 {
     let share = slots.len().div_ceil(thread_count(rt));
-    thread_chain::for_each_chunk_mut(
+    mcf_base::for_each_chunk_mut(
         rt,
         slots,
         share.max(LINKS_OF_A_START),

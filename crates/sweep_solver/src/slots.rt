@@ -57,7 +57,7 @@ pub fn fill_all<G: Gate, R: Threads + Sync>(
         → IsFilled mode net.now options.now i (slice_index_or slots.new i None) }
 {
     let share = slots.len().div_ceil(MAX_WORKERS as usize);
-    thread_chain::for_each_chunk_mut(
+    mcf_base::for_each_chunk_mut(
         rt,
         slots,
         share.max(1),

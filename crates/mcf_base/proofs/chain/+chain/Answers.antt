@@ -1,6 +1,6 @@
 use Rattle.std.specs.Fork.{AcceptsAt, ChangesAt}
-use Rattle.thread_chain.proofs.Chunks.{of_only, of_front, of_back, by_only, by_both}
-use Rattle.thread_chain.proofs.chain.+chain.Goals as goal
+use Rattle.mcf_base.proofs.Chunks.{of_only, of_front, of_back, by_only, by_both}
+use Rattle.mcf_base.proofs.chain.+chain.Goals as goal
 
 pub chain-call-requires : goal.chain-call-requires
 chain-call-requires g t c = of_only (AcceptsAt g.F.Fn c.args.work.now) c.args.base c.args.size c.args.items.now c.if-items-size.true c.requires

@@ -1,7 +1,7 @@
 use Rattle.std.proofs.Common.{◌*◌, refl, sym, subst, arith, rules}
 use Rattle.std.specs.Fork.{IsChunk}
-use Rattle.thread_chain.proofs.Chunks.{is_chunk, by_number, in_chunk}
-use Rattle.thread_chain.proofs.chain.for_each_chunk_mut.Goals as goal
+use Rattle.mcf_base.proofs.Chunks.{is_chunk, by_number, in_chunk}
+use Rattle.mcf_base.proofs.chain.for_each_chunk_mut.Goals as goal
 
 pub chain-requires-after_bounds : goal.chain-requires-after_bounds
 chain-requires-after_bounds g c κs within =

@@ -1,5 +1,5 @@
 use Rattle.std.proofs.Common.{length, ◌+◌, ◌*◌}
-use Rattle.thread_chain.proofs.chain.+chain.Given as goal
+use Rattle.mcf_base.proofs.chain.+chain.Given as goal
 
 abbrev pub decreases-chain : goal.decreases-chain
 decreases-chain g l = 3 * length l.items.now

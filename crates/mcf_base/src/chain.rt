@@ -5,7 +5,7 @@ ghost use Rattle.std.specs.Thread.{IsSync};
 ghost use denote.Param.Send.{IsSend};
 ghost use Rattle.std.specs.Fork.{AcceptsAt, ChangesAt, AcceptsChunksMut, ChangesChunks, AllInChunks};
 ghost use Rattle.std.specs.Fork.Halves.{ChangesByChunks};
-ghost use Rattle.thread_chain.specs.Chain.{AreAccepted};
+ghost use Rattle.mcf_base.specs.Chain.{AreAccepted};
 
 use std::thread;
 use std::thread::Threads;

@@ -9,7 +9,7 @@ use Rattle.std.proofs.lemmas.List.{take_all, take-append-le, drop-drop, drop_at,
 use Rattle.std.proofs.lemmas.Nat.{div-add-mod', mod-mul-add, mod_below}
 use Rattle.std.specs.Fork.{slice_chunk, IsChunk, ChangesAt, ChangesChunks, IsInChunk}
 use Rattle.std.specs.Fork.Halves.{AllChunks, ChangesByChunks}
-use Rattle.thread_chain.specs.Chain.{AreAccepted}
+use Rattle.mcf_base.specs.Chain.{AreAccepted}
 
 -- a list of one chunk is that chunk
 only : {X : Type 0} (size : ℕ) (xs : List X) → length xs ≤ size → slice_chunk xs size 0 ≡ xs
