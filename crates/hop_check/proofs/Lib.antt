@@ -1,3 +1,7 @@
+pub mod Capped
+pub mod Cutting
+pub mod KeptDemands
+pub mod FarLimits
 pub mod Sound
 pub mod Asking
 pub mod Placing

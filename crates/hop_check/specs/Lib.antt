@@ -1,3 +1,5 @@
+pub mod Limits
+pub mod Found
 pub mod LayerRows
 pub mod LayerViews
 pub mod Layers

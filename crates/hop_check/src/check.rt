@@ -14,10 +14,10 @@ ghost use Rattle.hop_check.specs.Conditions.{HopHolds, IsHopProofOf};
 ghost use Rattle.hop_check.specs.Verdicts.{CertifiesHopsIfValid};
 
 use crate::asked::layer_counts;
-use crate::hop_limits::are_within;
 use crate::hop_proof::HopProof;
 use crate::places::layer_places;
 use crate::rows::{bottom, rows_are_asked, rows_bound};
+use crate::within::are_within;
 use cert_check::{
     Fault, RouteEnd, Verdict, cells_have_lengths, check_routing, is_printed, lengths,
 };

@@ -9,17 +9,17 @@ use Rattle.sndlib_grammar.specs.Rows.{NetRows, AreNetRows}
 use Rattle.sndlib_grammar.specs.declared.refusal.NetKind.TheVariants as netkinds
 use Rattle.unit_scale.specs.declared.options.NetOptions.{NetOptions}
 use Rattle.unit_scale.specs.Scaling.{or_else as or_fault}
-use Rattle.list_grammar.specs.declared.refusal.ListRefusal.{ListRefusal}
-use Rattle.list_grammar.specs.Refusals.{BatchRefusal, InNet, InList}
-use Rattle.list_grammar.specs.Matrices.{Matrix, matrix_of}
-use Rattle.list_grammar.specs.Faults.{fine_link, in_net}
-use Rattle.list_grammar.specs.Batch.{IsBatch}
-use Rattle.list_grammar.specs.Grammar.{MatrixEntry}
-use Rattle.list_grammar.specs.declared.refusal.ListKind.TheVariants.{TooMany}
-use Rattle.list_grammar.specs.Faults.{too_many, in_list}
-use Rattle.list_grammar.proofs.Sound.{scaled, names_counted}
-use Rattle.list_read.specs.Lists.{NamedDemands, IsRead}
-use Rattle.list_read.specs.Scaled.{ReadIsScaled, scaling_fault, scaled_matrix, batch_of, unless_fault}
+use Rattle.matrix_batch.specs.declared.list_refusal.ListRefusal.{ListRefusal}
+use Rattle.matrix_batch.specs.Refusals.{BatchRefusal, InNet, InList}
+use Rattle.matrix_batch.specs.Matrices.{Matrix, matrix_of}
+use Rattle.matrix_batch.specs.Faults.{fine_link, in_net}
+use Rattle.matrix_batch.specs.Batch.{IsBatch}
+use Rattle.matrix_batch.specs.Grammar.{MatrixEntry}
+use Rattle.matrix_batch.specs.declared.list_refusal.ListKind.TheVariants.{TooMany}
+use Rattle.matrix_batch.specs.Faults.{too_many, in_list}
+use Rattle.matrix_batch.proofs.Sound.{scaled, names_counted}
+use Rattle.matrix_batch.specs.Lists.{NamedDemands, IsRead}
+use Rattle.matrix_batch.specs.Scaled.{ReadIsScaled, scaling_fault, scaled_matrix, batch_of, unless_fault}
 use Rattle.matrix_batch.specs.declared.matrix.Matrix.{Matrix as MatrixRows}
 use Rattle.matrix_batch.specs.declared.refusal.BatchEnd.{BatchEnd}
 use Rattle.matrix_batch.specs.declared.refusal.BatchEnd.TheVariants.{Net, List as OfList, Memory}

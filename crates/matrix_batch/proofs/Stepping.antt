@@ -9,10 +9,10 @@ use Rattle.unit_scale.specs.declared.refusal.RowEnd.TheVariants.{Refused}
 use Rattle.unit_scale.specs.declared.refusal.RowRefusal.{RowRefusal}
 use Rattle.unit_scale.specs.Scaling.{ScaledNet}
 use Rattle.unit_scale.specs.Sorts.{ScalesAt, scaled_at}
-use Rattle.list_read.specs.Lists.{NamedDemands}
-use Rattle.list_read.specs.Scaled.{own_rows}
-use Rattle.list_read.specs.declared.row.MatrixRows.{MatrixRows}
-use Rattle.list_read.specs.Answer.{matrix_view as read_view}
+use Rattle.matrix_batch.specs.Lists.{NamedDemands}
+use Rattle.matrix_batch.specs.Scaled.{own_rows}
+use Rattle.matrix_batch.specs.declared.row.MatrixRows.{MatrixRows}
+use Rattle.matrix_batch.specs.ListAnswer.{matrix_view as read_view}
 use Rattle.matrix_batch.specs.declared.refusal.BatchEnd.{BatchEnd}
 use Rattle.matrix_batch.specs.declared.refusal.BatchEnd.TheVariants.{Net, List as OfList, Memory}
 use Rattle.matrix_batch.specs.Scaling.{Sofar, with_refusal, behind, then_all, none_yet, scaled_one, scaled_all}

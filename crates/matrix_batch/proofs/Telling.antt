@@ -13,10 +13,10 @@ use Rattle.unit_scale.specs.declared.refusal.RowRefusal.{RowRefusal}
 use Rattle.unit_scale.specs.Sizes.{is_fine_link, is_fine_demand, is_left_out}
 use Rattle.unit_scale.specs.Scaling.{ScaledNet, scaled_with, refused, first_line, first_large, is_large_link, no_demand, or_else}
 use Rattle.unit_scale.specs.Sorts.{sorted, refused_row, unless_refused_row, scaled_at}
-use Rattle.list_grammar.specs.Matrices.{decimals_for}
-use Rattle.list_grammar.specs.Faults.{fine_link}
-use Rattle.list_read.specs.Lists.{NamedDemands}
-use Rattle.list_read.specs.Scaled.{own_rows, fine_demand, large_row, no_commodity}
+use Rattle.matrix_batch.specs.Matrices.{decimals_for}
+use Rattle.matrix_batch.specs.Faults.{fine_link}
+use Rattle.matrix_batch.specs.Lists.{NamedDemands}
+use Rattle.matrix_batch.specs.Scaled.{own_rows, fine_demand, large_row, no_commodity}
 use Rattle.matrix_batch.specs.Scaling.{line_of_large}
 
 abbrev row_refusal : RowSort → NetRefusal → RowRefusal

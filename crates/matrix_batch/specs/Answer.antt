@@ -6,9 +6,9 @@ use Rattle.mcf_limits.specs.declared.TheConstants.{MAX_MATRICES}
 use Rattle.sndlib_grammar.specs.Rows.{NetRows, AreNetRows}
 use Rattle.unit_scale.specs.declared.options.NetOptions.{NetOptions}
 use Rattle.unit_scale.specs.Scaling.{scaled_of}
-use Rattle.list_grammar.specs.Refusals.{InNet, InList}
-use Rattle.list_grammar.specs.Matrices.{Matrix}
-use Rattle.list_grammar.specs.Batch.{IsBatch}
+use Rattle.matrix_batch.specs.Refusals.{InNet, InList}
+use Rattle.matrix_batch.specs.Matrices.{Matrix}
+use Rattle.matrix_batch.specs.Batch.{IsBatch}
 use Rattle.sndlib_grammar.specs.declared.refusal.NetKind.{NetKind}
 use Rattle.sndlib_grammar.specs.declared.refusal.NetKind.TheVariants as netkinds
 use Rattle.unit_scale.specs.declared.refusal.RowSort.{RowSort}

@@ -1,3 +1,17 @@
+pub mod Grammar
+pub mod Refusals
+pub mod Matrices
+pub mod Faults
+pub mod Batch
+pub mod Laws
+pub mod Lists
+pub mod Scaled
+pub mod ListAnswer
+pub mod Reading
+pub mod Stored
+pub mod ReadViews
+pub mod ReadSteps
+pub mod Names
 pub mod Views
 pub mod Scaling
 pub mod Steps

@@ -10,12 +10,12 @@ use Rattle.unit_scale.specs.declared.refusal.RowSort.TheVariants.{Link}
 use Rattle.unit_scale.specs.declared.refusal.RowRefusal.{RowRefusal}
 use Rattle.unit_scale.specs.Scaling.{ScaledNet}
 use Rattle.unit_scale.specs.Sorts.{scaled_at}
-use Rattle.list_grammar.specs.declared.refusal.ListKind.{ListKind}
-use Rattle.list_grammar.specs.declared.refusal.ListKind.TheVariants.{TooFine, TooLarge, NoDemand}
-use Rattle.list_grammar.specs.declared.refusal.ListRefusal.{ListRefusal}
-use Rattle.list_grammar.specs.Matrices.{Matrix}
-use Rattle.list_read.specs.Lists.{NamedDemands}
-use Rattle.list_read.specs.Scaled.{own_rows}
+use Rattle.matrix_batch.specs.declared.list_refusal.ListKind.{ListKind}
+use Rattle.matrix_batch.specs.declared.list_refusal.ListKind.TheVariants.{TooFine, TooLarge, NoDemand}
+use Rattle.matrix_batch.specs.declared.list_refusal.ListRefusal.{ListRefusal}
+use Rattle.matrix_batch.specs.Matrices.{Matrix}
+use Rattle.matrix_batch.specs.Lists.{NamedDemands}
+use Rattle.matrix_batch.specs.Scaled.{own_rows}
 
 -- the matrices whose networks are accepted so far, and the lines of the first matrix or demand that is too large and of the first
 -- matrix without a commodity

@@ -5,8 +5,8 @@ use Rattle.std.specs.declared.alloc.Global.{Global}
 use Rattle.sndlib_grammar.specs.Rows.{NetRows}
 use Rattle.unit_scale.specs.declared.options.NetOptions.{NetOptions}
 use Rattle.unit_scale.specs.declared.refusal.RowRefusal.{RowRefusal}
-use Rattle.list_grammar.specs.declared.refusal.ListRefusal.{ListRefusal}
-use Rattle.list_read.specs.Lists.{NamedDemands}
+use Rattle.matrix_batch.specs.declared.list_refusal.ListRefusal.{ListRefusal}
+use Rattle.matrix_batch.specs.Lists.{NamedDemands}
 use Rattle.matrix_batch.specs.declared.matrix.Matrix.{Matrix as MatrixRows}
 use Rattle.matrix_batch.specs.declared.refusal.BatchEnd.{BatchEnd}
 use Rattle.matrix_batch.specs.declared.refusal.BatchEnd.TheVariants.{Net, List as OfList, Memory}

@@ -1,6 +1,6 @@
 -- Matrices as the definitions of lists have them, without where their names lie in memory.
 use Rattle.std.specs.Prelude.{List, map}
-use Rattle.list_grammar.specs.Matrices.{Matrix}
+use Rattle.matrix_batch.specs.Matrices.{Matrix}
 use Rattle.matrix_batch.specs.declared.matrix.Matrix.{Matrix as MatrixRows}
 
 abbrev pub matrix_view : MatrixRows → Matrix

@@ -1,14 +1,14 @@
 //! From the text of a list to its batch.
 
 ghost use Rattle.std.specs.Prelude.{◌≡◌, ◌≤◌, IfOk, length};
-ghost use Rattle.list_grammar.specs.Faults.{fine_link as fine_link_lem};
+ghost use Rattle.matrix_batch.specs.Faults.{fine_link as fine_link_lem};
 ghost use Rattle.matrix_batch.specs.Answer.{Answers, AreOwn, line_of_fine as line_of_fine_lem};
 ghost use Rattle.matrix_batch.specs.Views.{batch_view};
 
 use crate::matrix::Matrix;
 use crate::refusal::BatchEnd;
 use crate::scaling::scale_all;
-use list_read::{ReadListEnd, read_list, what_is_read_is_scaled};
+use crate::{ReadListEnd, read_list, what_is_read_is_scaled};
 use mcf_limits::MAX_LIST_BYTES;
 use sndlib_read::{NetKind, NetRefusal, RawNet};
 use std::alloc::{AllocError, Global};

@@ -1,6 +1,6 @@
 //! Why a list gives no batch.
 
-use list_read::ListRefusal;
+use crate::ListRefusal;
 use sndlib_read::NetRefusal;
 
 /// Why a list gives no batch: a link of the network is too fine, the list is refused, or memory ran out.

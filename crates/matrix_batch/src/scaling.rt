@@ -2,14 +2,14 @@
 
 ghost use Rattle.std.specs.Prelude.{◌≡◌, map, IfOk};
 ghost use Rattle.sndlib_grammar.specs.Rows.{AreNetRows};
-ghost use Rattle.list_read.specs.Answer.{matrix_view as read_view};
-ghost use Rattle.list_read.specs.Scaled.{AreOwnRows, own_rows};
+ghost use Rattle.matrix_batch.specs.ListAnswer.{matrix_view as read_view};
+ghost use Rattle.matrix_batch.specs.Scaled.{AreOwnRows, own_rows};
 ghost use Rattle.matrix_batch.specs.Scaling.{line_of_large as line_of_large_lem};
 ghost use Rattle.matrix_batch.specs.Steps.{AfterOne, AreScaled, IsFinished, IsRefusedOne, sofar_view};
 
 use crate::matrix::Matrix;
 use crate::refusal::BatchEnd;
-use list_read::{ListKind, ListRefusal, MatrixRows};
+use crate::{ListKind, ListRefusal, MatrixRows};
 use sndlib_read::{NetKind, RawNet};
 use std::alloc::{AllocError, Global};
 use unit_scale::{NetOptions, RowEnd, RowRefusal, RowSort, scale_at};

@@ -11,9 +11,9 @@ use Rattle.sndlib_grammar.specs.declared.refusal.NetRefusal.{NetRefusal}
 use Rattle.cert_lines.specs.declared.refusal.CertKind.{CertKind}
 use Rattle.cert_lines.specs.declared.refusal.CertKind.TheVariants as texts
 use Rattle.cert_lines.specs.declared.refusal.CertRefusal.{CertRefusal}
-use Rattle.list_grammar.specs.declared.refusal.ListKind.{ListKind}
-use Rattle.list_grammar.specs.declared.refusal.ListKind.TheVariants as lists
-use Rattle.list_grammar.specs.declared.refusal.ListRefusal.{ListRefusal}
+use Rattle.matrix_batch.specs.declared.list_refusal.ListKind.{ListKind}
+use Rattle.matrix_batch.specs.declared.list_refusal.ListKind.TheVariants as lists
+use Rattle.matrix_batch.specs.declared.list_refusal.ListRefusal.{ListRefusal}
 use Rattle.script.specs.declared.refusal.ScriptKind.{ScriptKind}
 use Rattle.script.specs.declared.refusal.ScriptKind.TheVariants as scripts
 use Rattle.script.specs.declared.refusal.ScriptRefusal.{ScriptRefusal}

@@ -1,7 +1,7 @@
 //! What a run found, where one line tells it.
 
 use cert_judge::{CertRefusal, Fault, Judged};
-use list_grammar::ListRefusal;
+use matrix_batch::ListRefusal;
 use script::ScriptRefusal;
 use sndlib_read::NetRefusal;
 use std::alloc::AllocError;

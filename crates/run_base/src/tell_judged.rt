@@ -11,7 +11,7 @@ use crate::ended::Ended;
 use crate::saying::say;
 use cert_judge::{CertKind, CertRefusal, Fault, Judged};
 use gap_fraction::{Frac, Shown};
-use list_grammar::{ListKind, ListRefusal};
+use matrix_batch::{ListKind, ListRefusal};
 use mcf_base::Sink;
 use script::{ScriptKind, ScriptRefusal};
 use sndlib_read::{NetKind, NetRefusal};

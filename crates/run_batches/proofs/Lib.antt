@@ -1,1 +1,4 @@
+pub mod Counting
+pub mod Gathering
+pub mod Written
 pub mod Solved

@@ -6,17 +6,17 @@ use Rattle.mcf_base.specs.Sink.{SinkView}
 use Rattle.sndlib_grammar.specs.Rows.{NetRows, AreNetRows}
 use Rattle.unit_scale.specs.declared.options.NetOptions.{NetOptions}
 use Rattle.unit_scale.specs.Scaling.{scaled_of}
-use Rattle.list_grammar.specs.Matrices.{Matrix}
-use Rattle.list_grammar.specs.Batch.{IsBatch}
+use Rattle.matrix_batch.specs.Matrices.{Matrix}
+use Rattle.matrix_batch.specs.Batch.{IsBatch}
 use Rattle.solver_run.specs.declared.options.SolveOptions.{SolveOptions}
 use Rattle.solver_run.specs.History.{SolvedView}
 use Rattle.sndlib_grammar.specs.declared.refusal.NetRefusal.{NetRefusal}
 use Rattle.sndlib_grammar.specs.Net.{rows_of}
-use Rattle.list_grammar.specs.Refusals.{InNet, InList}
+use Rattle.matrix_batch.specs.Refusals.{InNet, InList}
 use Rattle.matrix_batch.specs.declared.refusal.BatchEnd.{BatchEnd}
 use Rattle.matrix_batch.specs.declared.refusal.BatchEnd.TheVariants.{Net, List as OfListEnd, Memory as NoMemory}
 use Rattle.matrix_batch.specs.Answer.{Answers, AreOwn}
-use Rattle.batch_solver.specs.Solves.{AreSolved, IsSolvedMatrix}
+use Rattle.run_batches.specs.Solves.{AreSolved, IsSolvedMatrix}
 use Rattle.mcf_words.specs.declared.request.Request.{Request}
 use Rattle.run_base.specs.declared.ended.Ended.{Ended}
 use Rattle.run_base.specs.declared.outcome.Outcome.{Outcome}

@@ -5,17 +5,17 @@ use Rattle.mcf_limits.specs.declared.TheConstants.{MAX_LIST_BYTES}
 use Rattle.mcf_base.specs.Shelf.{ShelfView}
 use Rattle.sndlib_grammar.specs.Rows.{NetRows}
 use Rattle.unit_scale.specs.declared.options.NetOptions.{NetOptions}
-use Rattle.list_grammar.specs.Refusals.{BatchRefusal, InNet, InList}
-use Rattle.list_grammar.specs.Matrices.{Matrix}
-use Rattle.list_grammar.specs.Batch.{IsBatch, IsBatchTooMuch}
+use Rattle.matrix_batch.specs.Refusals.{BatchRefusal, InNet, InList}
+use Rattle.matrix_batch.specs.Matrices.{Matrix}
+use Rattle.matrix_batch.specs.Batch.{IsBatch, IsBatchTooMuch}
 use Rattle.solver_run.specs.History.{SolvedView}
 use Rattle.sndlib_grammar.specs.declared.refusal.NetRefusal.{NetRefusal}
 use Rattle.matrix_batch.specs.declared.refusal.BatchEnd.{BatchEnd}
 use Rattle.matrix_batch.specs.declared.refusal.BatchEnd.TheVariants.{Net, List as OfListEnd, Memory as NoMemory}
 use Rattle.matrix_batch.specs.Answer.{AreOwn}
-use Rattle.batch_solver.specs.declared.asked.BatchAsked.{BatchAsked}
-use Rattle.batch_solver.specs.Asked.{batch_options}
-use Rattle.batch_solver.specs.Solves.{AreSolved, solved_status, solved_text}
+use Rattle.run_batches.specs.declared.asked.BatchAsked.{BatchAsked}
+use Rattle.run_batches.specs.Asked.{batch_options}
+use Rattle.run_batches.specs.Solves.{AreSolved, solved_status, solved_text}
 use Rattle.mcf_words.specs.declared.request.Request.{Request}
 use Rattle.run_base.specs.declared.outcome.Paper.TheVariants.{List as OfListPaper}
 use Rattle.run_base.specs.declared.outcome.Outcome.{Outcome}

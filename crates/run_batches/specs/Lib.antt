@@ -1,1 +1,4 @@
+pub mod Asked
+pub mod Solves
+pub mod Slots
 pub mod Batch

@@ -6,12 +6,12 @@ ghost use Rattle.sndlib_grammar.specs.Net.{rows_of};
 ghost use Rattle.sndlib_grammar.specs.Rows.{AreNetRows};
 ghost use Rattle.matrix_batch.specs.Answer.{AreOwn};
 ghost use Rattle.matrix_batch.specs.Views.{batch_view};
-ghost use Rattle.batch_solver.specs.Asked.{IsBatchAsked};
-ghost use Rattle.batch_solver.specs.Solves.{IsSolvedMatrix};
+ghost use Rattle.run_batches.specs.Asked.{IsBatchAsked};
+ghost use Rattle.run_batches.specs.Solves.{IsSolvedMatrix};
 ghost use Rattle.run_base.specs.Answer.{IsTold, OrWant, Writes};
 ghost use Rattle.run_batches.specs.Batch.{GivesSolves, OfBatch, OnList, OnTexts, SolvesBatch, batch_answer, batch_asked_of, outcome_of as outcome_of_lem};
 
-use batch_solver::{BatchAsked, batch_status, options_of, solve_batch, write_batch};
+use crate::{BatchAsked, batch_status, options_of, solve_batch, write_batch};
 use flow_solver::Solved;
 use matrix_batch::{BatchEnd, Matrix, read_batch};
 use mcf_base::{Gate, Shelf, Sink};

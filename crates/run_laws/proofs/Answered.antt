@@ -51,14 +51,14 @@ use Rattle.run_solves.specs.Solve.{asked_of, solving_answer, SolvesRows, OfSolve
 use Rattle.run_certs.specs.Tighten.{WritesBest, best_answer, OnBoth, OnSecond, OnFirst, OnFirstRead, OnFirstText, OfFirst, OfTighten}
 use Rattle.run_certs.specs.Upgrade.{upgrade_answer, OnUpgrade, OfUpgraded, OfUpgrade}
 use Rattle.solver_run.specs.History.{SolvedView}
-use Rattle.list_grammar.specs.Matrices.{Matrix}
-use Rattle.list_grammar.specs.Batch.{IsBatch, IsBatchTooMuch}
-use Rattle.list_grammar.specs.Refusals.{BatchRefusal}
-use Rattle.list_grammar.proofs.Only.{answers_once}
+use Rattle.matrix_batch.specs.Matrices.{Matrix}
+use Rattle.matrix_batch.specs.Batch.{IsBatch, IsBatchTooMuch}
+use Rattle.matrix_batch.specs.Refusals.{BatchRefusal}
+use Rattle.matrix_batch.proofs.Only.{answers_once}
 use Rattle.run_batches.specs.Batch.{batch_asked_of, batch_answer, SolvesBatch, OnBatch, OnList, OfList, OfBatch}
 use Rattle.run_sweeps.specs.Sweep.{sweep_answer, OnSweep, OfSwept, OfSweep}
 use Rattle.run_sweeps.specs.SweepSolve.{solves_answer, sweep_asked_of, SolvesLinks, OnScaled, OnSweepSolve, OfSweepSolve}
-use Rattle.sweep_solver.specs.declared.swept.Swept.{Swept}
+use Rattle.run_sweeps.specs.declared.swept.Swept.{Swept}
 use Rattle.run_certs.specs.WhatIf.{scripted_answer, OnScript, OnCertified, OnCertificate, OfWhatIf}
 use Rattle.run_solves.specs.Drawn.{links_drawn, net_drawn, gen_answer, trial_line, OfTrial}
 use Rattle.mcf_cli.specs.Run.{file_at, file_if, OfCommand}

@@ -41,13 +41,13 @@ use Rattle.flow_paths.specs.declared.certificate.Proof.{Proof}
 use Rattle.run_certs.specs.Tighten.{WritesBest, best_answer, OnBoth, OnSecond, OnFirst, OnFirstRead, OnFirstText, OfFirst}
 use Rattle.run_certs.specs.Upgrade.{upgrade_answer, OnUpgrade, OfUpgraded}
 use Rattle.solver_run.specs.History.{SolvedView}
-use Rattle.list_grammar.specs.Matrices.{Matrix}
-use Rattle.list_grammar.specs.Refusals.{BatchRefusal, InNet, InList}
+use Rattle.matrix_batch.specs.Matrices.{Matrix}
+use Rattle.matrix_batch.specs.Refusals.{BatchRefusal, InNet, InList}
 use Rattle.run_batches.specs.Batch.{batch_asked_of, batch_answer, OnBatch, OnList, OfList}
 use Rattle.run_sweeps.specs.Sweep.{sweep_answer, OnSweep, OfSwept}
 use Rattle.run_sweeps.specs.SweepSolve.{solves_answer, sweep_asked_of, OnScaled, OnSweepSolve}
-use Rattle.sweep_solver.specs.declared.swept.Swept.{Swept}
-use Rattle.sweep_solver.specs.declared.asked.SweepAsked.{SweepAsked}
+use Rattle.run_sweeps.specs.declared.swept.Swept.{Swept}
+use Rattle.run_sweeps.specs.declared.asked.SweepAsked.{SweepAsked}
 use Rattle.run_certs.specs.WhatIf.{scripted_answer, OnScript, OnCertified, OnCertificate}
 use Rattle.mcf_cli.specs.Run.{file_at, file_if, OfCommand, OfRequest, IsAnswer, RunEnds}
 use Rattle.run_laws.specs.Started.{FailsAtOne, Starts, StartsItsFiles, files_in}

@@ -15,9 +15,9 @@ use Rattle.cert_text.specs.declared.papers.Paper.TheVariants.{Full}
 use Rattle.cert_text.specs.Whole.{head_in, paper_in}
 use Rattle.cert_judge.specs.Papers.{options_of}
 use Rattle.net_solve.specs.Asked.{IsTooMuch}
-use Rattle.sweep_solver.specs.Asked.{IsSweepTooMuch}
-use Rattle.list_grammar.specs.Matrices.{Matrix}
-use Rattle.list_grammar.specs.Batch.{IsBatch, IsBatchTooMuch}
+use Rattle.run_sweeps.specs.Asked.{IsSweepTooMuch}
+use Rattle.matrix_batch.specs.Matrices.{Matrix}
+use Rattle.matrix_batch.specs.Batch.{IsBatch, IsBatchTooMuch}
 use Rattle.script.specs.declared.step.Step.{Step}
 use Rattle.script.specs.Reading.{script_of}
 use Rattle.mcf_words.specs.declared.request.Command.{Command}

@@ -7,11 +7,11 @@ use Rattle.sndlib_grammar.specs.declared.refusal.NetRefusal.{NetRefusal}
 use Rattle.sndlib_grammar.specs.Rows.{NetRows, names_of_links}
 use Rattle.unit_scale.specs.Scaling.{ScaledNet, scaled_of}
 use Rattle.cert_lines.specs.Sheet.{IsOf}
-use Rattle.sweep_solver.specs.declared.asked.SweepAsked.{SweepAsked}
-use Rattle.sweep_solver.specs.declared.swept.Swept.{Swept}
-use Rattle.sweep_solver.specs.Asked.{IsSweepTooMuch, sweep_options}
-use Rattle.sweep_solver.specs.Swept.{AreSwept}
-use Rattle.sweep_solver.specs.Lines.{swept_status, swept_text}
+use Rattle.run_sweeps.specs.declared.asked.SweepAsked.{SweepAsked}
+use Rattle.run_sweeps.specs.declared.swept.Swept.{Swept}
+use Rattle.run_sweeps.specs.Asked.{IsSweepTooMuch, sweep_options}
+use Rattle.run_sweeps.specs.Swept.{AreSwept}
+use Rattle.run_sweeps.specs.Lines.{swept_status, swept_text}
 use Rattle.mcf_words.specs.declared.request.Request.{Request}
 use Rattle.run_base.specs.declared.outcome.Outcome.{Outcome}
 use Rattle.run_base.specs.declared.outcome.Outcome.TheVariants.{NetRefused, TooMuch, Memory}

@@ -19,7 +19,7 @@ use Rattle.cert_inverse.specs.Inverse.{IsCitable}
 use Rattle.cert_inverse.proofs.Clean.{Clean, clean, clean_number}
 use Rattle.hop_check.specs.LayerRows.{Layer}
 use Rattle.hop_check.specs.declared.hop_proof.HopProof.{HopProof}
-use Rattle.part_check.specs.declared.part_proof.PartProof.{PartProof}
+use Rattle.throughput.specs.declared.part_proof.PartProof.{PartProof}
 use Rattle.run_texts.specs.Heads.{head_lines}
 use Rattle.run_texts.specs.HopsText.{layer_words, from_figures, hops_lines, FitsLayer, FitsHops}
 use Rattle.run_texts.specs.PartText.{threshold_words, from_totals, part_lines, FitsPart}

@@ -9,7 +9,7 @@ use Rattle.cert_text.specs.Reading.{Gives}
 use Rattle.cert_text.proofs.LineSteps.{text_bytes}
 use Rattle.cert_judge.proofs.Steps.{ok_is}
 use Rattle.hop_check.specs.declared.hop_proof.HopProof.{HopProof}
-use Rattle.part_check.specs.declared.part_proof.PartProof.{PartProof}
+use Rattle.throughput.specs.declared.part_proof.PartProof.{PartProof}
 use Rattle.run_texts.specs.HopsText.{FitsHops}
 use Rattle.run_texts.specs.PartText.{FitsPart}
 use Rattle.run_texts.specs.HopsRead.{hops_in, HopsAreRead, HopTextsAreUnique}

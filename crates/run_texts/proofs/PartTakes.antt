@@ -13,7 +13,7 @@ use Rattle.cert_writer.specs.Text.{end_line}
 use Rattle.cert_judge.proofs.Steps.{bind_ok, done, ok_is}
 use Rattle.cert_inverse.proofs.Between.{closing_takes}
 use Rattle.cert_inverse.proofs.TextTakes.{Scale, scale_lines, scale_take, opened_lines, opening_take, goes_to}
-use Rattle.part_check.specs.declared.part_proof.PartProof.{PartProof}
+use Rattle.throughput.specs.declared.part_proof.PartProof.{PartProof}
 use Rattle.run_texts.specs.Heads.{head_lines, header_at}
 use Rattle.run_texts.specs.Rows.{flows_at}
 use Rattle.run_texts.specs.PartText.{total_lines, part_text, FitsPart}

@@ -23,7 +23,7 @@ use Rattle.cert_inverse.proofs.RowAgain.{length_again, potential_again}
 use Rattle.cert_inverse.proofs.PlacesAgain.{place, Stops, stops_rows, more_rows, next_again, rows_again, closing_again}
 use Rattle.cert_inverse.proofs.TextAgain.{opening_again, scale_at_again, values_again, paths_again}
 use Rattle.hop_check.specs.declared.hop_proof.HopProof.{HopProof}
-use Rattle.part_check.specs.declared.part_proof.PartProof.{PartProof}
+use Rattle.throughput.specs.declared.part_proof.PartProof.{PartProof}
 use Rattle.run_texts.specs.Heads.{head_lines, header_at}
 use Rattle.run_texts.specs.Rows.{flows_at}
 use Rattle.run_texts.specs.HopsText.{layer_words, hops_lines, hops_text, FitsLayer, FitsHops}

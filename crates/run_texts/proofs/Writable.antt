@@ -6,7 +6,7 @@ use Rattle.cert_lines.specs.Sheet.{Sheet}
 use Rattle.cert_lines.specs.Spelling.{FitsPath, FitsLength, FitsPotential}
 use Rattle.cert_writer.proofs.TextPuts.{is_writable}
 use Rattle.hop_check.specs.declared.hop_proof.HopProof.{HopProof}
-use Rattle.part_check.specs.declared.part_proof.PartProof.{PartProof}
+use Rattle.throughput.specs.declared.part_proof.PartProof.{PartProof}
 use Rattle.run_texts.specs.HopsText.{FitsLayer, FitsHops, IsHopsWritable}
 use Rattle.run_texts.specs.PartText.{FitsPart, IsPartWritable}
 

@@ -4,8 +4,8 @@ use Rattle.unit_scale.specs.Scaling.{ScaledNet}
 use Rattle.cert_lines.specs.Sheet.{IsOf, sheet_of}
 use Rattle.hop_check.specs.declared.hop_proof.HopProof.{HopProof}
 use Rattle.hop_check.specs.Conditions.{IsHopProofOf}
-use Rattle.part_check.specs.declared.part_proof.PartProof.{PartProof}
-use Rattle.part_check.specs.Conditions.{IsPartProofOf}
+use Rattle.throughput.specs.declared.part_proof.PartProof.{PartProof}
+use Rattle.throughput.specs.Conditions.{IsPartProofOf}
 use Rattle.run_texts.specs.HopsText.{FitsHops}
 use Rattle.run_texts.specs.PartText.{FitsPart}
 

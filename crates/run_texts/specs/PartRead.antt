@@ -14,7 +14,7 @@ use Rattle.cert_lines.specs.HeadLines.{value_line}
 use Rattle.cert_text.specs.Reading.{Place, next_line, closing}
 use Rattle.cert_text.specs.Papers.{opening_at, scale_at}
 use Rattle.cert_inverse.specs.Inverse.{IsCitable}
-use Rattle.part_check.specs.declared.part_proof.PartProof.{PartProof}
+use Rattle.throughput.specs.declared.part_proof.PartProof.{PartProof}
 use Rattle.run_texts.specs.Heads.{header_at}
 use Rattle.run_texts.specs.Rows.{flows_at}
 use Rattle.run_texts.specs.PartText.{part_text, FitsPart}

@@ -8,7 +8,7 @@ use Rattle.text_lines.specs.Lines.{Line, text_of}
 use Rattle.cert_lines.specs.Sheet.{Sheet}
 use Rattle.cert_lines.specs.Spelling.{gap_words, phases_words, scale_words, value_words, length_words, potential_words, FitsValue, FitsLength, FitsPotential}
 use Rattle.cert_writer.specs.Text.{path_lines, end_line, FitsRouting}
-use Rattle.part_check.specs.declared.part_proof.PartProof.{PartProof}
+use Rattle.throughput.specs.declared.part_proof.PartProof.{PartProof}
 use Rattle.run_texts.specs.Heads.{head_lines}
 
 -- `threshold` and the number

@@ -6,7 +6,7 @@ ghost use Rattle.mcf_limits.specs.declared.TheConstants.{MAX_LIST_BYTES};
 use crate::files::net_text;
 use crate::texts::shown;
 use anyhow::{Result, bail, ensure};
-use list_read::{ListKind, MatrixRows, ReadListEnd, read_list};
+use matrix_batch::{ListKind, MatrixRows, ReadListEnd, read_list};
 use mcf_limits::MAX_LIST_BYTES;
 use sndlib_read::{RawNet, read_net};
 use std::fs;

@@ -13,10 +13,10 @@ use Rattle.dual_bound.specs.Bounds.{IsBoundOf, IsCutDual}
 use Rattle.throughput.specs.Asked.{RunOptions, later_setting, setting_after}
 use Rattle.route_tally.specs.Tally.{IsTally}
 use Rattle.flow_paths.specs.Least.{least_by}
-use Rattle.part_check.specs.declared.part_proof.PartDual.{PartDual}
-use Rattle.part_check.specs.declared.part_proof.PartProof.{PartProof}
-use Rattle.part_check.specs.Partial.{total_of, part_upper_of}
-use Rattle.part_check.specs.Conditions.{PartFractionsArePrinted}
+use Rattle.throughput.specs.declared.part_proof.PartDual.{PartDual}
+use Rattle.throughput.specs.declared.part_proof.PartProof.{PartProof}
+use Rattle.throughput.specs.Partial.{total_of, part_upper_of}
+use Rattle.throughput.specs.Conditions.{PartFractionsArePrinted}
 use Rattle.throughput.specs.Gates.{AreGates, gated, gated_loads, gated_lengths, IsPrice, IsLeastPrice}
 
 -- ---- phases

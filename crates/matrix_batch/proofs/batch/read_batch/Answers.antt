@@ -1,8 +1,8 @@
 use Rattle.std.proofs.Common.{◌≡◌, List, None, subst, sym, ◌∙◌}
 use Rattle.std.specs.Prelude.{map}
-use Rattle.list_grammar.specs.Faults.{fine_link}
-use Rattle.list_read.specs.declared.row.MatrixRows.{MatrixRows}
-use Rattle.list_read.specs.Answer.{matrix_view as read_view, matrices_view}
+use Rattle.matrix_batch.specs.Faults.{fine_link}
+use Rattle.matrix_batch.specs.declared.row.MatrixRows.{MatrixRows}
+use Rattle.matrix_batch.specs.ListAnswer.{matrix_view as read_view, matrices_view}
 use Rattle.matrix_batch.specs.Steps.{AreScaled}
 use Rattle.matrix_batch.proofs.Answered.{answers_scaled, own}
 use Rattle.matrix_batch.proofs.batch.read_batch.Goals as goal

@@ -1,5 +1,5 @@
 use Rattle.std.proofs.Common.{Err, ap, ◌∙◌}
-use Rattle.list_read.specs.Answer.{matrix_view as read_view}
+use Rattle.matrix_batch.specs.ListAnswer.{matrix_view as read_view}
 use Rattle.matrix_batch.specs.Steps.{sofar_view}
 use Rattle.matrix_batch.proofs.Stepping.{one_refused}
 use Rattle.matrix_batch.proofs.scaling.put_matrix.Goals as goal

@@ -1,7 +1,7 @@
 use Rattle.sndlib_grammar.specs.Rows.{AreNetRows}
-use Rattle.list_read.specs.Answer.{matrix_view as read_view}
-use Rattle.list_read.specs.Lists.{NamedDemands}
-use Rattle.list_read.specs.Scaled.{own_rows}
+use Rattle.matrix_batch.specs.ListAnswer.{matrix_view as read_view}
+use Rattle.matrix_batch.specs.Lists.{NamedDemands}
+use Rattle.matrix_batch.specs.Scaled.{own_rows}
 use Rattle.matrix_batch.specs.Steps.{sofar_view}
 use Rattle.matrix_batch.proofs.Stepping.{image_at, stopped}
 use Rattle.matrix_batch.proofs.scaling.scale_all.Goals as goal

@@ -1,6 +1,6 @@
 use Rattle.std.proofs.Common.{◌≡◌, drop}
 use Rattle.std.specs.Prelude.{map}
-use Rattle.list_read.specs.Answer.{matrix_view as read_view}
+use Rattle.matrix_batch.specs.ListAnswer.{matrix_view as read_view}
 use Rattle.matrix_batch.specs.Scaling.{scaled_all, none_yet}
 use Rattle.matrix_batch.specs.Steps.{sofar_view}
 use Rattle.matrix_batch.proofs.scaling.scale_all.Given as goal

@@ -1,9 +1,9 @@
 use Rattle.std.proofs.Common.{subst, ◌∙◌, ap}
 use Rattle.matrix_batch.specs.Views.{batch_view}
 use Rattle.solver_run.specs.declared.options.SolveOptions.{SolveOptions}
-use Rattle.batch_solver.specs.declared.asked.BatchAsked.{BatchAsked}
-use Rattle.batch_solver.specs.Asked.{batch_options}
-use Rattle.batch_solver.specs.Solves.{AreSolved}
+use Rattle.run_batches.specs.declared.asked.BatchAsked.{BatchAsked}
+use Rattle.run_batches.specs.Asked.{batch_options}
+use Rattle.run_batches.specs.Solves.{AreSolved}
 use Rattle.run_batches.proofs.batching.solves_of.Goals as goal
 
 pub returns-in-Ok-solve_batch : goal.returns-in-Ok-solve_batch

@@ -1,5 +1,5 @@
 use Rattle.matrix_batch.specs.Views.{batch_view}
-use Rattle.batch_solver.specs.Asked.{batch_options}
+use Rattle.run_batches.specs.Asked.{batch_options}
 use Rattle.run_batches.specs.Batch.{batch_asked_of}
 use Rattle.run_batches.proofs.Solved.{can_be_written}
 use Rattle.run_batches.proofs.batching.tell_batch.Goals as goal

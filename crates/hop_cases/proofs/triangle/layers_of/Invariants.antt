@@ -1,7 +1,0 @@
-use Rattle.std.proofs.Common.{All}
-use Rattle.hop_check.specs.Conditions.{IsLayerOf}
-use Rattle.hop_cases.specs.Triangle.{triangle}
-use Rattle.hop_cases.proofs.triangle.layers_of.Given as goal
-
-abbrev pub invariant-loop : goal.invariant-loop
-invariant-loop l = All (IsLayerOf triangle) l.layers

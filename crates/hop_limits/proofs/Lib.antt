@@ -1,4 +1,0 @@
-pub mod Capped
-pub mod Cutting
-pub mod KeptDemands
-pub mod FarLimits

@@ -1,7 +1,0 @@
-use Rattle.std.proofs.Common.{◌≡◌, drop, map}
-use Rattle.sndlib_grammar.specs.Faults.{first_of, bad_of_demand}
-use Rattle.list_read.specs.Views.{demand_view}
-use Rattle.list_read.proofs.faults.bad_in_demands.Given as goal
-
-abbrev pub invariant-loop-demand : goal.invariant-loop-demand
-invariant-loop-demand l = first_of bad_of_demand (map demand_view (drop l.demand-index l.demands)) ≡ first_of bad_of_demand (map demand_view l.demands)

@@ -1,5 +1,0 @@
-use Rattle.list_read.proofs.Batches.{read_rows_are_sound}
-use Rattle.list_read.proofs.laws.rows_that_are_read_are_sound.Goals as goal
-
-pub returns : goal.returns
-returns c = read_rows_are_sound

@@ -1,8 +1,0 @@
-use Rattle.std.proofs.Common.{◌≡◌, [], map, drop}
-use Rattle.sndlib_read.specs.Names.{names_of}
-use Rattle.list_grammar.specs.Faults.{repeated}
-use Rattle.list_read.specs.Views.{entry_view}
-use Rattle.list_read.proofs.names.check_names.Given as goal
-
-abbrev pub invariant-loop-matrix : goal.invariant-loop-matrix
-invariant-loop-matrix l = repeated (names_of l.names) (map entry_view (drop l.matrix-index l.matrices)) ≡ repeated [] (map entry_view l.matrices)

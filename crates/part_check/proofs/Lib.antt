@@ -1,5 +1,0 @@
-pub mod Totals
-pub mod Excess
-pub mod Sound
-pub mod Certified
-pub mod Within

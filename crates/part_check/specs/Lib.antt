@@ -1,4 +1,0 @@
-pub mod Partial
-pub mod Conditions
-pub mod Verdicts
-pub mod Laws

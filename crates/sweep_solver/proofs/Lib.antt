@@ -1,3 +1,0 @@
-pub mod Shutting
-pub mod Gathering
-pub mod Written

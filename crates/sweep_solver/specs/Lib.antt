@@ -1,4 +1,0 @@
-pub mod Asked
-pub mod Swept
-pub mod Slots
-pub mod Lines

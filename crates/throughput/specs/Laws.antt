@@ -1,0 +1,18 @@
+-- What a threshold, and a certificate of a total, promise.
+use Rattle.std.specs.Prelude.{◌≡◌, ℕ, ◌*◌, ◌≤◌, List, length}
+use Rattle.flow_model.specs.Network.{Network}
+use Rattle.flow_model.specs.Routing.{Row}
+use Rattle.flow_model.specs.Bound.{IsBelowItsRows}
+use Rattle.throughput.specs.declared.part_proof.PartProof.{PartProof}
+use Rattle.throughput.specs.Partial.{IsPartial, total_of, part_volume}
+use Rattle.throughput.specs.Conditions.{IsValidPart, IsPartCertified}
+
+-- whatever the threshold: the total times it is at most the volume and the excess, where no distance is above its rows' walks
+abbrev pub ThresholdBoundsTotals : Type 0
+ThresholdBoundsTotals = (net : Network) (threshold : ℕ) (lengths distances : List ℕ) (rows : List Row) (q : ℕ)
+    → length lengths ≡ length net.cells → length distances ≡ length net.commodities → IsBelowItsRows lengths distances rows → IsPartial net rows q
+    → total_of rows * threshold ≤ q * part_volume net threshold lengths distances
+
+-- a valid certificate certifies: its bound is one on the total of every partial routing
+abbrev pub ValidPartsCertify : Type 0
+ValidPartsCertify = (net : Network) (p : PartProof) → IsValidPart net p → IsPartCertified net p

@@ -1,0 +1,15 @@
+//! Laws of totals and their certificates, proved for all networks.
+
+ghost use Rattle.throughput.specs.Laws.{ThresholdBoundsTotals, ValidPartsCertify};
+
+/// Whatever the threshold: the total of a partial routing times the threshold is at most the volume of any lengths and
+/// what the threshold has above any distances that are not above its walks.
+pub fn threshold_bounds_totals()
+    ensures { ThresholdBoundsTotals }
+{}
+
+/// A valid certificate is sound: its routing carries at most every amount within every capacity, its total is the lower
+/// fraction, its threshold bounds the total of every such routing, and closed says whether the two lie within the gap.
+pub fn valid_parts_certify()
+    ensures { ValidPartsCertify }
+{}
