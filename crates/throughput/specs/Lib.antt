@@ -4,6 +4,5 @@ pub mod Verdicts
 pub mod Laws
 pub mod Gates
 pub mod Gating
-pub mod Asked
 pub mod Run
 pub mod Prices

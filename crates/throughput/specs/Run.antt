@@ -10,7 +10,8 @@ use Rattle.flow_model.specs.Least.{IsCutOff, IsJoined, IsLeastWalk}
 use Rattle.gap_fraction.specs.Fraction.{Fraction, IsWithinGap}
 use Rattle.flow_paths.specs.Evaluation.{fill}
 use Rattle.dual_bound.specs.Bounds.{IsBoundOf, IsCutDual}
-use Rattle.throughput.specs.Asked.{RunOptions, later_setting, setting_after}
+use Rattle.route_tally.specs.declared.options.RunOptions.{RunOptions}
+use Rattle.route_tally.specs.Asked.{later_setting, setting_after}
 use Rattle.route_tally.specs.Tally.{IsTally}
 use Rattle.flow_paths.specs.Least.{least_by}
 use Rattle.throughput.specs.declared.part_proof.PartDual.{PartDual}

@@ -3,12 +3,7 @@ use Rattle.std.specs.Prelude.{ℕ, ◌*◌, ◌≤◌, ◌==◌, true, false, if
 use Rattle.flow_model.specs.declared.setting.Setting.{Setting}
 use Rattle.gap_fraction.specs.Fraction.{Fraction}
 use Rattle.mcf_limits.specs.declared.TheConstants.{MAX_GAP, MAX_PHASES, MAX_STEP, MAX_WORK}
-
--- the gap in millionths, the phase budget and the step
-pub record RunOptions : Type 0 where
-  pub gap : ℕ
-  pub phases : ℕ
-  pub step : ℕ
+use Rattle.route_tally.specs.declared.options.RunOptions.{RunOptions}
 
 -- within the limits, and so are the phases of so many commodities
 pub record AreRunOptions (commodities : ℕ) (o : RunOptions) : Type 0 where
