@@ -15,7 +15,7 @@ use Rattle.mcf_limits.specs.declared.TheConstants.{MAX_GAP, MAX_NODES, MAX_LINKS
 use Rattle.sndlib_grammar.specs.Number.{Number, behind_digits, behind_whole, front_digits, number_of, plain}
 use Rattle.unit_scale.specs.Modes.{link_word, module_word}
 use Rattle.mcf_words.specs.declared.request.Command.{Command}
-use Rattle.mcf_words.specs.declared.request.Command.TheVariants.{Solve, Check, WhatIf, Upgrade, Tighten, Batch, Sweep, SweepSolve, Print, Gen, Trial}
+use Rattle.mcf_words.specs.declared.request.Command.TheVariants.{Solve, Check, WhatIf, Upgrade, Tighten, Batch, Sweep, SweepSolve, CheckHops, CheckThroughput, Print, Gen, Trial}
 use Rattle.mcf_words.specs.declared.request.Request.{Request}
 use Rattle.mcf_words.specs.Items.{Setting}
 use Rattle.mcf_words.specs.Values.{values_of}
@@ -197,6 +197,8 @@ settings_for Tighten r = []
 settings_for Batch r = settings_with r r.phases r.workers
 settings_for Sweep r = []
 settings_for SweepSolve r = settings_with r r.phases r.workers
+settings_for CheckHops r = []
+settings_for CheckThroughput r = []
 settings_for Print r = []
 settings_for Gen r = []
 settings_for Trial r = settings_with r r.phases r.workers
@@ -210,6 +212,8 @@ parts_for Tighten r plain none = without_options Tighten plain
 parts_for Batch r plain none = with_options Batch r plain (by_place_alone Batch refl) (subst (MayWork Batch) (sym (none refl)) tt)
 parts_for Sweep r plain none = without_options Sweep plain
 parts_for SweepSolve r plain none = with_options SweepSolve r plain (by_place_alone SweepSolve refl) (subst (MayWork SweepSolve) (sym (none refl)) tt)
+parts_for CheckHops r plain none = without_options CheckHops plain
+parts_for CheckThroughput r plain none = without_options CheckThroughput plain
 parts_for Print r plain none = without_options Print plain
 parts_for Gen r plain none = without_options Gen plain
 parts_for Trial r plain none = with_options Trial r plain (by_place Trial refl) (workers_of_all Trial refl r.workers)
@@ -284,6 +288,8 @@ module _ (r : Request) (limits : IsWithinLimits r) where
   options_said Batch none = all_said r.phases r.workers refl refl
   options_said Sweep none = none_said (none refl)
   options_said SweepSolve none = all_said r.phases r.workers refl refl
+  options_said CheckHops none = none_said (none refl)
+  options_said CheckThroughput none = none_said (none refl)
   options_said Print none = none_said (none refl)
   options_said Gen none = none_said (none refl)
   options_said Trial none = all_said r.phases r.workers refl refl

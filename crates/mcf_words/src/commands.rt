@@ -27,7 +27,7 @@ static ONE_WORKER_OPTIONS: [&str; 5] = [LINKS, MODULES, GAP, PHASES, STEP];
 
 static NO_OPTIONS: [&str; 0] = [];
 
-static COMMANDS: [Command; 11] = [
+static COMMANDS: [Command; 13] = [
     Command::Solve,
     Command::Check,
     Command::WhatIf,
@@ -36,6 +36,8 @@ static COMMANDS: [Command; 11] = [
     Command::Batch,
     Command::Sweep,
     Command::SweepSolve,
+    Command::CheckHops,
+    Command::CheckThroughput,
     Command::Print,
     Command::Gen,
     Command::Trial,
@@ -99,6 +101,8 @@ pub fn form_of(command: Command) -> Form
         Command::Batch => takes(b"batch", 2, ONE_WORKER_OPTIONS.as_slice()),
         Command::Sweep => takes(b"sweep", 2, NO_OPTIONS.as_slice()),
         Command::SweepSolve => takes(b"sweepsolve", 1, ONE_WORKER_OPTIONS.as_slice()),
+        Command::CheckHops => takes(b"checkhops", 2, NO_OPTIONS.as_slice()),
+        Command::CheckThroughput => takes(b"checkthroughput", 2, NO_OPTIONS.as_slice()),
         Command::Print => takes(b"print", 1, NO_OPTIONS.as_slice()),
         Command::Gen => takes(b"gen", 0, NO_OPTIONS.as_slice()),
         Command::Trial => takes(b"trial", 0, SOLVER_OPTIONS.as_slice()),

@@ -19,6 +19,8 @@ pub enum Command {
     Batch,
     Sweep,
     SweepSolve,
+    CheckHops,
+    CheckThroughput,
     Print,
     Gen,
     Trial,
