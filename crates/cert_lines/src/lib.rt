@@ -22,6 +22,6 @@ pub use names::Names;
 pub use net_line::counts_line;
 pub use numbers::{decimal_within, number_within};
 pub use paths::path_row;
-pub use potentials::{of_that_many, potential_row, potentials_of};
+pub use potentials::{count_of, of_that_many, potential_row, potentials_of};
 pub use refusal::{CertEnd, CertKind, CertRefusal};
 pub use rows::length_row;

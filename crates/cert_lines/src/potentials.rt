@@ -29,8 +29,8 @@ fn words_of_line(line: &[u8]) -> usize
     spaces(line) + 1
 }
 
-// How many words there are.
-fn count_of(words: Option<&[u8]>) -> usize
+/// How many words there are; none where there is no rest of a line.
+pub fn count_of(words: Option<&[u8]>) -> usize
     ensures { result ≡ length (words_in (option_map (λ w. w.now) words.entry)) }
 {
     match words {

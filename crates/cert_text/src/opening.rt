@@ -240,17 +240,14 @@ fn next_modules(place: Place<'_>) -> Result<(ModuleMode, Place<'_>), CertRefusal
     }
 }
 
-// The verdict, where there is one, and the place behind it.
-#[tactic(auto, using(crate::proofs::LineSteps::has_line), unfolding(crate::specs::Reading::next_line, crate::specs::Whole::verdict_at))]
-fn verdict_at(kind: Kind, place: Place<'_>) -> Result<(Option<bool>, Place<'_>), CertRefusal>
+/// Whether the verdict is closed, and the place behind that line; or the line's fault.
+#[tactic(auto, using(crate::proofs::LineSteps::has_line), unfolding(crate::specs::Reading::next_line))]
+pub fn next_verdict(place: Place<'_>) -> Result<(bool, Place<'_>), CertRefusal>
     requires { HasRoom place }
-    ensures exact { seen (λ x. (x.0, place_view x.1)) result ≡ verdict_at kind (place_view place.entry) }
+    ensures exact { seen (λ x. (x.0, place_view x.1)) result
+        ≡ next_line verdict_line (place_view place.entry) }
     ensures room { IfOk result (λ x. HasRoom x.1) }
 {
-    match kind {
-        Kind::Routing => return Ok((None, place)),
-        Kind::Certificate => {}
-    }
     let (line, after) = match split(place) {
         Some(parts) => parts,
         None => {
@@ -261,7 +258,7 @@ fn verdict_at(kind: Kind, place: Place<'_>) -> Result<(Option<bool>, Place<'_>),
         }
     };
     match verdict_line(line) {
-        Ok(closed) => Ok((Some(closed), after)),
+        Ok(closed) => Ok((closed, after)),
         Err(kind) => Err(CertRefusal {
             line: place.at,
             kind,
@@ -269,9 +266,25 @@ fn verdict_at(kind: Kind, place: Place<'_>) -> Result<(Option<bool>, Place<'_>),
     }
 }
 
-// How links and modules are read, and the place behind both lines.
+// The verdict, where there is one, and the place behind it.
+#[tactic(auto, unfolding(crate::specs::Whole::verdict_at))]
+fn verdict_at(kind: Kind, place: Place<'_>) -> Result<(Option<bool>, Place<'_>), CertRefusal>
+    requires { HasRoom place }
+    ensures exact { seen (λ x. (x.0, place_view x.1)) result ≡ verdict_at kind (place_view place.entry) }
+    ensures room { IfOk result (λ x. HasRoom x.1) }
+{
+    match kind {
+        Kind::Routing => Ok((None, place)),
+        Kind::Certificate => match next_verdict(place) {
+            Ok((closed, after)) => Ok((Some(closed), after)),
+            Err(refusal) => Err(refusal),
+        },
+    }
+}
+
+/// How links and modules are read, in the words of that form, and the place behind both lines; or the first fault.
 #[tactic(auto, unfolding(crate::specs::Whole::modes_behind))]
-fn modes_behind(form: Form, place: Place<'_>) -> Result<(NetOptions, Place<'_>), CertRefusal>
+pub fn modes_behind(form: Form, place: Place<'_>) -> Result<(NetOptions, Place<'_>), CertRefusal>
     requires { HasRoom place }
     ensures exact { seen (λ x. (x.0, place_view x.1)) result ≡ modes_behind form (place_view place.entry) }
     ensures room { IfOk result (λ x. HasRoom x.1) }

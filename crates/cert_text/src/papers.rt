@@ -27,8 +27,8 @@ pub enum Paper {
     Full(Proof),
 }
 
-// The path rows, and the place behind them.
-fn paths_of<'a>(
+/// The path rows at the front of the lines, and the place behind them; or the first fault in one, or want of memory.
+pub fn paths_of<'a>(
     alloc: Global,
     names: &Names<'_, '_>,
     place: Place<'a>,
@@ -50,9 +50,10 @@ ghost use Rattle.std.specs.Prelude.{codes, Some};
 ghost use Rattle.cert_lines.specs.Rows.{path_row};
 ghost use Rattle.cert_text.specs.Reading.{rows_at};
 
-// The length rows and the potential rows, and the place behind them.
+/// The length rows and behind them the potential rows, and the place behind those; or the first fault in one, or want of
+/// memory.
 #[tactic(auto, unfolding(crate::specs::Papers::dual_at))]
-fn dual_of<'a>(
+pub fn dual_of<'a>(
     alloc: Global,
     names: &Names<'_, '_>,
     place: Place<'a>,

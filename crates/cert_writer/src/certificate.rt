@@ -13,8 +13,8 @@ use flow_paths::Proof;
 use mcf_base::{Sink, WriteFault};
 use text_lines::{Buffer, Word};
 
-// Whether the verdict is closed, as a word.
-fn verdict_word(closed: bool) -> &'static [u8]
+/// The word of the verdict: `closed`, or `open`.
+pub fn verdict_word(closed: bool) -> &'static [u8]
     ensures { result.now ≡ (if closed then codes "closed" else codes "open") }
 {
     if closed { b"closed" } else { b"open" }

@@ -141,8 +141,10 @@ pub fn bound_of<R: Threads + Sync>(
     requires loads { length loads.now ≡ length on.now.net.now.cells }
     requires small { All (λ x. x ≤ MAX_LENGTH) loads.now }
     requires lengths { length lengths.old ≡ length on.now.net.now.cells }
-    ensures dual { IfOk result (λ b. IsBoundOf on.now.net.now (lengths_of on.now.net.now setting.now loads.now) b.dual) }
-    ensures shows { IfOk result (λ b. ShowsBound on.now.net.now (lengths_of on.now.net.now setting.now loads.now) b.dual) }
+    ensures dual { IfOk result (λ b. IsBoundOf on.now.net.now
+        (lengths_of on.now.net.now setting.now loads.now) b.dual) }
+    ensures shows { IfOk result (λ b. ShowsBound on.now.net.now
+        (lengths_of on.now.net.now setting.now loads.now) b.dual) }
     ensures value { IfOk result (λ b. b.value ≡ upper_of on.now.net.now b.dual) }
 {
     on.powers.lengths(on.net, setting, loads, lengths);

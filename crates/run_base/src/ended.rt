@@ -1,31 +1,65 @@
 //! How a run ends.
 
 use flow_solver::Solved;
+use hop_check::HopProof;
+use throughput::PartProof;
 
 /// What a run hands out beside its text.
 #[derive(Drop)]
 pub struct Found {
     /// What was solved, where a solve was written.
     pub solved: Option<Solved>,
+    /// The certificate with hop limits, where one was made and written.
+    pub hops: Option<HopProof>,
+    /// The certificate of a total, where one was made and written.
+    pub part: Option<PartProof>,
 }
 
 impl Found {
     ghost use Rattle.std.specs.Prelude.{◌≡◌};
-    ghost use Rattle.run_base.specs.Found.{nothing};
+    ghost use Rattle.run_base.specs.Found.{nothing, found_hops, found_part, found_solve};
 
     /// Nothing.
     pub fn nothing() -> Self
         ensures { result ≡ nothing }
     {
-        Found { solved: None }
+        Found {
+            solved: None,
+            hops: None,
+            part: None,
+        }
     }
 
     /// A solve.
     pub fn solve(solved: Solved) -> Self
-        ensures { result ≡ record { solved = Some solved } }
+        ensures { result ≡ found_solve solved }
     {
         Found {
             solved: Some(solved),
+            hops: None,
+            part: None,
+        }
+    }
+
+    /// A certificate with hop limits.
+    pub fn hop_proof(proof: HopProof) -> Self
+        ensures { result ≡ found_hops proof }
+    {
+        Found {
+            solved: None,
+            hops: Some(proof),
+            part: None,
+        }
+    }
+
+    /// A certificate of a total.
+    pub fn part_proof(proof: PartProof) -> Self
+        ensures { result ≡ found_part proof }
+    {
+        Found {
+            solved: None,
+            hops: None,
+            part: Some(proof),
         }
     }
 }

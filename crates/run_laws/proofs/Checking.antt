@@ -43,6 +43,7 @@ use Rattle.run_base.specs.declared.ended.Ended.{Ended}
 use Rattle.run_base.specs.declared.outcome.Paper.TheVariants as kinds
 use Rattle.run_base.specs.declared.outcome.Outcome.TheVariants as outcomes
 use Rattle.run_base.specs.Answer.{Answer, IsGiven, Writes, answer_of, cut_off, ended_of}
+use Rattle.run_base.specs.Found.{found_solve}
 use Rattle.run_base.specs.Files.{Ends, OfFile}
 use Rattle.run_solves.specs.Solve.{asked_of, solve_answer, solving_answer, SolvesRows}
 use Rattle.run_certs.specs.Check.{OnTexts, OfCheck, judged_answer}
@@ -81,7 +82,7 @@ record IsSolve (files : Holding) (request : Request) (text : List ℕ) (ended : 
   pub solved : SolvedView
   pub done : IsDone rows request.net (asked_of request) net solved
   pub text_is : text ≡ certificate_text (sheet_of rows net) solved.proof
-  pub found : ended.found ≡ record { solved = Some solved }
+  pub found : ended.found ≡ found_solve solved
 
 -- ---- the first run
 

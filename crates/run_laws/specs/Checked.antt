@@ -23,6 +23,7 @@ use Rattle.mcf_words.specs.declared.request.Request.{Request}
 use Rattle.mcf_words.specs.Request.{request_of}
 use Rattle.run_base.specs.declared.ended.Ended.{Ended}
 use Rattle.run_base.specs.declared.outcome.Outcome.TheVariants.{Memory}
+use Rattle.run_base.specs.Found.{found_solve}
 use Rattle.run_base.specs.Answer.{IsGiven, answer_of}
 use Rattle.run_solves.specs.Solve.{asked_of}
 use Rattle.run_certs.specs.Check.{judged_answer}
@@ -80,7 +81,7 @@ pub record ChecksAs (files : Holding) (solve : Request) (first : Ended) (before 
   pub net : ScaledNet
   pub solved : SolvedView
   pub done : IsDone rows solve.net (asked_of solve) net solved
-  pub found : first.found ≡ record { solved = Some solved }
+  pub found : first.found ≡ found_solve solved
   pub told : IsToldValid net solved.proof before after second
 
 -- whatever a run of `solve` wrote, `check` calls valid

@@ -14,7 +14,7 @@ use Rattle.net_solve.specs.Solving.{IsDone}
 use Rattle.net_solve.specs.Tally.{total_of, routes_of, carried_of}
 use Rattle.mcf_words.specs.declared.request.Request.{Request}
 use Rattle.run_base.specs.declared.outcome.Outcome.TheVariants.{TooMuch as TooMuchWork}
-use Rattle.run_base.specs.Found.{nothing}
+use Rattle.run_base.specs.Found.{nothing, found_solve}
 use Rattle.run_base.specs.Judged.{verdict_word}
 use Rattle.run_base.specs.Answer.{Answer, answer_of}
 use Rattle.run_solves.specs.Solve.{asked_of}
@@ -40,7 +40,7 @@ abbrev pub trial_line : ℕ → Network → SolvedView → Answer
 trial_line links net s = record {
   status = if s.proof.closed then 0 else 1;
   text = spelled (trial_words links net s);
-  found = record { solved = Some s };
+  found = found_solve s;
 }
 
 -- how many links the network that is drawn has

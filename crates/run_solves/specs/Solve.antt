@@ -12,6 +12,7 @@ use Rattle.net_solve.specs.declared.solving.Solving.TheVariants.{Refused, TooMuc
 use Rattle.net_solve.specs.Solving.{IsSolving}
 use Rattle.mcf_words.specs.declared.request.Request.{Request}
 use Rattle.run_base.specs.declared.outcome.Outcome.TheVariants.{NetRefused, TooMuch as TooMuchWork}
+use Rattle.run_base.specs.Found.{found_solve}
 use Rattle.run_base.specs.Answer.{Answer, answer_of}
 use Rattle.run_base.specs.Files.{Ends, OfNet}
 
@@ -21,7 +22,7 @@ asked_of request = record { gap = request.gap; phases = request.phases; workers 
 
 -- the certificate of a solve of these rows, with status 0 where it is closed and 1 where it is open
 abbrev pub solve_answer : NetRows → ScaledNet → SolvedView → Answer
-solve_answer rows net s = record { status = if s.proof.closed then 0 else 1; text = certificate_text (sheet_of rows net) s.proof; found = record { solved = Some s } }
+solve_answer rows net s = record { status = if s.proof.closed then 0 else 1; text = certificate_text (sheet_of rows net) s.proof; found = found_solve s }
 
 -- the first refusal of the rows, the work where it is too much, or the certificate
 abbrev pub solving_answer : NetRows → Solving → Answer

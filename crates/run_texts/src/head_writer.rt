@@ -7,16 +7,9 @@ ghost use Rattle.cert_lines.specs.Spelling.{verdict_words, links_words, modules_
 ghost use Rattle.run_texts.specs.Heads.{head_lines};
 
 use cert_lines::Names;
-use cert_writer::{put_counts, put_lines, put_modes};
+use cert_writer::{put_counts, put_lines, put_modes, verdict_word};
 use mcf_base::{Sink, WriteFault};
 use text_lines::Buffer;
-
-// Whether the verdict is closed, as a word.
-fn verdict_word(closed: bool) -> &'static [u8]
-    ensures { result.now ≡ (if closed then codes "closed" else codes "open") }
-{
-    if closed { b"closed" } else { b"open" }
-}
 
 // Puts the first line.
 fn put_header<'a, K: Sink>(

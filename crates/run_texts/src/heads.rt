@@ -10,10 +10,10 @@ ghost use Rattle.cert_text.specs.Reading.{next_line};
 ghost use Rattle.cert_text.specs.Whole.{link_mode_line, module_mode_line, modes_behind};
 ghost use Rattle.run_texts.specs.Heads.{header_at, run_head};
 
-use cert_lines::{CertKind, CertRefusal, is_fixed, one_behind, verdict_line};
-use cert_text::{Place, split};
+use cert_lines::{CertKind, CertRefusal, Form, is_fixed};
+use cert_text::{Place, modes_behind, next_verdict, split};
 use mcf_limits::MAX_CERT_BYTES;
-use unit_scale::{LinkMode, ModuleMode, NetOptions, link_mode_of, module_mode_of};
+use unit_scale::NetOptions;
 
 // The header of a certificate with hop limits.
 pub const HOPS: &[u8] = b"mcf-hops 1";
@@ -47,133 +47,6 @@ pub fn header_at<'a>(known: &[u8], text: &'a [u8]) -> Result<Place<'a>, CertRefu
     }
 }
 
-const LINKS: &[u8] = b"links";
-
-const MODULES: &[u8] = b"modules";
-
-#[tactic(auto, unfolding(cert_text::specs::Whole::link_mode_line))]
-fn link_mode_line(line: &[u8]) -> Result<LinkMode, CertKind>
-    ensures { result ≡ link_mode_line Second (words_of line.now) }
-{
-    let word = match one_behind(LINKS, line) {
-        Some(word) => word,
-        None => return Err(CertKind::Syntax),
-    };
-    match link_mode_of(word) {
-        Some(mode) => Ok(mode),
-        None => Err(CertKind::Syntax),
-    }
-}
-
-#[tactic(auto, unfolding(cert_text::specs::Whole::module_mode_line))]
-fn module_mode_line(line: &[u8]) -> Result<ModuleMode, CertKind>
-    ensures { result ≡ module_mode_line (words_of line.now) }
-{
-    let word = match one_behind(MODULES, line) {
-        Some(word) => word,
-        None => return Err(CertKind::Syntax),
-    };
-    match module_mode_of(word) {
-        Some(mode) => Ok(mode),
-        None => Err(CertKind::Syntax),
-    }
-}
-
-// Whether the verdict is closed, and the place behind that line.
-#[tactic(auto, using(cert_text::proofs::LineSteps::has_line), unfolding(cert_text::specs::Reading::next_line))]
-fn next_verdict(place: Place<'_>) -> Result<(bool, Place<'_>), CertRefusal>
-    requires { HasRoom place }
-    ensures exact { seen (λ x. (x.0, place_view x.1)) result
-        ≡ next_line verdict_line (place_view place.entry) }
-    ensures room { IfOk result (λ x. HasRoom x.1) }
-{
-    let (line, after) = match split(place) {
-        Some(parts) => parts,
-        None => {
-            return Err(CertRefusal {
-                line: place.at,
-                kind: CertKind::Syntax,
-            });
-        }
-    };
-    match verdict_line(line) {
-        Ok(value) => Ok((value, after)),
-        Err(kind) => Err(CertRefusal {
-            line: place.at,
-            kind,
-        }),
-    }
-}
-
-// How links are read, and the place behind that line.
-#[tactic(auto, using(cert_text::proofs::LineSteps::has_line), unfolding(cert_text::specs::Reading::next_line))]
-fn next_links(place: Place<'_>) -> Result<(LinkMode, Place<'_>), CertRefusal>
-    requires { HasRoom place }
-    ensures exact { seen (λ x. (x.0, place_view x.1)) result
-        ≡ next_line (link_mode_line Second) (place_view place.entry) }
-    ensures room { IfOk result (λ x. HasRoom x.1) }
-{
-    let (line, after) = match split(place) {
-        Some(parts) => parts,
-        None => {
-            return Err(CertRefusal {
-                line: place.at,
-                kind: CertKind::Syntax,
-            });
-        }
-    };
-    match link_mode_line(line) {
-        Ok(value) => Ok((value, after)),
-        Err(kind) => Err(CertRefusal {
-            line: place.at,
-            kind,
-        }),
-    }
-}
-
-// How modules are read, and the place behind that line.
-#[tactic(auto, using(cert_text::proofs::LineSteps::has_line), unfolding(cert_text::specs::Reading::next_line))]
-fn next_modules(place: Place<'_>) -> Result<(ModuleMode, Place<'_>), CertRefusal>
-    requires { HasRoom place }
-    ensures exact { seen (λ x. (x.0, place_view x.1)) result
-        ≡ next_line module_mode_line (place_view place.entry) }
-    ensures room { IfOk result (λ x. HasRoom x.1) }
-{
-    let (line, after) = match split(place) {
-        Some(parts) => parts,
-        None => {
-            return Err(CertRefusal {
-                line: place.at,
-                kind: CertKind::Syntax,
-            });
-        }
-    };
-    match module_mode_line(line) {
-        Ok(value) => Ok((value, after)),
-        Err(kind) => Err(CertRefusal {
-            line: place.at,
-            kind,
-        }),
-    }
-}
-
-// How links and modules are read, and the place behind both lines.
-#[tactic(auto, unfolding(cert_text::specs::Whole::modes_behind))]
-fn modes_behind(place: Place<'_>) -> Result<(NetOptions, Place<'_>), CertRefusal>
-    requires { HasRoom place }
-    ensures { seen (λ x. (x.0, place_view x.1)) result
-        ≡ modes_behind Second (place_view place.entry) }
-{
-    let (links, place) = match next_links(place) {
-        Ok(read) => read,
-        Err(refusal) => return Err(refusal),
-    };
-    match next_modules(place) {
-        Ok((modules, place)) => Ok((NetOptions { links, modules }, place)),
-        Err(refusal) => Err(refusal),
-    }
-}
-
 // The options that lines 1 to 4 of a text of that header say.
 #[tactic(auto, unfolding(crate::specs::Heads::run_head))]
 fn run_head(known: &[u8], text: &[u8]) -> Result<NetOptions, CertRefusal>
@@ -188,7 +61,7 @@ fn run_head(known: &[u8], text: &[u8]) -> Result<NetOptions, CertRefusal>
         Ok(read) => read,
         Err(refusal) => return Err(refusal),
     };
-    match modes_behind(place) {
+    match modes_behind(Form::Second, place) {
         Ok((modes, _)) => Ok(modes),
         Err(refusal) => Err(refusal),
     }

@@ -8,37 +8,15 @@ ghost use Rattle.cert_text.specs.Views.{place_view, HasRoom};
 ghost use Rattle.cert_text.specs.Reading.{Gives, rows_at};
 ghost use Rattle.run_texts.specs.HopsRead.{with_count, layer_row};
 
-use cert_lines::{CertEnd, CertKind, Names, begins, number_within, potentials_of, row_behind};
+use cert_lines::{
+    CertEnd, CertKind, Names, begins, count_of, number_within, potentials_of, row_behind,
+};
 use cert_text::{Place, refused, split};
 use hop_check::Layers;
 use mcf_limits::{MAX_HOPS, MAX_LENGTH};
 use std::alloc::Global;
 
 const LAYER: &[u8] = b"layer";
-
-fn spaces(line: &[u8]) -> usize
-    ensures { result ≡ count_by (λ b. b == 32) line.now }
-{
-    line.iter().filter(|b| **b == 32).count()
-}
-
-// How many words the line has.
-#[tactic(auto, using(cert_lines::proofs::LineForms::words_count))]
-fn words_of_line(line: &[u8]) -> usize
-    ensures { result ≡ length (words_of line.now) }
-{
-    spaces(line) + 1
-}
-
-// How many words there are.
-fn count_of(words: Option<&[u8]>) -> usize
-    ensures { result ≡ length (words_in (option_map (λ w. w.now) words.entry)) }
-{
-    match words {
-        Some(line) => words_of_line(line),
-        None => 0,
-    }
-}
 
 // The two words behind the keyword and that many words, none of them empty.
 fn row_of_count(count: usize, line: &[u8]) -> Option<(&[u8], &[u8], Option<&[u8]>)>

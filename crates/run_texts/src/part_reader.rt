@@ -14,8 +14,8 @@ use cert_text::{Place, closing, next_figures, next_opening, next_value, refused,
 use flow_paths::{Printed, Routing};
 use gap_fraction::MAX_PART;
 use mcf_limits::{MAX_CERT_BYTES, MAX_LENGTH};
-use throughput::{PartDual, PartProof};
 use std::alloc::Global;
+use throughput::{PartDual, PartProof};
 
 const LOWER: &[u8] = b"lower";
 

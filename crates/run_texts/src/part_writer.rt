@@ -10,8 +10,8 @@ use crate::head_writer::put_head;
 use cert_lines::Names;
 use cert_writer::{put_end, put_lengths, put_lines, put_paths, put_potentials};
 use mcf_base::{Sink, WriteFault};
-use throughput::PartProof;
 use text_lines::{Buffer, Word};
+use throughput::PartProof;
 
 // Puts the lines of the gap, the phases, the scale, the two fractions and the threshold.
 fn put_totals<K: Sink>(
