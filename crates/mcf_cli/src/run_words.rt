@@ -10,6 +10,8 @@ use mcf_words::{Command, Request, WordsEnd, read_words};
 use run_base::{Ended, Outcome, tell};
 use run_batches::{BatchFiles, batch};
 use run_certs::{check, tighten, upgrade, whatif_files};
+use run_hops::checkhops;
+use run_parts::checkthroughput;
 use run_solves::{gen_net, print, solve_file, trial};
 use run_sweeps::{sweep, sweepsolve};
 use std::alloc::Global;
@@ -72,6 +74,20 @@ fn run_command<F: Shelf, K: Sink, G: Gate, R: Threads + Sync>(
         Command::SweepSolve => {
             sweepsolve(rt, alloc, shelf, out, request.names.name(0), request, gate)
         }
+        Command::CheckHops => checkhops(
+            alloc,
+            shelf,
+            out,
+            request.names.name(0),
+            request.names.name(1),
+        ),
+        Command::CheckThroughput => checkthroughput(
+            alloc,
+            shelf,
+            out,
+            request.names.name(0),
+            request.names.name(1),
+        ),
         Command::Print => print(alloc, shelf, out, request.names.name(0)),
         Command::Gen => gen_net(alloc, out, request),
         Command::Trial => trial(rt, alloc, out, request, gate),

@@ -61,9 +61,17 @@ use Rattle.run_sweeps.specs.SweepSolve.{solves_answer, sweep_asked_of, SolvesLin
 use Rattle.run_sweeps.specs.declared.swept.Swept.{Swept}
 use Rattle.run_certs.specs.WhatIf.{scripted_answer, OnScript, OnCertified, OnCertificate, OfWhatIf}
 use Rattle.run_solves.specs.Drawn.{links_drawn, net_drawn, gen_answer, trial_line, OfTrial}
+use Rattle.text_lines.specs.Lines.{Line}
+use Rattle.cert_judge.specs.Papers.{nothing_more}
+use Rattle.hop_check.specs.declared.hop_proof.HopProof.{HopProof}
+use Rattle.throughput.specs.declared.part_proof.PartProof.{PartProof}
+use Rattle.run_texts.specs.Heads.{run_head}
+use Rattle.run_hops.specs.Check as hops
+use Rattle.run_parts.specs.Check as parts
 use Rattle.mcf_cli.specs.Run.{file_at, file_if, OfCommand}
-use Rattle.run_laws.specs.Accepted.{IsSolvable, IsSweepSolvable, IsListFile, IsPaperFile, IsScriptFile, IsSecondFile, AcceptsPrint, AcceptsSolve, AcceptsSweepSolve, AcceptsBatch, AcceptsCheck, AcceptsTighten, AcceptsUpgrade, AcceptsWhatIf, AcceptsTrial, Accepts}
+use Rattle.run_laws.specs.Accepted.{IsSolvable, IsSweepSolvable, IsListFile, IsPaperFile, IsScriptFile, IsSecondFile, AcceptsPrint, AcceptsSolve, AcceptsSweepSolve, AcceptsBatch, AcceptsCheck, AcceptsTighten, AcceptsUpgrade, AcceptsWhatIf, AcceptsTrial, AcceptsCheckHops, AcceptsCheckThroughput, Accepts}
 use Rattle.run_laws.proofs.Given.{Memories, of_text, of_rows}
+use Rattle.run_laws.proofs.Kinds.{kind_low}
 
 -- reading answers one thing
 clash : {T E : Type 0} (r : Result T E) (x : T) (e : E) → r ≡ Ok x → r ≡ Err e → ⊥
@@ -327,6 +335,34 @@ batch_low files request old new answer tells calm (rows, given, file) of =
     (λ on. then_low answer (of_text MAX_LIST_BYTES kinds.List files list file.text (λ text. Ends (OnList request rows text)) (with_file old first) new answer tells calm file.given on)
     (λ last. ends_low (OnList request rows file.text) (with_file (with_file old first) list) new answer (λ e. list_low files list rows request answer file e) last))
 
+-- ---- checkhops and checkthroughput
+
+hops_said : (rows : NetRows) (net : ScaledNet) (h : HopProof) (judged : Judged) → hops.SaysHops rows net h judged → (answer_of (outcomes.Judged judged)).status ≤ 1
+hops_said rows net h (judges.Invalid fault) is = omega arith
+hops_said rows net h (judges.Valid options closed lower upper) is = omega arith
+hops_said rows net h (judges.NetRefused x) is = absurd is
+hops_said rows net h (judges.CertRefused x) is = absurd is
+hops_said rows net h (judges.Feasible o v) is = absurd is
+
+check_hops_low : (files : Holding) (request : Request) (old new : ShelfView) (answer : Answer) → old.holds ≡ Some files → ¬ (Rose old.faults.count new.faults.count)
+    → AcceptsCheckHops files request → hops.OfCheckHops (file_at request 0) (file_at request 1) old new answer → Low answer
+check_hops_low files request old new answer tells calm (rows, given, net, h, file) of =
+    kind_low hops.too_far hops.rest_of (λ (lines : List Line). run_head (codes "mcf-hops 1") lines) hops.SaysHops hops_said
+    files (file_at request 0) (file_at request 1) rows net h file.text old new answer tells calm given file.given file.read of
+
+part_said : (rows : NetRows) (net : ScaledNet) (p : PartProof) (judged : Judged) → parts.SaysPart net p judged → (answer_of (outcomes.Judged judged)).status ≤ 1
+part_said rows net p (judges.Invalid fault) is = omega arith
+part_said rows net p (judges.Valid options closed lower upper) is = omega arith
+part_said rows net p (judges.NetRefused x) is = absurd is
+part_said rows net p (judges.CertRefused x) is = absurd is
+part_said rows net p (judges.Feasible o v) is = absurd is
+
+check_part_low : (files : Holding) (request : Request) (old new : ShelfView) (answer : Answer) → old.holds ≡ Some files → ¬ (Rose old.faults.count new.faults.count)
+    → AcceptsCheckThroughput files request → parts.OfCheckThroughput (file_at request 0) (file_at request 1) old new answer → Low answer
+check_part_low files request old new answer tells calm (rows, given, net, p, file) of =
+    kind_low (λ (rows : NetRows). nothing_more) parts.rest_of (λ (lines : List Line). run_head (codes "mcf-throughput 1") lines) (λ (rows : NetRows). parts.SaysPart) part_said
+    files (file_at request 0) (file_at request 1) rows net p file.text old new answer tells calm given file.given file.read of
+
 -- ---- all commands
 
 pub command_low : (command : Command) (files : Holding) (request : Request) (old new : ShelfView) (answer : Answer) → old.holds ≡ Some files → ¬ (Rose old.faults.count new.faults.count)
@@ -339,6 +375,8 @@ command_low commands.Tighten files request old new answer tells calm accepts of 
 command_low commands.Batch files request old new answer tells calm accepts of = batch_low files request old new answer tells calm accepts of
 command_low commands.Sweep files request old new answer tells calm accepts of = sweep_low files request old new answer tells calm accepts of
 command_low commands.SweepSolve files request old new answer tells calm accepts of = sweepsolve_low files request old new answer tells calm accepts of
+command_low commands.CheckHops files request old new answer tells calm accepts of = check_hops_low files request old new answer tells calm accepts of
+command_low commands.CheckThroughput files request old new answer tells calm accepts of = check_part_low files request old new answer tells calm accepts of
 command_low commands.Print files request old new answer tells calm accepts of = print_low files request old new answer tells calm accepts of
 command_low commands.Gen files request old new answer tells calm accepts of = ends_low (λ given. given ≡ gen_answer request.numbers) old new answer (λ e. status_is answer (gen_answer request.numbers) e (omega arith)) of
 command_low commands.Trial files request old new answer tells calm accepts of = ends_low (OfTrial request) old new answer (λ e. trial_low request answer accepts e) of

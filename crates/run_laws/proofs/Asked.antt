@@ -66,11 +66,16 @@ use Rattle.run_sweeps.specs.Sweep.{sweep_answer, OnSweep, OfSwept, OfSweep}
 use Rattle.run_sweeps.specs.SweepSolve.{sweep_asked_of, OnScaled, OnSweepSolve, OfSweepSolve}
 use Rattle.run_certs.specs.WhatIf.{scripted_answer, OnScript, OnCertified, OnCertificate, OfWhatIf}
 use Rattle.run_solves.specs.Drawn.{OfTrial}
+use Rattle.cert_judge.specs.Papers.{nothing_more}
+use Rattle.run_texts.specs.Heads.{run_head}
+use Rattle.run_hops.specs.Check as hops
+use Rattle.run_parts.specs.Check as parts
 use Rattle.mcf_cli.specs.Run.{file_at, file_if, OfCommand, OfRequest, IsAnswer, RunEnds}
-use Rattle.run_laws.specs.Accepted.{IsSolvable, IsSweepSolvable, IsListFile, IsNetFile, IsPaperFile, IsScriptFile, IsSecondFile, AcceptsPrint, AcceptsSolve, AcceptsSweepSolve, AcceptsBatch, AcceptsCheck, AcceptsTighten, AcceptsUpgrade, AcceptsWhatIf, AcceptsTrial, Accepts, IsAccepted}
+use Rattle.run_laws.specs.Accepted.{IsSolvable, IsSweepSolvable, IsListFile, IsNetFile, IsPaperFile, IsScriptFile, IsSecondFile, AcceptsPrint, AcceptsSolve, AcceptsSweepSolve, AcceptsBatch, AcceptsCheck, AcceptsTighten, AcceptsUpgrade, AcceptsWhatIf, AcceptsTrial, AcceptsCheckHops, AcceptsCheckThroughput, Accepts, IsAccepted}
 use Rattle.run_laws.specs.Whole.{HasNoFault, EndsWhole}
 use Rattle.run_laws.proofs.Given.{not_full, text_of_file, rows_of_file, ends_full}
 use Rattle.run_laws.proofs.Answered.{Low, command_low}
+use Rattle.run_laws.proofs.Kinds.{judged_full, kind_accepts}
 
 -- ---- a run of accepted words and files
 
@@ -118,11 +123,6 @@ trial_accepts request answer full (rows, read, inl (n, is, same)) = absurd (not_
 trial_accepts request answer full (rows, read, inr (s, done, same)) = done.work
 
 -- ---- check
-
--- a line of status 0 or 1 tells no refusal
-judged_full : (judged : Judged) → (answer_of (outcomes.Judged judged)).status ≤ 1 → (r : Refusal) → judged ≡ refused r → ⊥
-judged_full judged low (Net r) e = not_full (answer_of (outcomes.Judged judged)) (outcomes.Judged (judges.NetRefused r)) (ap (λ (j : Judged). answer_of (outcomes.Judged j)) e) low (omega arith)
-judged_full judged low (Cert r) e = not_full (answer_of (outcomes.Judged judged)) (outcomes.Judged (judges.CertRefused r)) (ap (λ (j : Judged). answer_of (outcomes.Judged j)) e) low (omega arith)
 
 check_accepts : (files : Holding) (request : Request) (old new : ShelfView) (answer : Answer) → old.holds ≡ Some files → answer.status ≤ 1 → OfCheck (file_at request 0) (file_at request 1) old new answer → AcceptsCheck files request
 check_accepts files request old new answer tells full of =
@@ -381,6 +381,21 @@ batch_accepts files request old new answer tells full of =
     let on : OnList request r.0 t.0 answer = ends_full (OnList request r.0 t.0) (with_file (with_file old first) list) new answer full t.2 in
     (r.0, r.1, list_can files list r.0 request answer t.0 full t.1 on.0 on.1 on.2)
 
+-- ---- checkhops and checkthroughput
+
+check_hops_accepts : (files : Holding) (request : Request) (old new : ShelfView) (answer : Answer) → old.holds ≡ Some files → answer.status ≤ 1
+    → hops.OfCheckHops (file_at request 0) (file_at request 1) old new answer → AcceptsCheckHops files request
+check_hops_accepts files request old new answer tells full of =
+    let k = kind_accepts hops.too_far hops.rest_of (λ (lines : List Line). run_head (codes "mcf-hops 1") lines) hops.SaysHops files (file_at request 0) (file_at request 1) old new answer tells full of in
+    (k.0, k.1, k.2.0, k.2.1, record { text = k.2.2.0; given = k.2.2.1; read = k.2.2.2 })
+
+check_part_accepts : (files : Holding) (request : Request) (old new : ShelfView) (answer : Answer) → old.holds ≡ Some files → answer.status ≤ 1
+    → parts.OfCheckThroughput (file_at request 0) (file_at request 1) old new answer → AcceptsCheckThroughput files request
+check_part_accepts files request old new answer tells full of =
+    let k = kind_accepts (λ (rows : NetRows). nothing_more) parts.rest_of (λ (lines : List Line). run_head (codes "mcf-throughput 1") lines) (λ (rows : NetRows). parts.SaysPart)
+        files (file_at request 0) (file_at request 1) old new answer tells full of in
+    (k.0, k.1, k.2.0, k.2.1, record { text = k.2.2.0; given = k.2.2.1; read = k.2.2.2 })
+
 -- ---- all commands
 
 command_accepts : (command : Command) (files : Holding) (request : Request) (old new : ShelfView) (answer : Answer) → old.holds ≡ Some files → answer.status ≤ 1 → OfCommand command request old new answer → Accepts command files request
@@ -392,6 +407,8 @@ command_accepts commands.Tighten files request old new answer tells full of = ti
 command_accepts commands.Batch files request old new answer tells full of = batch_accepts files request old new answer tells full of
 command_accepts commands.Sweep files request old new answer tells full of = sweep_accepts files request old new answer tells full of
 command_accepts commands.SweepSolve files request old new answer tells full of = sweepsolve_accepts files request old new answer tells full of
+command_accepts commands.CheckHops files request old new answer tells full of = check_hops_accepts files request old new answer tells full of
+command_accepts commands.CheckThroughput files request old new answer tells full of = check_part_accepts files request old new answer tells full of
 command_accepts commands.Print files request old new answer tells full of = print_accepts files request old new answer tells full of
 command_accepts commands.Gen files request old new answer tells full of = tt
 command_accepts commands.Trial files request old new answer tells full of = trial_accepts request answer full (ends_full (OfTrial request) old new answer full of)

@@ -1,5 +1,6 @@
 pub mod Named
 pub mod Given
+pub mod Kinds
 pub mod Answered
 pub mod Asked
 pub mod Starting

@@ -49,6 +49,8 @@ use Rattle.run_sweeps.specs.SweepSolve.{solves_answer, sweep_asked_of, OnScaled,
 use Rattle.run_sweeps.specs.declared.swept.Swept.{Swept}
 use Rattle.run_sweeps.specs.declared.asked.SweepAsked.{SweepAsked}
 use Rattle.run_certs.specs.WhatIf.{scripted_answer, OnScript, OnCertified, OnCertificate}
+use Rattle.run_hops.specs.Check as hops
+use Rattle.run_parts.specs.Check as parts
 use Rattle.mcf_cli.specs.Run.{file_at, file_if, OfCommand, OfRequest, IsAnswer, RunEnds}
 use Rattle.run_laws.specs.Started.{FailsAtOne, Starts, StartsItsFiles, files_in}
 use Rattle.mcf_words.proofs.Counted.{names_count}
@@ -264,6 +266,18 @@ command_went commands.Sweep request old new answer of =
 command_went commands.SweepSolve request old new answer of =
     net_went (file_at request 0) [] (λ rows. Ends (OnSweepSolve request rows)) old new answer
     (λ rows on. ends_went (OnSweepSolve request rows) (with_file old (file_at request 0)) new answer (λ s. solves_calm rows (sweep_asked_of request) answer (scaled_of rows request.net) s) on) of
+command_went commands.CheckHops request old new answer of =
+    let first = file_at request 0 in
+    let cert = file_at request 1 in
+    net_went first (cert ∷ []) (λ rows. OfFile MAX_CERT_BYTES kinds.Certificate cert (λ text. Ends (hops.OnHopTexts rows text))) old new answer
+    (λ rows on. file_went MAX_CERT_BYTES kinds.Certificate cert [] (λ text. Ends (hops.OnHopTexts rows text)) (with_file old first) new answer
+    (λ text last. ends_went (hops.OnHopTexts rows text) (with_file (with_file old first) cert) new answer (λ j. same_calm answer (judged_answer j.0) j.2 (judged_low j.0)) last) on) of
+command_went commands.CheckThroughput request old new answer of =
+    let first = file_at request 0 in
+    let cert = file_at request 1 in
+    net_went first (cert ∷ []) (λ rows. OfFile MAX_CERT_BYTES kinds.Certificate cert (λ text. Ends (parts.OnPartTexts rows text))) old new answer
+    (λ rows on. file_went MAX_CERT_BYTES kinds.Certificate cert [] (λ text. Ends (parts.OnPartTexts rows text)) (with_file old first) new answer
+    (λ text last. ends_went (parts.OnPartTexts rows text) (with_file (with_file old first) cert) new answer (λ j. same_calm answer (judged_answer j.0) j.2 (judged_low j.0)) last) on) of
 command_went commands.WhatIf request old new answer of =
     let first = file_at request 0 in
     let cert = file_at request 1 in

@@ -1,5 +1,5 @@
 -- When the words of a run are in the grammar, and each file that it reads is accepted.
-use Rattle.std.specs.Prelude.{◌≡◌, ℕ, List, length, Option, Some, None, Ok}
+use Rattle.std.specs.Prelude.{◌≡◌, ℕ, List, length, Option, Some, None, Ok, codes}
 use Rattle.mcf_limits.specs.declared.TheConstants.{MAX_NET_BYTES, MAX_CERT_BYTES, MAX_LIST_BYTES, MAX_SCRIPT_BYTES}
 use Rattle.mcf_base.specs.Shelf.{Holding}
 use Rattle.text_lines.specs.Lines.{lines_of}
@@ -8,12 +8,19 @@ use Rattle.flow_paths.specs.Certificate.{IsValid}
 use Rattle.sndlib_grammar.specs.Rows.{NetRows}
 use Rattle.sndlib_grammar.specs.Net.{rows_of}
 use Rattle.unit_scale.specs.Scaling.{ScaledNet, scaled_of}
+use Rattle.unit_scale.specs.declared.options.NetOptions.{NetOptions}
 use Rattle.cert_lines.specs.Sheet.{sheets_of}
 use Rattle.cert_text.specs.declared.opening.CertHead.{CertHead}
 use Rattle.cert_text.specs.declared.papers.Paper.{Paper}
 use Rattle.cert_text.specs.declared.papers.Paper.TheVariants.{Full}
 use Rattle.cert_text.specs.Whole.{head_in, paper_in}
-use Rattle.cert_judge.specs.Papers.{options_of}
+use Rattle.cert_judge.specs.Papers.{nothing_more, options_of}
+use Rattle.cert_judge.specs.Chain.{AreStages}
+use Rattle.hop_check.specs.declared.hop_proof.HopProof.{HopProof}
+use Rattle.throughput.specs.declared.part_proof.PartProof.{PartProof}
+use Rattle.run_texts.specs.Heads.{run_head}
+use Rattle.run_hops.specs.Check as hops
+use Rattle.run_parts.specs.Check as parts
 use Rattle.net_solve.specs.Asked.{IsTooMuch}
 use Rattle.run_sweeps.specs.Asked.{IsSweepTooMuch}
 use Rattle.matrix_batch.specs.Matrices.{Matrix}
@@ -21,7 +28,7 @@ use Rattle.matrix_batch.specs.Batch.{IsBatch, IsBatchTooMuch}
 use Rattle.script.specs.declared.step.Step.{Step}
 use Rattle.script.specs.Reading.{script_of}
 use Rattle.mcf_words.specs.declared.request.Command.{Command}
-use Rattle.mcf_words.specs.declared.request.Command.TheVariants.{Solve, Check, WhatIf, Upgrade, Tighten, Batch, Sweep, SweepSolve, Print, Gen, Trial}
+use Rattle.mcf_words.specs.declared.request.Command.TheVariants.{Solve, Check, WhatIf, Upgrade, Tighten, Batch, Sweep, SweepSolve, CheckHops, CheckThroughput, Print, Gen, Trial}
 use Rattle.mcf_words.specs.declared.request.Request.{Request}
 use Rattle.mcf_words.specs.Request.{request_of}
 use Rattle.mcf_base.specs.Reading.{IsText}
@@ -122,6 +129,34 @@ abbrev pub AcceptsBatch : Holding → Request → Type 0
 AcceptsBatch files request =
     (rows : NetRows) × IsNetFile files (file_at request 0) rows × IsListFile files (file_at request 1) rows request
 
+-- The file of that name is the text of this certificate with hop limits within its limit: its first lines are read, the rows are
+-- this network in whole units under the options that they say, no limit is too far, and the rest is read with the network's names.
+pub record IsHopsFile (files : Holding) (name : List ℕ) (rows : NetRows) (net : ScaledNet) (h : HopProof) : Type 0 where
+  pub text : List ℕ
+  pub given : IsText MAX_CERT_BYTES (Some files) name text
+  pub read : AreStages rows (λ (o : NetOptions). o) (hops.too_far rows) (hops.rest_of rows (lines_of text))
+      (run_head (codes "mcf-hops 1") (lines_of text)) net h
+
+-- a network, and a certificate with hop limits for it
+abbrev pub AcceptsCheckHops : Holding → Request → Type 0
+AcceptsCheckHops files request =
+    (rows : NetRows) × IsNetFile files (file_at request 0) rows
+    × (net : ScaledNet) × (h : HopProof) × IsHopsFile files (file_at request 1) rows net h
+
+-- The file of that name is the text of this certificate of a total within its limit: its first lines are read, the rows are this
+-- network in whole units under the options that they say, and the rest is read with the network's names.
+pub record IsPartFile (files : Holding) (name : List ℕ) (rows : NetRows) (net : ScaledNet) (p : PartProof) : Type 0 where
+  pub text : List ℕ
+  pub given : IsText MAX_CERT_BYTES (Some files) name text
+  pub read : AreStages rows (λ (o : NetOptions). o) nothing_more (parts.rest_of rows (lines_of text))
+      (run_head (codes "mcf-throughput 1") (lines_of text)) net p
+
+-- a network, and a certificate of a total for it
+abbrev pub AcceptsCheckThroughput : Holding → Request → Type 0
+AcceptsCheckThroughput files request =
+    (rows : NetRows) × IsNetFile files (file_at request 0) rows
+    × (net : ScaledNet) × (p : PartProof) × IsPartFile files (file_at request 1) rows net p
+
 -- no file is read; the work that is asked on the network that is drawn is within its limit
 abbrev pub AcceptsTrial : Request → Type 0
 AcceptsTrial request = (n : ℕ) → ¬ (IsTooMuch (net_drawn request).net (asked_of request) n)
@@ -136,6 +171,8 @@ Accepts Tighten files request = AcceptsTighten files request
 Accepts Batch files request = AcceptsBatch files request
 Accepts Sweep files request = AcceptsUpgrade files request
 Accepts SweepSolve files request = AcceptsSweepSolve files request
+Accepts CheckHops files request = AcceptsCheckHops files request
+Accepts CheckThroughput files request = AcceptsCheckThroughput files request
 Accepts Print files request = AcceptsPrint files request
 Accepts Gen files request = Unit {0}
 Accepts Trial files request = AcceptsTrial request

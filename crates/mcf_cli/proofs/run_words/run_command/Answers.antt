@@ -4,6 +4,8 @@ use Rattle.run_batches.specs.Batch.{OfBatch}
 use Rattle.run_certs.specs.Upgrade.{OfUpgrade}
 use Rattle.run_certs.specs.WhatIf.{OfWhatIf}
 use Rattle.run_sweeps.specs.Sweep.{OfSweep}
+use Rattle.run_hops.specs.Check.{OfCheckHops}
+use Rattle.run_parts.specs.Check.{OfCheckThroughput}
 use Rattle.mcf_cli.specs.Run.{file_at, file_if}
 use Rattle.mcf_cli.proofs.run_words.run_command.Goals as goal
 
@@ -41,6 +43,20 @@ returns-in-Sweep g c =
     let of : OfSweep (file_at c.args.request.now 0) (file_at c.args.request.now 1) (g.F.Shelf.seen c.args.shelf.now) (g.F.Shelf.seen c.sweep.new.shelf) told.0 =
     rw (c.name-in-Sweep.ensures, c.name-in-Sweep-2.ensures) at told.1 in
     rw c.in-Sweep.is (told.0, of, told.2)
+
+pub returns-in-CheckHops : goal.returns-in-CheckHops
+returns-in-CheckHops g c =
+    let told = c.checkhops.ensures in
+    let of : OfCheckHops (file_at c.args.request.now 0) (file_at c.args.request.now 1) (g.F.Shelf.seen c.args.shelf.now) (g.F.Shelf.seen c.checkhops.new.shelf) told.0 =
+    rw (c.name-in-CheckHops.ensures, c.name-in-CheckHops-2.ensures) at told.1 in
+    rw c.in-CheckHops.is (told.0, of, told.2)
+
+pub returns-in-CheckThroughput : goal.returns-in-CheckThroughput
+returns-in-CheckThroughput g c =
+    let told = c.checkthroughput.ensures in
+    let of : OfCheckThroughput (file_at c.args.request.now 0) (file_at c.args.request.now 1) (g.F.Shelf.seen c.args.shelf.now) (g.F.Shelf.seen c.checkthroughput.new.shelf) told.0 =
+    rw (c.name-in-CheckThroughput.ensures, c.name-in-CheckThroughput-2.ensures) at told.1 in
+    rw c.in-CheckThroughput.is (told.0, of, told.2)
 
 pub returns-in-WhatIf : goal.returns-in-WhatIf
 returns-in-WhatIf g c =
