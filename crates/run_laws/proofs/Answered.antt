@@ -1,6 +1,6 @@
 -- What each command answers to accepted files: an answer with status 0 or 1.
 use Rattle.std.proofs.Common.{◌≡◌, ℕ, ◌≤◌, Bool, true, false, List, [], ◌∷◌, Option, Some, None, Result, Ok, Err, inl, inr, ap, subst, sym, ◌∙◌, arith, refl}
-use Rattle.std.specs.Prelude.{◌⊎◌, if◌then◌else◌}
+use Rattle.std.specs.Prelude.{◌⊎◌, codes, if◌then◌else◌}
 use Rattle.std.specs.List.{list_all}
 use Rattle.mcf_limits.specs.declared.TheConstants.{MAX_CERT_BYTES, MAX_LIST_BYTES, MAX_SCRIPT_BYTES}
 use Rattle.mcf_base.specs.Faults.{Rose}

@@ -1,7 +1,7 @@
 -- A run of accepted words and files answers in full, and no other does.
 use Rattle.std.proofs.Common.{◌≡◌, ℕ, ◌≤◌, Bool, true, false, List, Option, Some, None, Result, Ok, Err, inl, inr, refl, ap, subst, ◌∙◌, arith}
 use Rattle.mcf_limits.specs.declared.TheConstants.{MAX_CERT_BYTES, MAX_LIST_BYTES, MAX_SCRIPT_BYTES}
-use Rattle.std.specs.Prelude.{◌⊎◌}
+use Rattle.std.specs.Prelude.{◌⊎◌, codes}
 use Rattle.mcf_base.specs.Reading.{IsText}
 use Rattle.mcf_base.specs.Shelf.{Holding, ShelfView, with_file}
 use Rattle.mcf_base.specs.Sink.{SinkView}
