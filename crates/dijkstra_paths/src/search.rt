@@ -28,7 +28,8 @@ pub struct Front {
     pub keys: Vec<u64>,
 }
 
-/// The lists of a front while it is searched: they lie in registers, which a `&mut` of their `Vec`s would not.
+/// The lists of a front as slices. Only inlined functions take them, so that they stay in registers while lists are
+/// written, where those of a `&mut Front` would be read again.
 #[derive(Drop)]
 struct FrontSlices<'a> {
     dist: &'a mut [u64],
@@ -169,6 +170,7 @@ pub fn search(graph: &Graph, lengths: &[u64], from: u16, front: &mut Front)
         keys,
     };
     search_slices(graph, lengths, from, &mut slices);
+    // the lists are read after the borrow, which tells what it leaves in them
     let _ = dist;
     let _ = steps;
     let _ = order;
