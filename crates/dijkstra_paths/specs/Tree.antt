@@ -5,6 +5,7 @@ use Rattle.flow_model.specs.Walk.{PassesOver}
 use Rattle.dijkstra_paths.specs.declared.graph.Arc.{Arc}
 use Rattle.dijkstra_paths.specs.declared.search.Step.{Step}
 use Rattle.dijkstra_paths.specs.declared.search.Front.{Front}
+use Rattle.dijkstra_paths.specs.declared.search.FrontSlices.{FrontSlices}
 use Rattle.dijkstra_paths.specs.Heap.{AreInverse}
 use Rattle.mcf_limits.specs.declared.TheConstants.{MAX_LENGTH}
 
@@ -29,12 +30,19 @@ abbrev pub IsDone : List Cell → List ℕ → List ℕ → ℕ → Type 0
 IsDone cells lengths dist u = (c x : ℕ) → PassesOver cells c u x → slice_index dist x ≤ slice_index dist u + slice_index lengths c
 
 -- each list has an item for each node, and the order is one of all nodes
-pub record IsFront (nodes : ℕ) (front : Front) : Type 0 where
-  pub dists : length front.dist.items ≡ nodes
-  pub steps : length front.steps.items ≡ nodes
-  pub orders : length front.order.items ≡ nodes
-  pub keyed : length front.keys.items ≡ nodes
-  pub inverse : AreInverse front.order.items front.place.items
+pub record AreLists (nodes : ℕ) (dist : List ℕ) (via : List Step) (order place keys : List ℕ) : Type 0 where
+  pub dists : length dist ≡ nodes
+  pub steps : length via ≡ nodes
+  pub orders : length order ≡ nodes
+  pub keyed : length keys ≡ nodes
+  pub inverse : AreInverse order place
+
+abbrev pub IsFront : ℕ → Front → Type 0
+IsFront nodes front = AreLists nodes front.dist.items front.steps.items front.order.items front.place.items front.keys.items
+
+-- so they are as slices
+abbrev pub AreFront : ℕ → FrontSlices → Type 0
+AreFront nodes front = AreLists nodes front.dist.now front.steps.now front.order.now front.place.now front.keys.now
 
 -- every reached node that isn't open is done, but for one that is being worked on
 pub record AreUnderWay (cells : List Cell) (lengths : List ℕ) (from node : ℕ) (dist : List ℕ) (steps : List Step) (order place : List ℕ) (count : ℕ) : Type 0 where
@@ -45,10 +53,16 @@ pub record AreUnderWay (cells : List Cell) (lengths : List ℕ) (from node : ℕ
   pub opened : (v : ℕ) → v < length dist → slice_index place v < count → slice_index dist v < MAX_LENGTH
   pub done : (u : ℕ) → u < length dist → u ≢ node → slice_index dist u < MAX_LENGTH → count ≤ slice_index place u → IsDone cells lengths dist u
 
--- so it is of the lists of a front
-abbrev pub IsUnderWay : List Cell → List ℕ → ℕ → ℕ → Front → ℕ → Type 0
+-- so it is of the slices of a front
+abbrev pub IsUnderWay : List Cell → List ℕ → ℕ → ℕ → FrontSlices → ℕ → Type 0
 IsUnderWay cells lengths from node front count =
-    AreUnderWay cells lengths from node front.dist.items front.steps.items front.order.items front.place.items count
+    AreUnderWay cells lengths from node front.dist.now front.steps.now front.order.now front.place.now count
+
+-- they are slices of the same lists
+abbrev pub AreSameSlices : FrontSlices → FrontSlices → Type 0
+AreSameSlices old new =
+    (new.dist.ghost_name ≡ old.dist.ghost_name) × (new.steps.ghost_name ≡ old.steps.ghost_name) × (new.order.ghost_name ≡ old.order.ghost_name)
+    × (new.place.ghost_name ≡ old.place.ghost_name) × (new.keys.ghost_name ≡ old.keys.ghost_name)
 
 abbrev pub arc_at : List Arc → ℕ → Arc
 arc_at arcs k = slice_index_or arcs k (record { cell = 0; to = 0 })

@@ -4,7 +4,7 @@ ghost use Rattle.std.specs.Prelude.{◌≡◌, ℕ, ◌+◌, ◌*◌, ◌^◌, �
 ghost use Rattle.std.specs.List.{sum_by};
 ghost use Rattle.flow_model.specs.Walk.{PassesOver};
 ghost use Rattle.flow_model.specs.Lengths.{AreLengths};
-ghost use Rattle.dijkstra_paths.specs.Tree.{IsFront, IsTree, IsDone, IsUnderWay};
+ghost use Rattle.dijkstra_paths.specs.Tree.{AreFront, AreSameSlices, IsFront, IsTree, IsDone, IsUnderWay};
 
 use crate::queue::{pop, put};
 use crate::{Arc, Graph};
@@ -28,6 +28,17 @@ pub struct Front {
     pub keys: Vec<u64>,
 }
 
+/// The lists of a front as slices. Only inlined functions take them, so that they stay in registers while lists are
+/// written, where those of a `&mut Front` would be read again.
+#[derive(Drop)]
+struct FrontSlices<'a> {
+    dist: &'a mut [u64],
+    steps: &'a mut [Step],
+    order: &'a mut [u16],
+    place: &'a mut [u16],
+    keys: &'a mut [u64],
+}
+
 /// Goes over the arc from the node, where that is shorter, and gives the number of open nodes.
 #[inline(always)]
 fn relax(
@@ -36,32 +47,32 @@ fn relax(
     from: u16,
     node: u16,
     arc: Arc,
-    front: &mut Front,
+    front: &mut FrontSlices,
     count: usize,
 ) -> usize
     requires lengths { AreLengths graph.now.cells lengths.now }
-    requires small { length front.old.dist.items ≤ MAX_NODES }
-    requires keys { length front.old.keys.items ≡ length front.old.dist.items }
-    requires nodes { (node < length front.old.dist.items) × (arc.to < length front.old.dist.items)
+    requires small { length front.old.dist.now ≤ MAX_NODES }
+    requires keys { length front.old.keys.now ≡ length front.old.dist.now }
+    requires nodes { (node < length front.old.dist.now) × (arc.to < length front.old.dist.now)
         × (arc.cell < length lengths.now) }
     requires passes { PassesOver graph.now.cells arc.cell node arc.to }
-    requires near { slice_index front.old.dist.items node < MAX_LENGTH }
+    requires near { slice_index front.old.dist.now node < MAX_LENGTH }
     requires state { IsUnderWay graph.now.cells lengths.now from node front.old count }
     ensures state { IsUnderWay graph.now.cells lengths.now from node front.new result }
-    ensures keys { length front.new.keys.items ≡ length front.new.dist.items }
-    ensures nodes { length front.new.dist.items ≡ length front.old.dist.items }
-    ensures falls { (v : ℕ) → slice_index front.new.dist.items v ≤ slice_index front.old.dist.items v }
-    ensures node { slice_index front.new.dist.items node ≡ slice_index front.old.dist.items node }
-    ensures there { slice_index front.new.dist.items arc.to
-        ≤ slice_index front.old.dist.items node + slice_index lengths.now arc.cell }
-    ensures work { 2 * sum_by (λ d. d) front.new.dist.items + result
-        ≤ 2 * sum_by (λ d. d) front.old.dist.items + count }
+    ensures slices { AreSameSlices front.old front.new }
+    ensures keys { length front.new.keys.now ≡ length front.new.dist.now }
+    ensures nodes { length front.new.dist.now ≡ length front.old.dist.now }
+    ensures falls { (v : ℕ) → slice_index front.new.dist.now v ≤ slice_index front.old.dist.now v }
+    ensures node { slice_index front.new.dist.now node ≡ slice_index front.old.dist.now node }
+    ensures there { slice_index front.new.dist.now arc.to
+        ≤ slice_index front.old.dist.now node + slice_index lengths.now arc.cell }
+    ensures work { 2 * sum_by (λ d. d) front.new.dist.now + result
+        ≤ 2 * sum_by (λ d. d) front.old.dist.now + count }
 {
     let _ = graph;
     let _ = from;
-    let dist = front.dist.as_slice();
-    let there = dist[node as usize] + lengths[arc.cell as usize];
-    if there >= dist[arc.to as usize] {
+    let there = front.dist[node as usize] + lengths[arc.cell as usize];
+    if there >= front.dist[arc.to as usize] {
         return count;
     }
     front.dist[arc.to as usize] = there;
@@ -69,14 +80,7 @@ fn relax(
         cell: arc.cell,
         from: node,
     };
-    put(
-        &mut front.order,
-        &mut front.place,
-        &mut front.keys,
-        count,
-        arc.to,
-        there,
-    )
+    put(front.order, front.place, front.keys, count, arc.to, there)
 }
 
 /// Goes over all arcs from the node.
@@ -86,21 +90,22 @@ fn go_on(
     lengths: &[u64],
     from: u16,
     node: u16,
-    front: &mut Front,
+    front: &mut FrontSlices,
     count: usize,
 ) -> usize
     requires lengths { AreLengths graph.now.cells lengths.now }
-    requires nodes { length front.old.dist.items ≡ graph.now.nodes }
-    requires keys { length front.old.keys.items ≡ length front.old.dist.items }
-    requires node { node < length front.old.dist.items }
-    requires near { slice_index front.old.dist.items node < MAX_LENGTH }
+    requires nodes { length front.old.dist.now ≡ graph.now.nodes }
+    requires keys { length front.old.keys.now ≡ length front.old.dist.now }
+    requires node { node < length front.old.dist.now }
+    requires near { slice_index front.old.dist.now node < MAX_LENGTH }
     requires state { IsUnderWay graph.now.cells lengths.now from node front.old count }
     ensures state { IsUnderWay graph.now.cells lengths.now from node front.new result }
-    ensures keys { length front.new.keys.items ≡ length front.new.dist.items }
-    ensures nodes { length front.new.dist.items ≡ length front.old.dist.items }
-    ensures done { IsDone graph.now.cells lengths.now front.new.dist.items node }
-    ensures work { 2 * sum_by (λ d. d) front.new.dist.items + result
-        ≤ 2 * sum_by (λ d. d) front.old.dist.items + count }
+    ensures slices { AreSameSlices front.old front.new }
+    ensures keys { length front.new.keys.now ≡ length front.new.dist.now }
+    ensures nodes { length front.new.dist.now ≡ length front.old.dist.now }
+    ensures done { IsDone graph.now.cells lengths.now front.new.dist.now node }
+    ensures work { 2 * sum_by (λ d. d) front.new.dist.now + result
+        ≤ 2 * sum_by (λ d. d) front.old.dist.now + count }
 {
     let mut count = count;
     let arcs = graph.out(node);
@@ -120,6 +125,28 @@ fn clear(dist: &mut [u64])
     }
 }
 
+/// Finds the least distances from a node, in the slices of a front.
+#[inline(always)]
+fn search_slices(graph: &Graph, lengths: &[u64], from: u16, front: &mut FrontSlices)
+    requires lengths { AreLengths graph.now.cells lengths.now }
+    requires front { AreFront graph.now.nodes front.old }
+    requires from { from < graph.now.nodes }
+    ensures slices { AreSameSlices front.old front.new }
+    ensures front { AreFront graph.now.nodes front.new }
+    ensures tree { IsTree graph.now.cells lengths.now from front.new.dist.now front.new.steps.now }
+    ensures done { (u : ℕ) → u < length front.new.dist.now → slice_index front.new.dist.now u < MAX_LENGTH
+        → IsDone graph.now.cells lengths.now front.new.dist.now u }
+{
+    let _nodes = graph.nodes();
+    clear(front.dist);
+    front.dist[from as usize] = 0;
+    let mut count = put(front.order, front.place, front.keys, 0, from, 0);
+    while count > 0 {
+        let node = pop(front.order, front.place, front.keys, count);
+        count = go_on(graph, lengths, from, node, front, count - 1);
+    }
+}
+
 /// Finds the least distances from a node.
 pub fn search(graph: &Graph, lengths: &[u64], from: u16, front: &mut Front)
     requires lengths { AreLengths graph.now.cells lengths.now }
@@ -130,19 +157,23 @@ pub fn search(graph: &Graph, lengths: &[u64], from: u16, front: &mut Front)
     ensures done { (u : ℕ) → u < length front.new.dist.items → slice_index front.new.dist.items u < MAX_LENGTH
         → IsDone graph.now.cells lengths.now front.new.dist.items u }
 {
-    let _nodes = graph.nodes();
-    clear(&mut front.dist);
-    front.dist[from as usize] = 0;
-    let mut count = put(
-        &mut front.order,
-        &mut front.place,
-        &mut front.keys,
-        0,
-        from,
-        0,
-    );
-    while count > 0 {
-        let node = pop(&mut front.order, &mut front.place, &mut front.keys, count);
-        count = go_on(graph, lengths, from, node, front, count - 1);
-    }
+    let dist = front.dist.as_mut_slice();
+    let steps = front.steps.as_mut_slice();
+    let order = front.order.as_mut_slice();
+    let place = front.place.as_mut_slice();
+    let keys = front.keys.as_mut_slice();
+    let mut slices = FrontSlices {
+        dist,
+        steps,
+        order,
+        place,
+        keys,
+    };
+    search_slices(graph, lengths, from, &mut slices);
+    // the lists are read after the borrow, which tells what it leaves in them
+    let _ = dist;
+    let _ = steps;
+    let _ = order;
+    let _ = place;
+    let _ = keys;
 }

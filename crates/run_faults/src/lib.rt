@@ -1,4 +1,5 @@
-//! Whole runs in which a read or a write fails, room ends, a worker is held, or one line of a certificate is another.
+//! Whole runs in which a read or a write fails, room ends, a worker is held, or one line of a certificate is another; and tables of the
+//! commands that make something of a certificate: `upgrade`, `tighten`, `sweep`, and `sweepsolve` beside it.
 #![tactic(auto)]
 
 #[cfg(test)]
@@ -7,3 +8,11 @@ mod certificates;
 mod faults;
 #[cfg(test)]
 mod gates;
+#[cfg(test)]
+mod sweep_solves;
+#[cfg(test)]
+mod sweeps;
+#[cfg(test)]
+mod tightens;
+#[cfg(test)]
+mod upgrades;

@@ -1,4 +1,5 @@
-//! Whole runs of all commands over files and output in memory: tables of words, files, status and text.
+//! Whole runs over files and output in memory, of commands that read networks, lists and certificates: tables of words, files, status
+//! and text.
 #![tactic(auto)]
 
 #[cfg(test)]
@@ -11,14 +12,6 @@ mod draws;
 mod prints;
 #[cfg(test)]
 mod solves;
-#[cfg(test)]
-mod sweep_solves;
-#[cfg(test)]
-mod sweeps;
-#[cfg(test)]
-mod tightens;
-#[cfg(test)]
-mod upgrades;
 #[cfg(test)]
 mod usages;
 #[cfg(test)]
