@@ -3,7 +3,7 @@ use Rattle.std.proofs.Common.{◌≡◌, ◌≤◌, ℕ, true, refl, arith, le-l
 use Rattle.std.specs.Prelude.{nat_le}
 use Rattle.std.proofs.lemmas.Bool.{and_from, and_parts, leb-true}
 use Rattle.mcf_words.specs.declared.request.Command.{Command}
-use Rattle.mcf_words.specs.declared.request.Command.TheVariants.{Solve, Check, WhatIf, Upgrade, Tighten, Batch, Sweep, SweepSolve, CheckHops, CheckThroughput, Print, Gen, Trial}
+use Rattle.mcf_words.specs.declared.request.Command.TheVariants.{Solve, Check, WhatIf, Upgrade, Tighten, Batch, Sweep, SweepSolve, CheckHops, CheckThroughput, Hops, Throughput, Print, Gen, Trial}
 use Rattle.mcf_words.specs.Request.{IsFileCount, least_files, most_files, reads_files}
 
 pub counted : (command : Command) (n : ℕ) → reads_files command n ≡ true → IsFileCount command n
@@ -27,6 +27,8 @@ none_at_most Sweep e = absurd cc
 none_at_most SweepSolve e = absurd cc
 none_at_most CheckHops e = absurd cc
 none_at_most CheckThroughput e = absurd cc
+none_at_most Hops e = absurd cc
+none_at_most Throughput e = absurd cc
 none_at_most Print e = absurd cc
 none_at_most Gen e = refl
 none_at_most Trial e = refl

@@ -8,7 +8,7 @@ use Rattle.std.proofs.lemmas.Bool.{and_from, and_parts, false≢true, false_from
 use Rattle.std.proofs.lemmas.List.Elements.{All-contains, All-head, All-tail, All-nil, All-cons, All-weaker}
 use Rattle.std.proofs.lemmas.List.Sums.{AllPass-from_list_all, list_all-from_AllPass}
 use Rattle.mcf_words.specs.declared.request.Command.{Command}
-use Rattle.mcf_words.specs.declared.request.Command.TheVariants.{Solve, Check, WhatIf, Upgrade, Tighten, Batch, Sweep, SweepSolve, CheckHops, CheckThroughput, Print, Gen, Trial}
+use Rattle.mcf_words.specs.declared.request.Command.TheVariants.{Solve, Check, WhatIf, Upgrade, Tighten, Batch, Sweep, SweepSolve, CheckHops, CheckThroughput, Hops, Throughput, Print, Gen, Trial}
 use Rattle.mcf_words.specs.Items.{Items, Open, Waiting, Closed, Setting, Step, no_items, joined, setting_item, word_item, is_end, is_equals, is_option, step_at, step_of, items_from}
 use Rattle.mcf_words.specs.Request.{are_known, options_of}
 use Rattle.mcf_words.proofs.Rows.{text_is}
@@ -38,6 +38,8 @@ all_names Sweep = refl
 all_names SweepSolve = refl
 all_names CheckHops = refl
 all_names CheckThroughput = refl
+all_names Hops = refl
+all_names Throughput = refl
 all_names Print = refl
 all_names Gen = refl
 all_names Trial = refl

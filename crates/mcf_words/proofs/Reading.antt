@@ -9,7 +9,7 @@ use Rattle.unit_scale.specs.declared.modes.LinkMode.TheVariants.{Undirected}
 use Rattle.unit_scale.specs.declared.modes.ModuleMode.{ModuleMode}
 use Rattle.unit_scale.specs.declared.modes.ModuleMode.TheVariants.{Largest}
 use Rattle.mcf_words.specs.declared.request.Command.{Command}
-use Rattle.mcf_words.specs.declared.request.Command.TheVariants.{Solve, Check, WhatIf, Upgrade, Tighten, Batch, Sweep, SweepSolve, CheckHops, CheckThroughput, Print, Gen, Trial}
+use Rattle.mcf_words.specs.declared.request.Command.TheVariants.{Solve, Check, WhatIf, Upgrade, Tighten, Batch, Sweep, SweepSolve, CheckHops, CheckThroughput, Hops, Throughput, Print, Gen, Trial}
 use Rattle.mcf_words.specs.declared.request.Request.{Request}
 use Rattle.mcf_words.specs.Items.{Items, Setting, items_of}
 use Rattle.mcf_words.specs.Values.{choice, gap_of, number_in, values_of}
@@ -297,6 +297,8 @@ command_again Sweep = refl
 command_again SweepSolve = refl
 command_again CheckHops = refl
 command_again CheckThroughput = refl
+command_again Hops = refl
+command_again Throughput = refl
 command_again Print = refl
 command_again Gen = refl
 command_again Trial = refl

@@ -12,7 +12,7 @@ use Rattle.unit_scale.specs.declared.modes.LinkMode.TheVariants.{Undirected}
 use Rattle.unit_scale.specs.declared.modes.ModuleMode.{ModuleMode}
 use Rattle.unit_scale.specs.declared.modes.ModuleMode.TheVariants.{Largest}
 use Rattle.mcf_words.specs.declared.request.Command.{Command}
-use Rattle.mcf_words.specs.declared.request.Command.TheVariants.{Solve, Check, WhatIf, Upgrade, Tighten, Batch, Sweep, SweepSolve, CheckHops, CheckThroughput, Print, Gen, Trial}
+use Rattle.mcf_words.specs.declared.request.Command.TheVariants.{Solve, Check, WhatIf, Upgrade, Tighten, Batch, Sweep, SweepSolve, CheckHops, CheckThroughput, Hops, Throughput, Print, Gen, Trial}
 use Rattle.mcf_words.specs.declared.request.Request.{Request}
 use Rattle.mcf_words.specs.Items.{Setting, Items, is_option}
 use Rattle.mcf_words.specs.Values.{choice, gap_of, is_whole, number_in, values_of}
@@ -200,6 +200,8 @@ option_refused Sweep items name f known = absurd (no_option name known)
 option_refused SweepSolve items name f known = choices_refused SweepSolve items (no_choices items.settings (any_fails items.settings name f (among_solvers name known)))
 option_refused CheckHops items name f known = absurd (no_option name known)
 option_refused CheckThroughput items name f known = absurd (no_option name known)
+option_refused Hops items name f known = choices_refused Hops items (no_choices items.settings (any_fails items.settings name f (among_solvers name known)))
+option_refused Throughput items name f known = choices_refused Throughput items (no_choices items.settings (any_fails items.settings name f (among_solvers name known)))
 option_refused Print items name f known = absurd (no_option name known)
 option_refused Gen items name f known = absurd (no_option name known)
 

@@ -20,7 +20,7 @@ use Rattle.unit_scale.specs.Modes.{link_mode_of, module_mode_of}
 use Rattle.unit_scale.specs.declared.modes.LinkMode.TheVariants.{Undirected}
 use Rattle.unit_scale.specs.declared.modes.ModuleMode.TheVariants.{Largest}
 use Rattle.mcf_words.specs.declared.request.Command.{Command}
-use Rattle.mcf_words.specs.declared.request.Command.TheVariants.{Solve, Check, WhatIf, Upgrade, Tighten, Batch, Sweep, SweepSolve, CheckHops, CheckThroughput, Print, Gen, Trial}
+use Rattle.mcf_words.specs.declared.request.Command.TheVariants.{Solve, Check, WhatIf, Upgrade, Tighten, Batch, Sweep, SweepSolve, CheckHops, CheckThroughput, Hops, Throughput, Print, Gen, Trial}
 use Rattle.mcf_words.specs.Items.{Items, items_of}
 use Rattle.mcf_words.specs.Parse.{Tells, app_of_names, choices_in, names_of, read_in, request_after, request_in, words_id}
 use Rattle.mcf_words.specs.Request.{◌>>=◌, choices_of, command_of, files_of, numbers_of, options_of, request_from, request_of, one_worker_options, solver_options}
@@ -45,6 +45,8 @@ each P solver alone none Sweep = none
 each P solver alone none SweepSolve = alone
 each P solver alone none CheckHops = none
 each P solver alone none CheckThroughput = none
+each P solver alone none Hops = alone
+each P solver alone none Throughput = alone
 each P solver alone none Print = none
 each P solver alone none Gen = none
 each P solver alone none Trial = solver

@@ -15,7 +15,7 @@ use Rattle.mcf_limits.specs.declared.TheConstants.{MAX_GAP, MAX_NODES, MAX_LINKS
 use Rattle.sndlib_grammar.specs.Number.{Number, behind_digits, behind_whole, front_digits, number_of, plain}
 use Rattle.unit_scale.specs.Modes.{link_word, module_word}
 use Rattle.mcf_words.specs.declared.request.Command.{Command}
-use Rattle.mcf_words.specs.declared.request.Command.TheVariants.{Solve, Check, WhatIf, Upgrade, Tighten, Batch, Sweep, SweepSolve, CheckHops, CheckThroughput, Print, Gen, Trial}
+use Rattle.mcf_words.specs.declared.request.Command.TheVariants.{Solve, Check, WhatIf, Upgrade, Tighten, Batch, Sweep, SweepSolve, CheckHops, CheckThroughput, Hops, Throughput, Print, Gen, Trial}
 use Rattle.mcf_words.specs.declared.request.Request.{Request}
 use Rattle.mcf_words.specs.Items.{Setting}
 use Rattle.mcf_words.specs.Values.{values_of}
@@ -199,6 +199,8 @@ settings_for Sweep r = []
 settings_for SweepSolve r = settings_with r r.phases r.workers
 settings_for CheckHops r = []
 settings_for CheckThroughput r = []
+settings_for Hops r = settings_with r r.phases r.workers
+settings_for Throughput r = settings_with r r.phases r.workers
 settings_for Print r = []
 settings_for Gen r = []
 settings_for Trial r = settings_with r r.phases r.workers
@@ -214,6 +216,8 @@ parts_for Sweep r plain none = without_options Sweep plain
 parts_for SweepSolve r plain none = with_options SweepSolve r plain (by_place_alone SweepSolve refl) (subst (MayWork SweepSolve) (sym (none refl)) tt)
 parts_for CheckHops r plain none = without_options CheckHops plain
 parts_for CheckThroughput r plain none = without_options CheckThroughput plain
+parts_for Hops r plain none = with_options Hops r plain (by_place_alone Hops refl) (subst (MayWork Hops) (sym (none refl)) tt)
+parts_for Throughput r plain none = with_options Throughput r plain (by_place_alone Throughput refl) (subst (MayWork Throughput) (sym (none refl)) tt)
 parts_for Print r plain none = without_options Print plain
 parts_for Gen r plain none = without_options Gen plain
 parts_for Trial r plain none = with_options Trial r plain (by_place Trial refl) (workers_of_all Trial refl r.workers)
@@ -290,6 +294,8 @@ module _ (r : Request) (limits : IsWithinLimits r) where
   options_said SweepSolve none = all_said r.phases r.workers refl refl
   options_said CheckHops none = none_said (none refl)
   options_said CheckThroughput none = none_said (none refl)
+  options_said Hops none = all_said r.phases r.workers refl refl
+  options_said Throughput none = all_said r.phases r.workers refl refl
   options_said Print none = none_said (none refl)
   options_said Gen none = none_said (none refl)
   options_said Trial none = all_said r.phases r.workers refl refl

@@ -8,7 +8,7 @@ use Rattle.unit_scale.specs.declared.modes.LinkMode.TheVariants.{Undirected}
 use Rattle.unit_scale.specs.declared.modes.ModuleMode.TheVariants.{Largest}
 use Rattle.unit_scale.specs.declared.options.NetOptions.{NetOptions}
 use Rattle.mcf_words.specs.declared.request.Command.{Command}
-use Rattle.mcf_words.specs.declared.request.Command.TheVariants.{Solve, Check, WhatIf, Upgrade, Tighten, Batch, Sweep, SweepSolve, CheckHops, CheckThroughput, Print, Gen, Trial}
+use Rattle.mcf_words.specs.declared.request.Command.TheVariants.{Solve, Check, WhatIf, Upgrade, Tighten, Batch, Sweep, SweepSolve, CheckHops, CheckThroughput, Hops, Throughput, Print, Gen, Trial}
 use Rattle.mcf_words.specs.declared.request.Request.{Request}
 use Rattle.mcf_words.specs.Items.{Setting, Items, items_of}
 use Rattle.mcf_words.specs.Values.{number_in, gap_of, values_of, choice}
@@ -69,6 +69,8 @@ form_of Sweep = record { word = codes "sweep"; least = 2; most = 2; options = []
 form_of SweepSolve = record { word = codes "sweepsolve"; least = 1; most = 1; options = one_worker_options }
 form_of CheckHops = record { word = codes "checkhops"; least = 2; most = 2; options = [] }
 form_of CheckThroughput = record { word = codes "checkthroughput"; least = 2; most = 2; options = [] }
+form_of Hops = record { word = codes "hops"; least = 1; most = 1; options = one_worker_options }
+form_of Throughput = record { word = codes "throughput"; least = 1; most = 1; options = one_worker_options }
 form_of Print = record { word = codes "print"; least = 1; most = 1; options = [] }
 form_of Gen = record { word = codes "gen"; least = 0; most = 0; options = [] }
 form_of Trial = record { word = codes "trial"; least = 0; most = 0; options = solver_options }

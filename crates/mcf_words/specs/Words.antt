@@ -7,7 +7,7 @@ use Rattle.unit_scale.specs.Modes.{link_word, module_word}
 use Rattle.unit_scale.specs.declared.modes.LinkMode.TheVariants.{Undirected}
 use Rattle.unit_scale.specs.declared.modes.ModuleMode.TheVariants.{Largest}
 use Rattle.mcf_words.specs.declared.request.Command.{Command}
-use Rattle.mcf_words.specs.declared.request.Command.TheVariants.{Solve, Check, WhatIf, Upgrade, Tighten, Batch, Sweep, SweepSolve, CheckHops, CheckThroughput, Print, Gen, Trial}
+use Rattle.mcf_words.specs.declared.request.Command.TheVariants.{Solve, Check, WhatIf, Upgrade, Tighten, Batch, Sweep, SweepSolve, CheckHops, CheckThroughput, Hops, Throughput, Print, Gen, Trial}
 use Rattle.mcf_words.specs.declared.request.Request.{Request}
 use Rattle.mcf_words.specs.Request.{AreDrawn, IsFileCount, IsWithinLimits, least_files, form_of, options_of}
 
@@ -68,6 +68,8 @@ options_for Sweep r = []
 options_for SweepSolve r = option_words r
 options_for CheckHops r = []
 options_for CheckThroughput r = []
+options_for Hops r = option_words r
+options_for Throughput r = option_words r
 options_for Print r = []
 options_for Gen r = []
 options_for Trial r = option_words r

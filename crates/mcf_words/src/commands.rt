@@ -27,7 +27,7 @@ static ONE_WORKER_OPTIONS: [&str; 5] = [LINKS, MODULES, GAP, PHASES, STEP];
 
 static NO_OPTIONS: [&str; 0] = [];
 
-static COMMANDS: [Command; 13] = [
+static COMMANDS: [Command; 15] = [
     Command::Solve,
     Command::Check,
     Command::WhatIf,
@@ -38,6 +38,8 @@ static COMMANDS: [Command; 13] = [
     Command::SweepSolve,
     Command::CheckHops,
     Command::CheckThroughput,
+    Command::Hops,
+    Command::Throughput,
     Command::Print,
     Command::Gen,
     Command::Trial,
@@ -103,6 +105,8 @@ pub fn form_of(command: Command) -> Form
         Command::SweepSolve => takes(b"sweepsolve", 1, ONE_WORKER_OPTIONS.as_slice()),
         Command::CheckHops => takes(b"checkhops", 2, NO_OPTIONS.as_slice()),
         Command::CheckThroughput => takes(b"checkthroughput", 2, NO_OPTIONS.as_slice()),
+        Command::Hops => takes(b"hops", 1, ONE_WORKER_OPTIONS.as_slice()),
+        Command::Throughput => takes(b"throughput", 1, ONE_WORKER_OPTIONS.as_slice()),
         Command::Print => takes(b"print", 1, NO_OPTIONS.as_slice()),
         Command::Gen => takes(b"gen", 0, NO_OPTIONS.as_slice()),
         Command::Trial => takes(b"trial", 0, SOLVER_OPTIONS.as_slice()),

@@ -21,6 +21,8 @@ pub enum Command {
     SweepSolve,
     CheckHops,
     CheckThroughput,
+    Hops,
+    Throughput,
     Print,
     Gen,
     Trial,
