@@ -9,6 +9,8 @@ pub use triangle::{Case, Walk, net_of, proof_of};
 #[cfg(test)]
 mod certificates;
 #[cfg(test)]
+mod judgements;
+#[cfg(test)]
 mod limits;
 #[cfg(test)]
 mod texts;

@@ -17,10 +17,10 @@ use std::test::Fail;
 use unit_scale::{LinkMode, ModuleMode, NetOptions, Scaled, scale};
 
 // A short way of 2 and a long way of 10; the demand of 2 may take one link.
-const NET: &[u8] =
+pub const NET: &[u8] =
     b"?SNDlib native format; type: network; version: 1.0\nNODES (\n  A\n  B\n  C\n)\nLINKS (\n  L1 ( A B ) 2 0 0 0 ( )\n  L2 ( A C ) 10 0 0 0 ( )\n  L3 ( C B ) 10 0 0 0 ( )\n)\nDEMANDS (\n  D1 ( A B ) 1 2 1\n)\n";
 
-const HOPS: &[u8] =
+pub const HOPS: &[u8] =
     b"mcf-hops 1\nverdict closed\nlinks undirected\nmodules largest\nnet nodes 3 cells 3 commodities 1 decimals 0 skipped 0 left 0 hops 1\ngap 0.050000\nphases 1\nscale 2 2\nlower 2/2 1.000000\nupper 9007474132647932/9007199254740992 1.000031\npath D1 2 =L1\nlength =L1 4503599627370496\nlength =L2 13743895347\nlength =L3 13743895347\nlayer A 0 0 4611686018427387904 4611686018427387904\nlayer A 1 0 4503599627370496 13743895347\nend\n";
 
 const TOTAL: &[u8] =

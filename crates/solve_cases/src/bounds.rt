@@ -2,12 +2,12 @@
 
 ghost use Rattle.std.specs.Prelude.{◌≡◌, ◌<◌, ◌≤◌, IfOk, All, length};
 
+use crate::{cell, demand, network};
 use dijkstra_paths::Graph;
 use dual_bound::{bound, bound_in, cut_bound};
 use fixed_exp::{LengthTable, Powers};
 use flow_model::Setting;
 use std::test::Fail;
-use walk_rows::{cell, demand, network};
 
 /// The setting behind a fullest cell of 7 with a load of 10.
 const LATER: Setting = Setting {

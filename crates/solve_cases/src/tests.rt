@@ -1,6 +1,6 @@
 //! Networks, and the certificate that is solved of each.
 
-use crate::{entry_of, solved, solved_in};
+use crate::{cell, demand, entry_of, network, solved, solved_in};
 use flow_model::Net;
 use flow_solver::Solved;
 use mcf_base::OpenGate;
@@ -9,7 +9,6 @@ use std::alloc::Global;
 use std::process::Abort;
 use std::test::Fail;
 use std::thread::Threads;
-use walk_rows::{cell, demand, network};
 
 const fn asked(gap: u64, phases: u32, workers: u16, step: u32) -> SolveOptions {
     SolveOptions {

@@ -14,7 +14,7 @@ use std::alloc::Global;
 use std::env;
 use std::rt::Clock;
 use std::time::Instant;
-use walk_rows::{Words, loads, ring_network};
+use solve_cases::{Words, loads, ring_network};
 
 const SETTING: Setting = Setting {
     first: false,

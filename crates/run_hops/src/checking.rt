@@ -1,0 +1,55 @@
+//! The command `checkhops`: what is said of a certificate with hop limits on a network.
+
+ghost use Rattle.run_base.specs.Answer.{IsTold};
+ghost use Rattle.run_base.specs.Files.{Finds};
+ghost use Rattle.run_hops.specs.Check.{OfCheckHops, judged_answer};
+
+use crate::judging::judge_hops;
+use cert_judge::Judged;
+use mcf_base::{Shelf, Sink};
+use mcf_limits::{MAX_CERT_BYTES, MAX_NET_BYTES};
+use run_base::{Ended, Outcome, Paper, file_text, net_rows, tell};
+use std::alloc::Global;
+
+// What is said of the second file on the network in the first.
+fn judged_files<F: Shelf>(
+    alloc: Global,
+    shelf: &mut F,
+    net: &str,
+    cert: &str,
+) -> Result<Judged, Outcome>
+    ensures { Finds judged_answer (OfCheckHops net.now cert.now)
+        (F.seen shelf.old) (F.seen shelf.new) result }
+{
+    let net_text = file_text(alloc, shelf, net, MAX_NET_BYTES, Paper::Network)?;
+    let rows = match net_rows(alloc, &net_text) {
+        Ok(rows) => rows,
+        Err(outcome) => return Err(outcome),
+    };
+    let text = match file_text(alloc, shelf, cert, MAX_CERT_BYTES, Paper::Certificate) {
+        Ok(text) => text,
+        Err(outcome) => return Err(outcome),
+    };
+    match judge_hops(alloc, &rows, &text) {
+        Ok(judged) => Ok(judged),
+        Err(_) => Err(Outcome::Memory),
+    }
+}
+
+/// Writes what is said of the certificate with hop limits in the second file on the network in the
+/// first.
+pub fn checkhops<F: Shelf, K: Sink>(
+    alloc: Global,
+    shelf: &mut F,
+    out: &mut K,
+    net: &str,
+    cert: &str,
+) -> Ended
+    ensures { IsTold (OfCheckHops net.now cert.now (F.seen shelf.old) (F.seen shelf.new))
+        (K.seen out.old) (K.seen out.new) result }
+{
+    match judged_files(alloc, shelf, net, cert) {
+        Ok(judged) => tell(out, Outcome::Judged(judged)),
+        Err(outcome) => tell(out, outcome),
+    }
+}

@@ -1,0 +1,19 @@
+use Rattle.std.proofs.Common.{inl, inr, refl}
+use Rattle.mcf_limits.specs.declared.TheConstants.{MAX_CERT_BYTES}
+use Rattle.run_base.specs.declared.outcome.Paper.TheVariants.{Certificate}
+use Rattle.run_base.specs.Files.{Ends, OfFile}
+use Rattle.run_base.proofs.Chain.{file_came, rows_came}
+use Rattle.run_parts.specs.Check.{OnPartTexts}
+use Rattle.run_parts.proofs.checking.judged_files.Goals as goal
+
+pub returns-in-Err-file_text : goal.returns-in-Err-file_text
+returns-in-Err-file_text g c =
+    rows_came c.args.net.now (λ rows. OfFile MAX_CERT_BYTES Certificate c.args.cert.now (λ text. Ends (OnPartTexts rows text))) _ _ _ _ c.in-Ok.rows _
+    c.in_ok-net_text.ensures.0 c.in_ok-net_text.ensures.1 (rw c.deref.ensures.value at c.in-Ok.ensures.rows) (inl c.in-Err-file_text.ensures)
+
+pub returns-in-Ok-judge_part : goal.returns-in-Ok-judge_part
+returns-in-Ok-judge_part g c =
+    rows_came c.args.net.now (λ rows. OfFile MAX_CERT_BYTES Certificate c.args.cert.now (λ text. Ends (OnPartTexts rows text))) _ _ _ _ c.in-Ok.rows _
+    c.in_ok-net_text.ensures.0 c.in_ok-net_text.ensures.1 (rw c.deref.ensures.value at c.in-Ok.ensures.rows)
+    (file_came MAX_CERT_BYTES Certificate c.args.cert.now (λ text. Ends (OnPartTexts c.in-Ok.rows text)) _ _ _ _ _ c.in-Ok-file_text.ensures.0 c.in-Ok-file_text.ensures.1
+    (refl, inr (c.in-Ok-judge_part.judged, rw c.deref-2.ensures.value at c.in-Ok-judge_part.ensures, refl)))
