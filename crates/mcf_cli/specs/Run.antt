@@ -3,7 +3,7 @@ use Rattle.std.specs.Prelude.{◌≡◌, ℕ, List, [], Option, Some, None, slic
 use Rattle.mcf_base.specs.Shelf.{ShelfView}
 use Rattle.mcf_base.specs.Sink.{SinkView}
 use Rattle.mcf_words.specs.declared.request.Command.{Command}
-use Rattle.mcf_words.specs.declared.request.Command.TheVariants.{Solve, Check, WhatIf, Upgrade, Tighten, Batch, Sweep, SweepSolve, CheckHops, CheckThroughput, Print, Gen, Trial}
+use Rattle.mcf_words.specs.declared.request.Command.TheVariants.{Solve, Check, WhatIf, Upgrade, Tighten, Batch, Sweep, SweepSolve, CheckHops, CheckThroughput, Hops, Throughput, Print, Gen, Trial}
 use Rattle.mcf_words.specs.declared.request.Request.{Request}
 use Rattle.mcf_words.specs.Request.{request_of}
 use Rattle.run_base.specs.declared.ended.Ended.{Ended}
@@ -19,7 +19,9 @@ use Rattle.run_batches.specs.Batch.{OfBatch}
 use Rattle.run_certs.specs.Upgrade.{OfUpgrade}
 use Rattle.run_certs.specs.WhatIf.{OfWhatIf}
 use Rattle.run_hops.specs.Check.{OfCheckHops}
+use Rattle.run_hops.specs.Hops.{OfHops}
 use Rattle.run_parts.specs.Check.{OfCheckThroughput}
+use Rattle.run_parts.specs.Parts.{OfThroughput}
 use Rattle.run_sweeps.specs.Sweep.{OfSweep}
 use Rattle.run_sweeps.specs.SweepSolve.{OfSweepSolve}
 
@@ -45,6 +47,8 @@ OfCommand Tighten request old new answer =
 OfCommand Batch request old new answer = OfBatch (file_at request 0) (file_at request 1) request old new answer
 OfCommand Sweep request old new answer = OfSweep (file_at request 0) (file_at request 1) old new answer
 OfCommand SweepSolve request old new answer = OfSweepSolve (file_at request 0) request old new answer
+OfCommand Hops request old new answer = OfHops (file_at request 0) request old new answer
+OfCommand Throughput request old new answer = OfThroughput (file_at request 0) request old new answer
 OfCommand CheckHops request old new answer = OfCheckHops (file_at request 0) (file_at request 1) old new answer
 OfCommand CheckThroughput request old new answer =
     OfCheckThroughput (file_at request 0) (file_at request 1) old new answer

@@ -77,7 +77,7 @@ form_of Trial = record { word = codes "trial"; least = 0; most = 0; options = so
 
 -- the commands that there are
 abbrev pub commands : List Command
-commands = Solve ∷ Check ∷ WhatIf ∷ Upgrade ∷ Tighten ∷ Batch ∷ Sweep ∷ SweepSolve ∷ CheckHops ∷ CheckThroughput ∷ Print ∷ Gen ∷ Trial ∷ []
+commands = Solve ∷ Check ∷ WhatIf ∷ Upgrade ∷ Tighten ∷ Batch ∷ Sweep ∷ SweepSolve ∷ CheckHops ∷ CheckThroughput ∷ Hops ∷ Throughput ∷ Print ∷ Gen ∷ Trial ∷ []
 
 -- the word is that of the command
 abbrev pub has_word : List ℕ → Command → Bool

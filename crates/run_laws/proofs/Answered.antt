@@ -66,10 +66,17 @@ use Rattle.cert_judge.specs.Papers.{nothing_more}
 use Rattle.hop_check.specs.declared.hop_proof.HopProof.{HopProof}
 use Rattle.throughput.specs.declared.part_proof.PartProof.{PartProof}
 use Rattle.run_texts.specs.Heads.{run_head}
+use Rattle.hop_check.specs.Limits.{hop_refusal, limits_of}
 use Rattle.run_hops.specs.Check as hops
+use Rattle.run_hops.specs.Hops as hop_runs
+use Rattle.run_hops.specs.declared.solving.HopSolving.{HopSolving}
+use Rattle.run_hops.specs.declared.solving.HopSolving.TheVariants as hop_solvings
 use Rattle.run_parts.specs.Check as parts
+use Rattle.run_parts.specs.Parts as part_runs
+use Rattle.run_parts.specs.declared.solving.PartSolving.{PartSolving}
+use Rattle.run_parts.specs.declared.solving.PartSolving.TheVariants as part_solvings
 use Rattle.mcf_cli.specs.Run.{file_at, file_if, OfCommand}
-use Rattle.run_laws.specs.Accepted.{IsSolvable, IsSweepSolvable, IsListFile, IsPaperFile, IsScriptFile, IsSecondFile, AcceptsPrint, AcceptsSolve, AcceptsSweepSolve, AcceptsBatch, AcceptsCheck, AcceptsTighten, AcceptsUpgrade, AcceptsWhatIf, AcceptsTrial, AcceptsCheckHops, AcceptsCheckThroughput, Accepts}
+use Rattle.run_laws.specs.Accepted.{IsSolvable, IsSweepSolvable, IsListFile, IsPaperFile, IsScriptFile, IsSecondFile, AcceptsPrint, AcceptsSolve, AcceptsSweepSolve, AcceptsBatch, AcceptsCheck, AcceptsTighten, AcceptsUpgrade, AcceptsWhatIf, AcceptsTrial, IsHopSolvable, IsPartSolvable, AcceptsHops, AcceptsThroughput, AcceptsCheckHops, AcceptsCheckThroughput, Accepts}
 use Rattle.run_laws.proofs.Given.{Memories, of_text, of_rows}
 use Rattle.run_laws.proofs.Kinds.{kind_low}
 
@@ -335,6 +342,50 @@ batch_low files request old new answer tells calm (rows, given, file) of =
     (λ on. then_low answer (of_text MAX_LIST_BYTES kinds.List files list file.text (λ text. Ends (OnList request rows text)) (with_file old first) new answer tells calm file.given on)
     (λ last. ends_low (OnList request rows file.text) (with_file (with_file old first) list) new answer (λ e. list_low files list rows request answer file e) last))
 
+-- ---- hops and throughput
+
+hop_run_low : (rows : NetRows) (net : ScaledNet) (limits : List (Option ℕ)) (request : Request) (solving : HopSolving) → ((n : ℕ) → ¬ (IsTooMuch net.net (hop_runs.asked_of request) n))
+    → hop_runs.OnRun net limits (hop_runs.asked_of request) solving → (hop_runs.solving_answer rows solving).status ≤ 1
+hop_run_low rows net limits request (hop_solvings.Refused r) work is = absurd is
+hop_run_low rows net limits request (hop_solvings.TooMuch n) work is = absurd (work n is)
+hop_run_low rows net limits request (hop_solvings.Done solved h) work is = verdict_low h.proof.closed
+
+hop_solving_low : (rows : NetRows) (request : Request) (solving : HopSolving) → IsHopSolvable rows request → hop_runs.IsHopSolving rows request.net (hop_runs.asked_of request) solving
+    → (hop_runs.solving_answer rows solving).status ≤ 1
+hop_solving_low rows request solving can is =
+    let on : hop_runs.OnNet rows (Ok can.net) (hop_runs.asked_of request) solving =
+        subst (λ (r : Result ScaledNet NetRefusal). hop_runs.OnNet rows r (hop_runs.asked_of request) solving) can.scaled is in
+    let run : hop_runs.OnLimits rows can.net (hop_runs.asked_of request) None solving =
+        subst (λ (o : Option NetRefusal). hop_runs.OnLimits rows can.net (hop_runs.asked_of request) o solving) can.near on in
+    hop_run_low rows can.net (limits_of rows can.net) request solving can.work run
+
+hops_low : (files : Holding) (request : Request) (old new : ShelfView) (answer : Answer) → old.holds ≡ Some files → ¬ (Rose old.faults.count new.faults.count)
+    → AcceptsHops files request → hop_runs.OfHops (file_at request 0) request old new answer → Low answer
+hops_low files request old new answer tells calm (rows, net, can) of =
+    then_low answer (of_rows files (file_at request 0) rows (λ rows. Ends (hop_runs.SolvesHops request rows)) old new answer tells calm net of)
+    (λ on. ends_low (hop_runs.SolvesHops request rows) (with_file old (file_at request 0)) new answer
+    (λ e. status_is answer (hop_runs.solving_answer rows e.0) e.2 (hop_solving_low rows request e.0 can e.1)) on)
+
+part_run_low : (rows : NetRows) (net : ScaledNet) (request : Request) (solving : PartSolving) → ((n : ℕ) → ¬ (IsTooMuch net.net (part_runs.asked_of request) n))
+    → part_runs.OnRun net (part_runs.asked_of request) solving → (part_runs.solving_answer rows solving).status ≤ 1
+part_run_low rows net request (part_solvings.Refused r) work is = absurd is
+part_run_low rows net request (part_solvings.TooMuch n) work is = absurd (work n is)
+part_run_low rows net request (part_solvings.Done solved p) work is = verdict_low p.closed
+
+part_solving_low : (rows : NetRows) (request : Request) (solving : PartSolving) → IsPartSolvable rows request → part_runs.IsPartSolving rows request.net (part_runs.asked_of request) solving
+    → (part_runs.solving_answer rows solving).status ≤ 1
+part_solving_low rows request solving can is =
+    let on : part_runs.OnNet (Ok can.net) (part_runs.asked_of request) solving =
+        subst (λ (r : Result ScaledNet NetRefusal). part_runs.OnNet r (part_runs.asked_of request) solving) can.scaled is in
+    part_run_low rows can.net request solving can.work on
+
+throughput_low : (files : Holding) (request : Request) (old new : ShelfView) (answer : Answer) → old.holds ≡ Some files → ¬ (Rose old.faults.count new.faults.count)
+    → AcceptsThroughput files request → part_runs.OfThroughput (file_at request 0) request old new answer → Low answer
+throughput_low files request old new answer tells calm (rows, net, can) of =
+    then_low answer (of_rows files (file_at request 0) rows (λ rows. Ends (part_runs.SolvesParts request rows)) old new answer tells calm net of)
+    (λ on. ends_low (part_runs.SolvesParts request rows) (with_file old (file_at request 0)) new answer
+    (λ e. status_is answer (part_runs.solving_answer rows e.0) e.2 (part_solving_low rows request e.0 can e.1)) on)
+
 -- ---- checkhops and checkthroughput
 
 hops_said : (rows : NetRows) (net : ScaledNet) (h : HopProof) (judged : Judged) → hops.SaysHops rows net h judged → (answer_of (outcomes.Judged judged)).status ≤ 1
@@ -375,6 +426,8 @@ command_low commands.Tighten files request old new answer tells calm accepts of 
 command_low commands.Batch files request old new answer tells calm accepts of = batch_low files request old new answer tells calm accepts of
 command_low commands.Sweep files request old new answer tells calm accepts of = sweep_low files request old new answer tells calm accepts of
 command_low commands.SweepSolve files request old new answer tells calm accepts of = sweepsolve_low files request old new answer tells calm accepts of
+command_low commands.Hops files request old new answer tells calm accepts of = hops_low files request old new answer tells calm accepts of
+command_low commands.Throughput files request old new answer tells calm accepts of = throughput_low files request old new answer tells calm accepts of
 command_low commands.CheckHops files request old new answer tells calm accepts of = check_hops_low files request old new answer tells calm accepts of
 command_low commands.CheckThroughput files request old new answer tells calm accepts of = check_part_low files request old new answer tells calm accepts of
 command_low commands.Print files request old new answer tells calm accepts of = print_low files request old new answer tells calm accepts of

@@ -68,10 +68,17 @@ use Rattle.run_certs.specs.WhatIf.{scripted_answer, OnScript, OnCertified, OnCer
 use Rattle.run_solves.specs.Drawn.{OfTrial}
 use Rattle.cert_judge.specs.Papers.{nothing_more}
 use Rattle.run_texts.specs.Heads.{run_head}
+use Rattle.hop_check.specs.Limits.{hop_refusal, limits_of}
 use Rattle.run_hops.specs.Check as hops
+use Rattle.run_hops.specs.Hops as hop_runs
+use Rattle.run_hops.specs.declared.solving.HopSolving.{HopSolving}
+use Rattle.run_hops.specs.declared.solving.HopSolving.TheVariants as hop_solvings
 use Rattle.run_parts.specs.Check as parts
+use Rattle.run_parts.specs.Parts as part_runs
+use Rattle.run_parts.specs.declared.solving.PartSolving.{PartSolving}
+use Rattle.run_parts.specs.declared.solving.PartSolving.TheVariants as part_solvings
 use Rattle.mcf_cli.specs.Run.{file_at, file_if, OfCommand, OfRequest, IsAnswer, RunEnds}
-use Rattle.run_laws.specs.Accepted.{IsSolvable, IsSweepSolvable, IsListFile, IsNetFile, IsPaperFile, IsScriptFile, IsSecondFile, AcceptsPrint, AcceptsSolve, AcceptsSweepSolve, AcceptsBatch, AcceptsCheck, AcceptsTighten, AcceptsUpgrade, AcceptsWhatIf, AcceptsTrial, AcceptsCheckHops, AcceptsCheckThroughput, Accepts, IsAccepted}
+use Rattle.run_laws.specs.Accepted.{IsSolvable, IsSweepSolvable, IsListFile, IsNetFile, IsPaperFile, IsScriptFile, IsSecondFile, AcceptsPrint, AcceptsSolve, AcceptsSweepSolve, AcceptsBatch, AcceptsCheck, AcceptsTighten, AcceptsUpgrade, AcceptsWhatIf, AcceptsTrial, IsHopSolvable, IsPartSolvable, AcceptsHops, AcceptsThroughput, AcceptsCheckHops, AcceptsCheckThroughput, Accepts, IsAccepted}
 use Rattle.run_laws.specs.Whole.{HasNoFault, EndsWhole}
 use Rattle.run_laws.proofs.Given.{not_full, text_of_file, rows_of_file, ends_full}
 use Rattle.run_laws.proofs.Answered.{Low, command_low}
@@ -381,6 +388,60 @@ batch_accepts files request old new answer tells full of =
     let on : OnList request r.0 t.0 answer = ends_full (OnList request r.0 t.0) (with_file (with_file old first) list) new answer full t.2 in
     (r.0, r.1, list_can files list r.0 request answer t.0 full t.1 on.0 on.1 on.2)
 
+-- ---- hops and throughput
+
+hop_run_can : (rows : NetRows) (net : ScaledNet) (request : Request) (solving : HopSolving) → scaled_of rows request.net ≡ Ok net → hop_refusal rows ≡ None
+    → hop_runs.OnRun net (limits_of rows net) (hop_runs.asked_of request) solving → (hop_runs.solving_answer rows solving).status ≤ 1 → IsHopSolvable rows request
+hop_run_can rows net request (hop_solvings.Refused r) scaled near is low = absurd is
+hop_run_can rows net request (hop_solvings.TooMuch n) scaled near is low = absurd (not_full (answer_of (outcomes.TooMuch n)) (outcomes.TooMuch n) refl low (omega arith))
+hop_run_can rows net request (hop_solvings.Done solved h) scaled near is low = record { net = net; scaled = scaled; near = near; work = is.1 }
+
+hop_refused : (rows : NetRows) (r : NetRefusal) (solving : HopSolving) → solving ≡ hop_solvings.Refused r → (hop_runs.solving_answer rows solving).status ≤ 1 → ⊥
+hop_refused rows r solving e low = not_full (hop_runs.solving_answer rows solving) (outcomes.NetRefused r) (ap (hop_runs.solving_answer rows) e) low (omega arith)
+
+hop_solving_can : (rows : NetRows) (request : Request) (solving : HopSolving) → hop_runs.IsHopSolving rows request.net (hop_runs.asked_of request) solving
+    → (hop_runs.solving_answer rows solving).status ≤ 1 → IsHopSolvable rows request
+hop_solving_can rows request solving is low = by (scaled_of rows request.net) refl is
+  where
+    within : (net : ScaledNet) (o : Option NetRefusal) → scaled_of rows request.net ≡ Ok net → hop_refusal rows ≡ o → hop_runs.OnLimits rows net (hop_runs.asked_of request) o solving → IsHopSolvable rows request
+    within net (Some r) scaled e on = absurd (hop_refused rows r solving on low)
+    within net None scaled e on = hop_run_can rows net request solving scaled e on low
+
+    by : (r : Result ScaledNet NetRefusal) → scaled_of rows request.net ≡ r → hop_runs.OnNet rows r (hop_runs.asked_of request) solving → IsHopSolvable rows request
+    by (Err r) e on = absurd (hop_refused rows r solving on low)
+    by (Ok net) e on = within net (hop_refusal rows) e refl on
+
+hops_accepts : (files : Holding) (request : Request) (old new : ShelfView) (answer : Answer) → old.holds ≡ Some files → answer.status ≤ 1
+    → hop_runs.OfHops (file_at request 0) request old new answer → AcceptsHops files request
+hops_accepts files request old new answer tells full of =
+    let r = rows_of_file files (file_at request 0) (λ rows. Ends (hop_runs.SolvesHops request rows)) old new answer tells full of in
+    let solves : hop_runs.SolvesHops request r.0 answer = ends_full (hop_runs.SolvesHops request r.0) (with_file old (file_at request 0)) new answer full r.2 in
+    (r.0, r.1, hop_solving_can r.0 request solves.0 solves.1 (other_is answer (hop_runs.solving_answer r.0 solves.0) solves.2 full))
+
+part_run_can : (rows : NetRows) (net : ScaledNet) (request : Request) (solving : PartSolving) → scaled_of rows request.net ≡ Ok net
+    → part_runs.OnRun net (part_runs.asked_of request) solving → (part_runs.solving_answer rows solving).status ≤ 1 → IsPartSolvable rows request
+part_run_can rows net request (part_solvings.Refused r) scaled is low = absurd is
+part_run_can rows net request (part_solvings.TooMuch n) scaled is low = absurd (not_full (answer_of (outcomes.TooMuch n)) (outcomes.TooMuch n) refl low (omega arith))
+part_run_can rows net request (part_solvings.Done solved p) scaled is low = record { net = net; scaled = scaled; work = is.1 }
+
+part_refused : (rows : NetRows) (r : NetRefusal) (solving : PartSolving) → solving ≡ part_solvings.Refused r → (part_runs.solving_answer rows solving).status ≤ 1 → ⊥
+part_refused rows r solving e low = not_full (part_runs.solving_answer rows solving) (outcomes.NetRefused r) (ap (part_runs.solving_answer rows) e) low (omega arith)
+
+part_solving_can : (rows : NetRows) (request : Request) (solving : PartSolving) → part_runs.IsPartSolving rows request.net (part_runs.asked_of request) solving
+    → (part_runs.solving_answer rows solving).status ≤ 1 → IsPartSolvable rows request
+part_solving_can rows request solving is low = by (scaled_of rows request.net) refl is
+  where
+    by : (r : Result ScaledNet NetRefusal) → scaled_of rows request.net ≡ r → part_runs.OnNet r (part_runs.asked_of request) solving → IsPartSolvable rows request
+    by (Err r) e on = absurd (part_refused rows r solving on low)
+    by (Ok net) e on = part_run_can rows net request solving e on low
+
+throughput_accepts : (files : Holding) (request : Request) (old new : ShelfView) (answer : Answer) → old.holds ≡ Some files → answer.status ≤ 1
+    → part_runs.OfThroughput (file_at request 0) request old new answer → AcceptsThroughput files request
+throughput_accepts files request old new answer tells full of =
+    let r = rows_of_file files (file_at request 0) (λ rows. Ends (part_runs.SolvesParts request rows)) old new answer tells full of in
+    let solves : part_runs.SolvesParts request r.0 answer = ends_full (part_runs.SolvesParts request r.0) (with_file old (file_at request 0)) new answer full r.2 in
+    (r.0, r.1, part_solving_can r.0 request solves.0 solves.1 (other_is answer (part_runs.solving_answer r.0 solves.0) solves.2 full))
+
 -- ---- checkhops and checkthroughput
 
 check_hops_accepts : (files : Holding) (request : Request) (old new : ShelfView) (answer : Answer) → old.holds ≡ Some files → answer.status ≤ 1
@@ -407,6 +468,8 @@ command_accepts commands.Tighten files request old new answer tells full of = ti
 command_accepts commands.Batch files request old new answer tells full of = batch_accepts files request old new answer tells full of
 command_accepts commands.Sweep files request old new answer tells full of = sweep_accepts files request old new answer tells full of
 command_accepts commands.SweepSolve files request old new answer tells full of = sweepsolve_accepts files request old new answer tells full of
+command_accepts commands.Hops files request old new answer tells full of = hops_accepts files request old new answer tells full of
+command_accepts commands.Throughput files request old new answer tells full of = throughput_accepts files request old new answer tells full of
 command_accepts commands.CheckHops files request old new answer tells full of = check_hops_accepts files request old new answer tells full of
 command_accepts commands.CheckThroughput files request old new answer tells full of = check_part_accepts files request old new answer tells full of
 command_accepts commands.Print files request old new answer tells full of = print_accepts files request old new answer tells full of

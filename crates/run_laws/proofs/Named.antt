@@ -2,7 +2,7 @@
 use Rattle.std.proofs.Common.{◌≡◌, ◌≤◌, ℕ, List, [], ◌∷◌, length, refl, arith}
 use Rattle.std.specs.Prelude.{option_to_list, slice_get, slice_index_or}
 use Rattle.mcf_words.specs.declared.request.Command.{Command}
-use Rattle.mcf_words.specs.declared.request.Command.TheVariants.{Solve, Check, WhatIf, Upgrade, Tighten, Batch, Sweep, SweepSolve, CheckHops, CheckThroughput, Print, Gen, Trial}
+use Rattle.mcf_words.specs.declared.request.Command.TheVariants.{Solve, Check, WhatIf, Upgrade, Tighten, Batch, Sweep, SweepSolve, CheckHops, CheckThroughput, Hops, Throughput, Print, Gen, Trial}
 use Rattle.mcf_words.specs.declared.request.Request.{Request}
 use Rattle.mcf_words.specs.Request.{IsFileCount}
 use Rattle.mcf_cli.specs.Run.{file_at, file_if}
@@ -17,6 +17,8 @@ files_of Tighten request = file_at request 0 ∷ file_at request 1 ∷ option_to
 files_of Batch request = file_at request 0 ∷ file_at request 1 ∷ []
 files_of Sweep request = file_at request 0 ∷ file_at request 1 ∷ []
 files_of SweepSolve request = file_at request 0 ∷ []
+files_of Hops request = file_at request 0 ∷ []
+files_of Throughput request = file_at request 0 ∷ []
 files_of CheckHops request = file_at request 0 ∷ file_at request 1 ∷ []
 files_of CheckThroughput request = file_at request 0 ∷ file_at request 1 ∷ []
 files_of WhatIf request = file_at request 0 ∷ file_at request 1 ∷ file_at request 2 ∷ []
@@ -68,6 +70,8 @@ names_are Tighten request is = some_named request.names is.least is.most
 names_are Batch request is = two_named request.names (just (length request.names) 2 is.least is.most)
 names_are Sweep request is = two_named request.names (just (length request.names) 2 is.least is.most)
 names_are SweepSolve request is = one_named request.names (just (length request.names) 1 is.least is.most)
+names_are Hops request is = one_named request.names (just (length request.names) 1 is.least is.most)
+names_are Throughput request is = one_named request.names (just (length request.names) 1 is.least is.most)
 names_are CheckHops request is = two_named request.names (just (length request.names) 2 is.least is.most)
 names_are CheckThroughput request is = two_named request.names (just (length request.names) 2 is.least is.most)
 names_are WhatIf request is = three_named request.names (just (length request.names) 3 is.least is.most)

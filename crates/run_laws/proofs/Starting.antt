@@ -50,7 +50,13 @@ use Rattle.run_sweeps.specs.declared.swept.Swept.{Swept}
 use Rattle.run_sweeps.specs.declared.asked.SweepAsked.{SweepAsked}
 use Rattle.run_certs.specs.WhatIf.{scripted_answer, OnScript, OnCertified, OnCertificate}
 use Rattle.run_hops.specs.Check as hops
+use Rattle.run_hops.specs.Hops as hop_runs
+use Rattle.run_hops.specs.declared.solving.HopSolving.{HopSolving}
+use Rattle.run_hops.specs.declared.solving.HopSolving.TheVariants as hop_solvings
 use Rattle.run_parts.specs.Check as parts
+use Rattle.run_parts.specs.Parts as part_runs
+use Rattle.run_parts.specs.declared.solving.PartSolving.{PartSolving}
+use Rattle.run_parts.specs.declared.solving.PartSolving.TheVariants as part_solvings
 use Rattle.mcf_cli.specs.Run.{file_at, file_if, OfCommand, OfRequest, IsAnswer, RunEnds}
 use Rattle.run_laws.specs.Started.{FailsAtOne, Starts, StartsItsFiles, files_in}
 use Rattle.mcf_words.proofs.Counted.{names_count}
@@ -171,6 +177,16 @@ solving_low rows (solvings.Refused r) = omega arith
 solving_low rows (solvings.TooMuch n) = omega arith
 solving_low rows (solvings.Done net s) = verdict_low s.proof.closed
 
+hops_low : (rows : NetRows) (solving : HopSolving) → (hop_runs.solving_answer rows solving).status ≤ 3
+hops_low rows (hop_solvings.Refused r) = omega arith
+hops_low rows (hop_solvings.TooMuch n) = omega arith
+hops_low rows (hop_solvings.Done net h) = verdict_low h.proof.closed
+
+parts_low : (rows : NetRows) (solving : PartSolving) → (part_runs.solving_answer rows solving).status ≤ 3
+parts_low rows (part_solvings.Refused r) = omega arith
+parts_low rows (part_solvings.TooMuch n) = omega arith
+parts_low rows (part_solvings.Done net p) = verdict_low p.closed
+
 upgrade_low : (rows : NetRows) (certified : Certified) → (upgrade_answer rows certified).status ≤ 3
 upgrade_low rows (certs.Said judged) = judged_low judged
 upgrade_low rows (certs.Valid net proof) = omega arith
@@ -266,6 +282,12 @@ command_went commands.Sweep request old new answer of =
 command_went commands.SweepSolve request old new answer of =
     net_went (file_at request 0) [] (λ rows. Ends (OnSweepSolve request rows)) old new answer
     (λ rows on. ends_went (OnSweepSolve request rows) (with_file old (file_at request 0)) new answer (λ s. solves_calm rows (sweep_asked_of request) answer (scaled_of rows request.net) s) on) of
+command_went commands.Hops request old new answer of =
+    net_went (file_at request 0) [] (λ rows. Ends (hop_runs.SolvesHops request rows)) old new answer
+    (λ rows on. ends_went (hop_runs.SolvesHops request rows) (with_file old (file_at request 0)) new answer (λ s. same_calm answer (hop_runs.solving_answer rows s.0) s.2 (hops_low rows s.0)) on) of
+command_went commands.Throughput request old new answer of =
+    net_went (file_at request 0) [] (λ rows. Ends (part_runs.SolvesParts request rows)) old new answer
+    (λ rows on. ends_went (part_runs.SolvesParts request rows) (with_file old (file_at request 0)) new answer (λ s. same_calm answer (part_runs.solving_answer rows s.0) s.2 (parts_low rows s.0)) on) of
 command_went commands.CheckHops request old new answer of =
     let first = file_at request 0 in
     let cert = file_at request 1 in

@@ -19,8 +19,11 @@ use Rattle.cert_judge.specs.Chain.{AreStages}
 use Rattle.hop_check.specs.declared.hop_proof.HopProof.{HopProof}
 use Rattle.throughput.specs.declared.part_proof.PartProof.{PartProof}
 use Rattle.run_texts.specs.Heads.{run_head}
+use Rattle.hop_check.specs.Limits.{hop_refusal}
 use Rattle.run_hops.specs.Check as hops
+use Rattle.run_hops.specs.Hops as hop_runs
 use Rattle.run_parts.specs.Check as parts
+use Rattle.run_parts.specs.Parts as part_runs
 use Rattle.net_solve.specs.Asked.{IsTooMuch}
 use Rattle.run_sweeps.specs.Asked.{IsSweepTooMuch}
 use Rattle.matrix_batch.specs.Matrices.{Matrix}
@@ -28,7 +31,7 @@ use Rattle.matrix_batch.specs.Batch.{IsBatch, IsBatchTooMuch}
 use Rattle.script.specs.declared.step.Step.{Step}
 use Rattle.script.specs.Reading.{script_of}
 use Rattle.mcf_words.specs.declared.request.Command.{Command}
-use Rattle.mcf_words.specs.declared.request.Command.TheVariants.{Solve, Check, WhatIf, Upgrade, Tighten, Batch, Sweep, SweepSolve, CheckHops, CheckThroughput, Print, Gen, Trial}
+use Rattle.mcf_words.specs.declared.request.Command.TheVariants.{Solve, Check, WhatIf, Upgrade, Tighten, Batch, Sweep, SweepSolve, CheckHops, CheckThroughput, Hops, Throughput, Print, Gen, Trial}
 use Rattle.mcf_words.specs.declared.request.Request.{Request}
 use Rattle.mcf_words.specs.Request.{request_of}
 use Rattle.mcf_base.specs.Reading.{IsText}
@@ -129,6 +132,28 @@ abbrev pub AcceptsBatch : Holding → Request → Type 0
 AcceptsBatch files request =
     (rows : NetRows) × IsNetFile files (file_at request 0) rows × IsListFile files (file_at request 1) rows request
 
+-- The rows are a network in whole units under the options, no limit of hops is too far, and the work that is asked is within its
+-- limit.
+pub record IsHopSolvable (rows : NetRows) (request : Request) : Type 0 where
+  pub net : ScaledNet
+  pub scaled : scaled_of rows request.net ≡ Ok net
+  pub near : hop_refusal rows ≡ None
+  pub work : (n : ℕ) → ¬ (IsTooMuch net.net (hop_runs.asked_of request) n)
+
+-- a network that can be solved within its hop limits as asked
+abbrev pub AcceptsHops : Holding → Request → Type 0
+AcceptsHops files request = (rows : NetRows) × IsNetFile files (file_at request 0) rows × IsHopSolvable rows request
+
+-- the rows are a network in whole units under the options, and the work that is asked is within its limit
+pub record IsPartSolvable (rows : NetRows) (request : Request) : Type 0 where
+  pub net : ScaledNet
+  pub scaled : scaled_of rows request.net ≡ Ok net
+  pub work : (n : ℕ) → ¬ (IsTooMuch net.net (part_runs.asked_of request) n)
+
+-- a network whose greatest total can be sought as asked
+abbrev pub AcceptsThroughput : Holding → Request → Type 0
+AcceptsThroughput files request = (rows : NetRows) × IsNetFile files (file_at request 0) rows × IsPartSolvable rows request
+
 -- The file of that name is the text of this certificate with hop limits within its limit: its first lines are read, the rows are
 -- this network in whole units under the options that they say, no limit is too far, and the rest is read with the network's names.
 pub record IsHopsFile (files : Holding) (name : List ℕ) (rows : NetRows) (net : ScaledNet) (h : HopProof) : Type 0 where
@@ -171,6 +196,8 @@ Accepts Tighten files request = AcceptsTighten files request
 Accepts Batch files request = AcceptsBatch files request
 Accepts Sweep files request = AcceptsUpgrade files request
 Accepts SweepSolve files request = AcceptsSweepSolve files request
+Accepts Hops files request = AcceptsHops files request
+Accepts Throughput files request = AcceptsThroughput files request
 Accepts CheckHops files request = AcceptsCheckHops files request
 Accepts CheckThroughput files request = AcceptsCheckThroughput files request
 Accepts Print files request = AcceptsPrint files request
