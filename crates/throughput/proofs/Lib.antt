@@ -6,3 +6,16 @@ pub mod Within
 pub mod Appended
 pub mod Grown
 pub mod Pricing
+pub mod Along
+pub mod Loading
+pub mod Turning
+pub mod Phasing
+pub mod Fuller
+pub mod FirstPhase
+pub mod Measuring
+pub mod PartNexts
+pub mod PartReaching
+pub mod PartRows
+pub mod PartNothing
+pub mod PartValid
+pub mod PartEnding

@@ -16,7 +16,7 @@ use Rattle.throughput.specs.Gates.{gate, AreGates, IsPrice}
 use Rattle.throughput.specs.Prices.{lesser_of, IsPriceOf, IsLeastBelow, IsLeastIfAny}
 
 -- behind the lengths of the cells others don't count
-same_length : (cells : List Cell) (lengths others walk : List ℕ) (u v : ℕ) → length lengths ≡ length cells → PositiveWalk cells u v walk → walk_length (lengths ++ others) walk ≡ walk_length lengths walk
+pub same_length : (cells : List Cell) (lengths others walk : List ℕ) (u v : ℕ) → length lengths ≡ length cells → PositiveWalk cells u v walk → walk_length (lengths ++ others) walk ≡ walk_length lengths walk
 same_length cells lengths others [] u v e w = refl
 same_length cells lengths others (c ∷ walk) u v e (x, (cell, at, positive, goes), w) =
     let inside = slice_get_within cells c cell at in
@@ -26,7 +26,7 @@ same_length cells lengths others (c ∷ walk) u v e (x, (cell, at, positive, goe
     let right = sum_by-cons (λ d. get_or lengths d 0) c walk in
     omega arith
 
-same_commodity : (net : Network) (k : ℕ) (a b : Commodity) → slice_get net.commodities k ≡ Some a → slice_get net.commodities k ≡ Some b → a ≡ b
+pub same_commodity : (net : Network) (k : ℕ) (a b : Commodity) → slice_get net.commodities k ≡ Some a → slice_get net.commodities k ≡ Some b → a ≡ b
 same_commodity net k a b ha hb = sym (get_or_from_slice_get net.commodities k a no_commodity ha) ∙ get_or_from_slice_get net.commodities k b no_commodity hb
 
 -- without a gate's capacity there is no walk, so no price

@@ -6,3 +6,5 @@ pub mod Gates
 pub mod Gating
 pub mod Run
 pub mod Prices
+pub mod Loaded
+pub mod Reached

@@ -19,14 +19,14 @@ pub struct Gated<'a> {
 
 // What lengths are taken under: the setting, the greatest exponent and the least capacity.
 #[derive(Clone, Copy)]
-struct Under {
-    setting: Setting,
-    top: u128,
-    least: u64,
+pub(crate) struct Under {
+    pub setting: Setting,
+    pub top: u128,
+    pub least: u64,
 }
 
 // The least positive capacity, or 2^44 where there is none.
-fn least_of(cells: &[Cell]) -> u64
+pub(crate) fn least_of(cells: &[Cell]) -> u64
     ensures value { result ≡ least_capacity cells.now }
 {
     let mut least = MAX_UNITS;
@@ -39,7 +39,7 @@ fn least_of(cells: &[Cell]) -> u64
 }
 
 // How far a cell's load stands in the exponent.
-fn exponent(setting: &Setting, cell: &Cell, load: u64) -> u128
+pub(crate) fn exponent(setting: &Setting, cell: &Cell, load: u64) -> u128
     requires setting { IsSetting setting.now }
     requires cap { cell.now.cap ≤ MAX_UNITS }
     requires load { load ≤ MAX_LENGTH }
@@ -53,7 +53,7 @@ fn exponent(setting: &Setting, cell: &Cell, load: u64) -> u128
 }
 
 // The greatest exponent of these cells.
-fn greatest_of(setting: &Setting, cells: &[Cell], loads: &[u64]) -> u128
+pub(crate) fn greatest_of(setting: &Setting, cells: &[Cell], loads: &[u64]) -> u128
     requires setting { IsSetting setting.now }
     requires caps { All (λ cell. cell.cap ≤ MAX_UNITS) cells.now }
     requires loads { length loads.now ≡ length cells.now }
@@ -68,7 +68,7 @@ fn greatest_of(setting: &Setting, cells: &[Cell], loads: &[u64]) -> u128
 }
 
 // The length of a cell.
-fn length_of(powers: &Powers, under: &Under, cell: &Cell, load: u64) -> u64
+pub(crate) fn length_of(powers: &Powers, under: &Under, cell: &Cell, load: u64) -> u64
     requires setting { IsSetting under.now.setting }
     requires least { 1 ≤ cell.now.cap → under.now.least ≤ cell.now.cap }
     requires cap { cell.now.cap ≤ MAX_UNITS }
@@ -85,7 +85,13 @@ fn length_of(powers: &Powers, under: &Under, cell: &Cell, load: u64) -> u64
 }
 
 // Puts the length of each of these cells in its place.
-fn put_lengths(powers: &Powers, under: &Under, cells: &[Cell], loads: &[u64], into: &mut [u64])
+pub(crate) fn put_lengths(
+    powers: &Powers,
+    under: &Under,
+    cells: &[Cell],
+    loads: &[u64],
+    into: &mut [u64],
+)
     requires setting { IsSetting under.now.setting }
     requires caps { All (λ cell. cell.cap ≤ MAX_UNITS) cells.now }
     requires loads { length loads.now ≡ length cells.now }
