@@ -15,7 +15,7 @@ use Rattle.flow_model.specs.Lengths.{greatest_exponent, least_capacity, length_a
 use Rattle.flow_model.proofs.Duality.{no_commodity}
 use Rattle.flow_paths.specs.Evaluation.{loads_of}
 use Rattle.route_tally.specs.Asked.{first_setting}
-use Rattle.throughput.specs.Gates.{gated, gated_loads, gated_lengths, IsPrice}
+use Rattle.gates.specs.Gates.{gated, gated_loads, gated_lengths, IsPrice}
 use Rattle.throughput.specs.Run.{IsPartPhase, IsPartTurn, IsRouted, routed, turns_after}
 
 -- in the first phase loads have no effect

@@ -3,9 +3,6 @@ pub mod Excess
 pub mod Sound
 pub mod Certified
 pub mod Within
-pub mod Appended
-pub mod Grown
-pub mod Pricing
 pub mod Along
 pub mod Loading
 pub mod Turning

@@ -29,14 +29,14 @@ use Rattle.dual_bound.proofs.Bounding.{Makes, bound-makes, lengths-small, source
 use Rattle.solver_run.proofs.Duals.{bound-shows}
 use Rattle.solver_run.proofs.Short.{least-short}
 use Rattle.throughput.specs.declared.part_proof.PartDual.{PartDual}
-use Rattle.throughput.specs.Gates.{gate, AreGates, gated, IsPrice, IsLeastPrice}
-use Rattle.throughput.specs.Prices.{IsLeastIfAny}
+use Rattle.gates.specs.Gates.{gate, AreGates, gated, IsPrice, IsLeastPrice}
+use Rattle.gates.specs.Prices.{IsLeastIfAny}
 use Rattle.throughput.specs.declared.loaded.Loaded.{Loaded}
 use Rattle.throughput.specs.Loaded.{HasLoaded, IsPrepared, lengths_under}
 use Rattle.throughput.proofs.Loading.{cells-long, gates-long}
 use Rattle.throughput.specs.Run.{HasNoWalk, HasSomeWalk, IsPartBoundOf}
-use Rattle.throughput.proofs.Appended.{least-append, lengths-within}
-use Rattle.throughput.proofs.Pricing.{same_length, same_commodity}
+use Rattle.gates.proofs.Appended.{least-append, lengths-within}
+use Rattle.gates.proofs.Pricing.{same_length, same_commodity}
 
 small-cond : (b : Bool) → cond {A = ℕ} b 1 0 ≤ 1
 small-cond true = omega arith

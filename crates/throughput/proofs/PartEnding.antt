@@ -15,7 +15,7 @@ use Rattle.throughput.specs.declared.part_proof.PartDual.{PartDual}
 use Rattle.throughput.specs.declared.part_proof.PartProof.{PartProof}
 use Rattle.throughput.specs.declared.reached.Reached.{Reached}
 use Rattle.throughput.specs.Partial.{total_of, part_lower_of, part_upper_of}
-use Rattle.throughput.specs.Gates.{AreGates, IsLeastPrice}
+use Rattle.gates.specs.Gates.{AreGates, IsLeastPrice}
 use Rattle.throughput.specs.Run.{HasSomeWalk, IsPartClosedAfter, IsThroughputRun, part_fill_after, part_kept_after, turns_after}
 use Rattle.throughput.specs.Reached.{IsMet, IsReached, carried_in}
 use Rattle.throughput.proofs.PartReaching.{kept-all, met-of, of-met}

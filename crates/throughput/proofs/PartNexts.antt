@@ -15,7 +15,7 @@ use Rattle.route_tally.specs.declared.options.RunOptions.{RunOptions}
 use Rattle.route_tally.specs.Asked.{first_setting, later_setting, setting_after}
 use Rattle.throughput.specs.declared.part_proof.PartDual.{PartDual}
 use Rattle.throughput.specs.Partial.{total_of, part_upper_of}
-use Rattle.throughput.specs.Gates.{gated, gated_loads, gated_lengths}
+use Rattle.gates.specs.Gates.{gated, gated_loads, gated_lengths}
 use Rattle.throughput.specs.Run.{IsPartPhase, IsNextPart, IsPartBoundOf, IsPartClosedAfter, no_part_dual, part_fill_after, part_kept_after, part_lower_after, routed, turns_after}
 use Rattle.throughput.specs.Reached.{ArePartPhases}
 

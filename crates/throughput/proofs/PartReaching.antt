@@ -26,7 +26,7 @@ use Rattle.throughput.specs.declared.reached.Room.{Room}
 use Rattle.throughput.specs.declared.reached.Kept.{Kept}
 use Rattle.throughput.specs.declared.reached.Reached.{Reached}
 use Rattle.throughput.specs.Partial.{total_of, part_upper_of}
-use Rattle.throughput.specs.Gates.{gated_lengths, IsLeastPrice}
+use Rattle.gates.specs.Gates.{gated_lengths, IsLeastPrice}
 use Rattle.throughput.specs.Run.{IsPartBoundOf, IsPartClosedAfter, no_part_dual, part_fill_after, part_kept_after, part_lower_after, routed, turns_after}
 use Rattle.throughput.specs.Loaded.{HasLoaded, IsLoaded, IsPrepared, lengths_under}
 use Rattle.throughput.specs.Reached.{AllDivide, HasPhase, IsMet, IsReached, IsRoom, carried_in}

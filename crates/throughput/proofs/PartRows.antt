@@ -20,7 +20,7 @@ use Rattle.flow_paths.specs.Evaluation.{loads_of}
 use Rattle.route_tally.specs.Tally.{IsTally, same_path}
 use Rattle.route_tally.proofs.SamePaths.{same_parts}
 use Rattle.solver_run.proofs.Short.{least-short}
-use Rattle.throughput.specs.Gates.{AreGates, gated_loads, gated_lengths}
+use Rattle.gates.specs.Gates.{AreGates, gated_loads, gated_lengths}
 use Rattle.throughput.specs.Run.{IsPartPhase, IsPartTurn, routed, turns_after}
 use Rattle.throughput.proofs.FirstPhase.{loads-long}
 use Rattle.throughput.proofs.Measuring.{front-at, named}

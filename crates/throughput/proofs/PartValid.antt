@@ -31,7 +31,7 @@ use Rattle.throughput.specs.declared.part_proof.PartDual.{PartDual}
 use Rattle.throughput.specs.declared.part_proof.PartProof.{PartProof}
 use Rattle.throughput.specs.Partial.{total_of, part_lower_of, part_upper_of}
 use Rattle.throughput.specs.Conditions.{AmountsFit, PartFractionsArePrinted, IsValidPart, IsPartProofOf}
-use Rattle.throughput.specs.Gates.{gate, AreGates, gated, gated_loads}
+use Rattle.gates.specs.Gates.{gate, AreGates, gated, gated_loads}
 use Rattle.throughput.specs.Run.{HasNoWalk, HasSomeWalk, IsNothingProof, IsPartPhasedRun, IsThroughputRun, no_part_dual, part_fill_after, part_kept_after, part_lower_after, routed, turns_after}
 use Rattle.throughput.proofs.FirstPhase.{first-loads, loads-long}
 use Rattle.throughput.proofs.Measuring.{IsSound, part-sound, back-at, front-at, named}

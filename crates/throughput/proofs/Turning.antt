@@ -23,12 +23,12 @@ use Rattle.fixed_exp.proofs.PowerTable.{weight_small}
 use Rattle.fixed_exp.proofs.Passes.{get_or-lengths_at, length-lengths_at, least_bounds, greatest_bounds, length_fits}
 use Rattle.throughput.specs.declared.loaded.Loaded.{Loaded}
 use Rattle.throughput.specs.declared.turns.Tops.{Tops}
-use Rattle.throughput.specs.Gates.{gate, IsPrice}
-use Rattle.throughput.specs.Prices.{IsPriceOf}
+use Rattle.gates.specs.Gates.{gate, IsPrice}
+use Rattle.gates.specs.Prices.{IsPriceOf}
 use Rattle.throughput.specs.Run.{IsPartTurn, routed}
 use Rattle.throughput.specs.Loaded.{Follow, HasLoaded, HasTurned, IsLoaded, IsPrepared, lengths_under}
-use Rattle.throughput.proofs.Appended.{least-append, greatest-append, lengths-append, lengths-within}
-use Rattle.throughput.proofs.Pricing.{same_length, same_commodity, priced}
+use Rattle.gates.proofs.Appended.{least-append, greatest-append, lengths-append, lengths-within}
+use Rattle.gates.proofs.Pricing.{same_length, same_commodity, priced}
 use Rattle.throughput.proofs.Loading.{cells-long, gates-long}
 
 -- the lengths of gates under the loads

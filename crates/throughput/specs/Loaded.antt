@@ -14,7 +14,7 @@ use Rattle.route_tally.specs.Tally.{IsCollected}
 use Rattle.throughput.specs.declared.loaded.Loaded.{Loaded}
 use Rattle.throughput.specs.declared.turns.Tops.{Tops}
 use Rattle.throughput.specs.Partial.{total_of}
-use Rattle.throughput.specs.Gates.{AreGates, gated}
+use Rattle.gates.specs.Gates.{AreGates, gated}
 use Rattle.throughput.specs.Run.{IsPartTurn, routed}
 
 -- a gate for each commodity of a network, and the least capacity of cells and gates

@@ -15,7 +15,7 @@ use Rattle.throughput.specs.declared.loaded.Loaded.{Loaded}
 use Rattle.throughput.specs.declared.reached.Room.{Room}
 use Rattle.throughput.specs.declared.reached.Reached.{Reached}
 use Rattle.throughput.specs.Partial.{part_upper_of}
-use Rattle.throughput.specs.Gates.{IsLeastPrice}
+use Rattle.gates.specs.Gates.{IsLeastPrice}
 use Rattle.throughput.specs.Run.{IsPartPhase, IsNextPart, IsPartClosedAfter, no_part_dual, part_fill_after, routed, turns_after}
 use Rattle.throughput.specs.Loaded.{IsLoaded, lengths_under}
 

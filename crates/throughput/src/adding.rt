@@ -4,7 +4,7 @@ ghost use Rattle.std.specs.Prelude.{◌≡◌, ℕ, ◌+◌, ◌*◌, ◌<◌, �
 ghost use Rattle.flow_model.specs.Walk.{times};
 ghost use Rattle.flow_model.specs.Lengths.{IsSetting, greatest_exponent};
 
-use crate::lengths::exponent;
+use gates::exponent;
 use flow_model::{Cell, Setting};
 use mcf_limits::{MAX_LENGTH, MAX_UNITS};
 

@@ -10,11 +10,11 @@ ghost use Rattle.throughput.specs.Run.{HasNoWalk, IsPartBoundOf};
 ghost use Rattle.throughput.specs.Loaded.{HasLoaded, IsPrepared, lengths_under};
 
 use crate::bound::upper_num;
-use crate::lengths::{Gated, gated_lengths};
+use gates::{Gated, gated_lengths};
 use crate::loaded::Loaded;
 use crate::part_proof::PartDual;
 use crate::prepared::Prepared;
-use crate::prices::least_price;
+use gates::least_price;
 use cert_check::lengths;
 use dual_bound::{are_filled, assembled, fill_rows, source_rows};
 use flow_model::{Net, Setting};

@@ -3,11 +3,11 @@
 ghost use Rattle.std.specs.Prelude.{◌≡◌, ◌+◌, ◌*◌, ◌<◌, ◌≤◌, OnOk, length};
 ghost use Rattle.std.specs.List.{sum_by};
 ghost use Rattle.flow_model.specs.Lengths.{IsSetting};
-ghost use Rattle.throughput.specs.Gates.{IsLeastPrice};
+ghost use Rattle.gates.specs.Gates.{IsLeastPrice};
 ghost use Rattle.throughput.specs.Loaded.{Follow, HasLoaded, IsPrepared, lengths_under};
 ghost use Rattle.throughput.specs.Reached.{HasPhase};
 
-use crate::lengths::{greatest_of, put_lengths};
+use gates::{greatest_of, put_lengths};
 use crate::loaded::Loaded;
 use crate::prepared::Prepared;
 use crate::turns::{Tops, turn, under};

@@ -3,13 +3,13 @@
 ghost use Rattle.std.specs.Prelude.{◌≡◌, ◌<◌, ◌≤◌, ◌↔◌, [], true, false, IsTrue, IfOk, length};
 ghost use Rattle.route_tally.specs.Asked.{AreRunOptions, first_setting};
 ghost use Rattle.throughput.specs.Conditions.{IsPartCertified, IsPartProofOf, IsValidPart};
-ghost use Rattle.throughput.specs.Gates.{IsLeastPrice};
+ghost use Rattle.gates.specs.Gates.{IsLeastPrice};
 ghost use Rattle.throughput.specs.Run.{HasNoWalk, HasSomeWalk, IsThroughputRun};
 ghost use Rattle.throughput.specs.Loaded.{IsLoaded, IsPrepared, lengths_under};
 ghost use Rattle.throughput.specs.Reached.{IsMet, IsReached, IsRoom};
 
-use crate::gate_cells::gates;
-use crate::lengths::least_of;
+use gates::gates;
+use gates::least_of;
 use crate::loaded::{Loaded, nothing_loaded, zeros};
 use crate::measured::{measured, value_of};
 use crate::part_proof::{PartDual, PartProof};

@@ -6,7 +6,7 @@ ghost use Rattle.flow_paths.specs.Evaluation.{fill, fraction_le};
 ghost use Rattle.flow_paths.specs.Fullness.{IsFill, fullness};
 ghost use Rattle.route_tally.specs.Asked.{AreRunOptions, first_setting, later_setting};
 ghost use Rattle.throughput.specs.Partial.{part_upper_of};
-ghost use Rattle.throughput.specs.Gates.{IsLeastPrice};
+ghost use Rattle.gates.specs.Gates.{IsLeastPrice};
 ghost use Rattle.throughput.specs.Run.{HasSomeWalk, IsPartBoundOf};
 ghost use Rattle.throughput.specs.Loaded.{HasLoaded, IsLoaded, IsPrepared, lengths_under};
 ghost use Rattle.throughput.specs.Reached.{IsMet, IsReached, IsRoom, carried_in};

@@ -7,7 +7,7 @@ ghost use Rattle.flow_model.specs.Least.{AreDifferent};
 ghost use Rattle.throughput.specs.Loaded.{Follow, HasLoaded, HasTurned, IsLoaded, IsPrepared, amount_of};
 
 use crate::adding::add_along;
-use crate::lengths::{Under, exponent, length_of, put_lengths};
+use gates::{Under, exponent, length_of, put_lengths};
 use crate::loaded::Loaded;
 use crate::prepared::Prepared;
 use dijkstra_paths::Scratch;

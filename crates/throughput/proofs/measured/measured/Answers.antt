@@ -3,7 +3,7 @@ use Rattle.std.specs.Prelude.{All}
 use Rattle.std.proofs.lemmas.List.{length-append}
 use Rattle.mcf_limits.specs.declared.TheConstants.{MAX_LENGTH}
 use Rattle.flow_paths.specs.DualRows.{potential_at}
-use Rattle.throughput.specs.Prices.{IsLeastIfAny}
+use Rattle.gates.specs.Prices.{IsLeastIfAny}
 use Rattle.throughput.proofs.Loading.{cells-long, gates-long, cells-small, gates-small}
 use Rattle.throughput.proofs.Measuring.{row-once, named, source-one, placed, none-priced, all-small, behind-small}
 use Rattle.throughput.proofs.measured.measured.Goals as goal
