@@ -7,7 +7,6 @@ use Rattle.mcf_limits.specs.declared.TheConstants.{MAX_LENGTH}
 use Rattle.flow_model.specs.declared.net.Cell.{Cell}
 use Rattle.flow_model.specs.Groups.{group_sources}
 use Rattle.flow_model.specs.Network.{Network}
-use Rattle.flow_paths.specs.Certificate.{upper_of}
 use Rattle.flow_paths.specs.DualRows.{Length, Potential, DualRows}
 use Rattle.flow_paths.specs.declared.certificate.Proof.{Proof}
 use Rattle.flow_paths.specs.declared.certificate.Routing.{Routing}

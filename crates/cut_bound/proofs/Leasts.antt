@@ -40,10 +40,10 @@ le-test x y h = of-le (x.num * y.den) (y.num * x.den) h
 pub test-gt : (x y : Fraction) → fraction_le x y ≡ false → FractionLe y x
 test-gt x y e = let l = gt-of (x.num * y.den) (y.num * x.den) e in omega arith
 
-fraction-le : (x y z : Fraction) → 1 ≤ y.den → fraction_le x y ≡ true → fraction_le y z ≡ true → fraction_le x z ≡ true
+pub fraction-le : (x y z : Fraction) → 1 ≤ y.den → fraction_le x y ≡ true → fraction_le y z ≡ true → fraction_le x z ≡ true
 fraction-le x y z some a b = le-test x z (le-trans x y z some (test-le x y a) (test-le y z b))
 
-fraction-gt : (x y z : Fraction) → 1 ≤ z.den → fraction_le y z ≡ false → fraction_le x y ≡ false → fraction_le x z ≡ false
+pub fraction-gt : (x y z : Fraction) → 1 ≤ z.den → fraction_le y z ≡ false → fraction_le x y ≡ false → fraction_le x z ≡ false
 fraction-gt x y z some a b = by_test (fraction_le x z) refl
   where
     by_test : (t : Bool) → fraction_le x z ≡ t → fraction_le x z ≡ false
@@ -52,10 +52,10 @@ fraction-gt x y z some a b = by_test (fraction_le x z) refl
 
 -- the first where it is at most the second
 
-pick : {X : Type 0} → (X → X → Bool) → X → X → X
+unfoldable pub pick : {X : Type 0} → (X → X → Bool) → X → X → X
 pick le x y = cond (le x y) x y
 
-pick-assoc : {X : Type 0} (le : X → X → Bool) (x y z : X) → (le x y ≡ true → le y z ≡ true → le x z ≡ true) → (le y z ≡ false → le x y ≡ false → le x z ≡ false) → pick le x (pick le y z) ≡ pick le (pick le x y) z
+pub pick-assoc : {X : Type 0} (le : X → X → Bool) (x y z : X) → (le x y ≡ true → le y z ≡ true → le x z ≡ true) → (le y z ≡ false → le x y ≡ false → le x z ≡ false) → pick le x (pick le y z) ≡ pick le (pick le x y) z
 unfolding pick
 pick-assoc {X = X} le x y z up down = by_tests (le x y) (le y z) refl refl
   where

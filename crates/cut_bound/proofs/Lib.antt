@@ -9,6 +9,7 @@ pub mod Leaving
 pub mod Levelling
 pub mod Making
 pub mod Owning
+pub mod Sharing
 pub mod Tightening
 pub mod Unique
 pub mod Staying

@@ -1,8 +1,9 @@
 //! Cuts with their sums, and the best so far.
 
-ghost use Rattle.std.specs.Prelude.{◌≡◌, ◌<◌, if◌then◌else◌};
+ghost use Rattle.std.specs.Prelude.{◌≡◌, ◌<◌, IfSome, if◌then◌else◌};
 ghost use Rattle.std.specs.List.{fold};
-ghost use Rattle.cut_bound.specs.Search.{kept};
+ghost use Rattle.cut_bound.specs.Search.{kept, value_of};
+ghost use Rattle.cut_bound.specs.Slots.{kept_some, least_of, least_with, lesser, IsCrossed};
 
 use gap_fraction::Frac;
 use std::cmp::Ordering;
@@ -45,6 +46,14 @@ pub struct Best {
     pub choice: Choice,
 }
 
+/// What leaves over who crosses.
+fn value_of(cut: &SummedCut) -> Frac
+    requires { IsCrossed cut.now }
+    ensures { result ≡ value_of cut.now }
+{
+    Frac::new(u128::from(cut.leaving), u128::from(cut.crossing))
+}
+
 /// Takes the cut where some commodity crosses and its value is below the best so far.
 fn consider(best: &mut Best, cut: &SummedCut)
     ensures { best.new ≡ kept best.old cut.now }
@@ -52,12 +61,21 @@ fn consider(best: &mut Best, cut: &SummedCut)
     if cut.crossing == 0 {
         return;
     }
-    let value = Frac::new(u128::from(cut.leaving), u128::from(cut.crossing));
+    let value = value_of(cut);
     if let Ordering::Greater = best.value.cmp(&value) {
         *best = Best {
             value,
             choice: Choice::Cut(cut.place),
         };
+    }
+}
+
+/// Considers the cut, where there is one.
+pub fn consider_some(best: &mut Best, cut: Option<SummedCut>)
+    ensures { best.new ≡ kept_some best.old cut }
+{
+    if let Some(cut) = cut {
+        consider(best, &cut);
     }
 }
 
@@ -68,4 +86,43 @@ pub fn consider_all(best: &mut Best, cuts: &[SummedCut])
     for cut in cuts {
         consider(best, cut);
     }
+}
+
+/// Of two cuts the lesser, the first of equals.
+fn lesser(first: SummedCut, second: SummedCut) -> SummedCut
+    requires first { IsCrossed first }
+    requires second { IsCrossed second }
+    ensures { result ≡ lesser first second }
+{
+    let value = value_of(&second);
+    if let Ordering::Greater = value_of(&first).cmp(&value) {
+        return second;
+    }
+    first
+}
+
+/// The first of the least so far, with one cut more.
+fn least_with(least: Option<SummedCut>, cut: SummedCut) -> Option<SummedCut>
+    requires { IfSome least IsCrossed }
+    ensures value { result ≡ least_with least cut }
+    ensures crossed { IfSome result IsCrossed }
+{
+    if cut.crossing == 0 {
+        return least;
+    }
+    match least {
+        Some(first) => Some(lesser(first, cut)),
+        None => Some(cut),
+    }
+}
+
+/// Of the cuts that some commodity crosses the first of the least.
+pub fn least_of(cuts: &[SummedCut]) -> Option<SummedCut>
+    ensures { result ≡ least_of cuts.now }
+{
+    let mut least = None;
+    for cut in cuts {
+        least = least_with(least, *cut);
+    }
+    least
 }

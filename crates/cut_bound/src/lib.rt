@@ -4,6 +4,7 @@
 mod best;
 mod choice;
 mod cuts;
+mod fronts;
 mod laws;
 mod made;
 mod own;

@@ -94,3 +94,11 @@ pub fn rows_of(alloc: Global, own: &[&Dual]) -> Result<Vec<RowPlace>, AllocError
     }
     Ok(rows)
 }
+
+/// The potentials of the row at the place.
+pub fn values_at<'a>(own: &[&'a Dual], place: RowPlace) -> &'a [u64]
+    requires { IsRowPlace (seen own.now) place }
+    ensures { result.now ≡ (row_at (seen own.now) place).values }
+{
+    own[place.dual].row(place.row)
+}

@@ -17,6 +17,7 @@ use gap_fraction::Frac;
 use mcf_limits::MAX_GAP;
 use std::alloc::{AllocError, Global};
 use std::cmp::Ordering;
+use std::thread::Threads;
 
 /// The fraction of every amount that a routing carries.
 fn carried_fraction(routing: &Routing) -> Frac
@@ -63,7 +64,8 @@ fn routing_of(proof: Option<Proof>) -> Option<Routing>
 }
 
 /// The best dual of one or two certificates and of their cuts.
-fn least_dual(
+fn least_dual<R: Threads + Sync>(
+    rt: &R,
     alloc: Global,
     net: &Net,
     both: bool,
@@ -75,8 +77,8 @@ fn least_dual(
     ensures { IfOk result (IsBestDual net.now both (duals (first.now ∷ option_to_list second.now))) }
 {
     match second {
-        Some(second) => best_dual(alloc, net, both, &[&first.dual, &second.dual]),
-        None => best_dual(alloc, net, both, &[&first.dual]),
+        Some(second) => best_dual(rt, alloc, net, both, &[&first.dual, &second.dual]),
+        None => best_dual(rt, alloc, net, both, &[&first.dual]),
     }
 }
 
@@ -108,9 +110,10 @@ fn made_of(
 
 /// The best certificate that one or two valid certificates of a network give: the routing of the greater fraction, the first of
 /// equals; as lengths and potentials the first of the least bounds among their own, the cuts round each node, and the fronts of
-/// each row of potentials; the gap of the first, and what follows of them. `both` says that each cell goes both ways. `Err` is
-/// for want of memory.
-pub fn tightened(
+/// each row of potentials; the gap of the first, and what follows of them. `both` says that each cell goes both ways. Rows of
+/// potentials are shared out among threads, for which it may wait. `Err` is for want of memory.
+pub fn tightened<R: Threads + Sync>(
+    rt: &R,
     alloc: Global,
     net: &Net,
     both: bool,
@@ -123,7 +126,7 @@ pub fn tightened(
     ensures { IfOk result (IsTightened net.now both first (option_to_list second)) }
 {
     let _cells = net.cells();
-    let dual = least_dual(alloc, net, both, &first, &second)?;
+    let dual = least_dual(rt, alloc, net, both, &first, &second)?;
     let gap = first.gap;
     let routing = greatest(first.routing, routing_of(second));
     made_of(alloc, net, gap, routing, dual)

@@ -14,19 +14,19 @@ use Rattle.cut_bound.proofs.Owning.{seen-all, seen-length}
 use Rattle.cut_bound.proofs.best.best_dual.Goals as goal
 
 pub node_cuts-requires-clause-demands : goal.node_cuts-requires-clause-demands
-node_cuts-requires-clause-demands c =
+node_cuts-requires-clause-demands g c =
     let net = c.args.net.now in
     let is : c.deref.result.now ≡ map (as_cell c.args.both) net.commodities = c.deref.ensures.value ∙ (c.in_ok-demands.ensures ∙ ap (λ (ks : List Commodity). map (as_cell c.args.both) ks) c.commodities.ensures.value) in
     subst (λ (xs : List Cell). All (IsCell net.nodes) xs) (sym is) (demands-fit net c.args.both c.commodities.ensures.net)
 
 pub consider_fronts-requires-clause-demands : goal.consider_fronts-requires-clause-demands
-consider_fronts-requires-clause-demands c =
+consider_fronts-requires-clause-demands g c κs within =
     let net = c.args.net.now in
     let is : c.deref-3.result.now ≡ map (as_cell c.args.both) net.commodities = c.deref-3.ensures.value ∙ (c.in_ok-demands.ensures ∙ ap (λ (ks : List Commodity). map (as_cell c.args.both) ks) c.commodities.ensures.value) in
     subst (λ (xs : List Cell). All (IsCell net.nodes) xs) (sym is) (demands-fit net c.args.both c.commodities.ensures.net)
 
 pub chosen_dual-requires : goal.chosen_dual-requires
-chosen_dual-requires c =
+chosen_dual-requires g c =
     let net = c.args.net.now in
     let both = c.args.both in
     let own = seen c.args.own.now in
@@ -41,7 +41,7 @@ chosen_dual-requires c =
     (best-found net both own c.in_ok-best.best c.consider_fronts.new.best c.deref-3.result.now c.deref-2.result.now no_dual c.commodities.ensures.net some (own-divide net own fits) (λ r h. rows-wide net own r fits h) demands-is first cuts-are goes).0
 
 pub returns : goal.returns
-returns c =
+returns g c =
     let net = c.args.net.now in
     let both = c.args.both in
     let own = seen c.args.own.now in

@@ -10,7 +10,7 @@ use Rattle.cut_bound.proofs.Tightening.{best-of-given, given-all, given-routing,
 use Rattle.cut_bound.proofs.tighten.tightened.Goals as goal
 
 pub made_of-requires-clause-routing : goal.made_of-requires-clause-routing
-made_of-requires-clause-routing c =
+made_of-requires-clause-routing g c =
     let net = c.args.net.now in
     let is : c.greatest-routing.result ≡ greatest_routing c.args.first.routing (option_to_list (option_map (λ (p : Proof). p.routing) c.args.second)) =
     c.greatest-routing.ensures ∙ ap (λ (o : Option Routing). greatest_routing c.args.first.routing (option_to_list o)) c.routing_of.ensures in
@@ -18,7 +18,7 @@ made_of-requires-clause-routing c =
     (given-routing (IsRoutingOf net) c.args.first c.args.second c.requires.first.fits.routing (some-given net (IsRoutingOf net) (λ p g. g.fits.routing) c.args.second c.requires.second))
 
 pub made_of-requires-clause-fraction : goal.made_of-requires-clause-fraction
-made_of-requires-clause-fraction c =
+made_of-requires-clause-fraction g c =
     let net = c.args.net.now in
     let first = c.requires.first in
     let is : c.greatest-routing.result ≡ greatest_routing c.args.first.routing (option_to_list (option_map (λ (p : Proof). p.routing) c.args.second)) =
@@ -28,13 +28,13 @@ made_of-requires-clause-fraction c =
     (some-given net HasFraction (λ p g. has-fraction net p.routing g.fits.routing g.valid.routing) c.args.second c.requires.second))
 
 pub made_of-requires-clause-dual : goal.made_of-requires-clause-dual
-made_of-requires-clause-dual c =
+made_of-requires-clause-dual g c =
     let net = c.args.net.now in
     (best-of-given net c.args.both (option_to_list c.args.second) c.args.first c.in_ok-dual.dual c.cells-cells.ensures.net c.requires.ways
     (given-all net c.args.first c.args.second c.requires.first c.requires.second) c.in_ok-dual.ensures).dual
 
 pub returns : goal.returns
-returns c =
+returns g c =
     let net = c.args.net.now in
     let is : c.greatest-routing.result ≡ greatest_routing c.args.first.routing (option_to_list (option_map (λ (p : Proof). p.routing) c.args.second)) =
     c.greatest-routing.ensures ∙ ap (λ (o : Option Routing). greatest_routing c.args.first.routing (option_to_list o)) c.routing_of.ensures in
