@@ -48,6 +48,8 @@ COMMANDS = {
     "batch": Command(("NET", "LIST"), ONE_WORKER_OPTIONS),
     "sweep": Command(FILES[:2]),
     "sweepsolve": Command(FILES[:1], ONE_WORKER_OPTIONS),
+    "checkhops": Command(FILES[:2]),
+    "checkthroughput": Command(FILES[:2]),
     "print": Command(FILES[:1]),
     "gen": Command(tuple(DRAWN)),
     "trial": Command(tuple(DRAWN), OPTIONS),
