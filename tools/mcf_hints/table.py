@@ -164,6 +164,9 @@ TABLE = (
     _row("some link open",
          "without some link the phases were spent before both fractions came within the gap; all of them hold, and more --phases, "
          "another --step or a greater --gap may close it", 4),
+    _row("total open",
+         "both totals hold; more --phases close the gap only where nearly all demand fits, and where it does not, the prices of a linear "
+         "program make a certificate for checkthroughput", 9),
     _row("status 1", "a condition of the certificate fails; the line on standard output names the first one"),
     _row("status 3", "a file is refused; the line on standard output names the kind of the fault and its line"),
 )

@@ -35,8 +35,8 @@ DEMANDS (
 # -- words
 
 MISFITS = [
-    ("", "a command has to stand there: solve, check, whatif, upgrade, tighten, batch, sweep, sweepsolve, checkhops, "
-     "checkthroughput, print, gen or trial"),
+    ("", "a command has to stand there: solve, check, whatif, upgrade, tighten, batch, sweep, sweepsolve, hops, "
+     "checkhops, throughput, checkthroughput, print, gen or trial"),
     ("slove n", "`slove` is no command; perhaps solve"),
     ("Solve n", "`Solve` is no command; perhaps solve"),
     ("help slove", "`slove` is no command; perhaps solve"),
@@ -57,10 +57,19 @@ MISFITS = [
     ("sweepsolve", "NET is missing at the end: sweepsolve takes NET"),
     ("sweepsolve a b", "`b` is one word too many: sweepsolve takes NET"),
     ("sweepsolve a --workers 1", "`--workers` is no option of sweepsolve"),
+    ("hops", "NET is missing at the end: hops takes NET"),
+    ("hops a b", "`b` is one word too many: hops takes NET"),
+    ("hops a --workers 4", "`--workers` is no option of hops"),
+    ("hops a --gap=1000.000001", "`1000.000001` is no value of --gap"),
+    ("hops -h", "`-h` is no option of hops"),
     ("checkhops n", "CERT is missing at the end: checkhops takes NET CERT"),
     ("checkhops a b c", "`c` is one word too many: checkhops takes NET CERT"),
     ("checkhops a b --links directed", "`--links` is no option of checkhops, which takes none"),
     ("check-hops a b", "`check-hops` is no command; perhaps checkhops"),
+    ("throughput", "NET is missing at the end: throughput takes NET"),
+    ("throughput a --workers 1", "`--workers` is no option of throughput"),
+    ("throughput a --step 1048577", "`1048577` is no value of --step"),
+    ("throughputs a", "`throughputs` is no command; perhaps throughput"),
     ("checkthroughput n", "CERT is missing at the end: checkthroughput takes NET CERT"),
     ("checkthroughput a b c", "`c` is one word too many: checkthroughput takes NET CERT"),
     ("checkthroughput a b --gap 0", "`--gap` is no option of checkthroughput, which takes none"),
@@ -99,6 +108,7 @@ FITS = [
     "solve n --gap 5e-6", "print x", "whatif a b c", "gen 18446744073709551615 2 2 1", "gen 007 512 4096 32768",
     "trial 1 2 2 1 --step 1048576 --links=directed --modules sum", "solve n --links bidirected", "upgrade a b", "tighten a b", "tighten a b c",
     "sweep a b", "sweep -- -- -", "batch n l", "batch --gap 0.1 n l", "sweepsolve n --phases=7 --links bidirected", "sweepsolve --gap 0.1 --step 65536 --modules sum n",
+    "hops n --links=directed", "hops --gap 0.1 --phases 7 n", "throughput --links=directed -- n", "throughput n --step 1 --modules none",
     "checkhops a b", "checkhops -- -h -", "checkthroughput a b", "checkthroughput - --  --gap",
 ]
 
@@ -134,7 +144,7 @@ def words_drawn(draw: random.Random) -> list[str]:
     """Words of a command line that is right or nearly so; every file in them is missing."""
     name = draw.choice([*COMMANDS] * 4 + ["help", "--help", ""])
     words = ["no.file"] * len(COMMANDS[name].words if name in COMMANDS and draw.random() < 0.9 else "x" * draw.randrange(5))
-    for option in draw.sample(OPTIONS, draw.randrange(4) if name in ("solve", "batch", "sweepsolve", "trial") else draw.randrange(10) // 9):
+    for option in draw.sample(OPTIONS, draw.randrange(4) if name in COMMANDS and COMMANDS[name].options else draw.randrange(10) // 9):
         value = draw.choice(GOOD[option] if draw.random() < 0.85 else ODD)
         place = draw.randrange(len(words) + 1)
         words[place:place] = draw.choice([[option, value], [f"{option}={value}"]])
@@ -265,6 +275,11 @@ batch net list    | 1 | matrix m1               | both fractions of each
 batch net list    | 3 | refused work 2129920    | demands of all matrices
 sweepsolve net    | 3 | refused work 2129920    | links times demands
 checkhops net limited  | 3 | refused net N11 line 7  | 64 or less
+hops net          | 3 | refused net N11 line 7  | 64 or less
+hops net          | 3 | refused work 2129920    | 2,097,152
+throughput net    | 3 | refused work 2129920    | 2,097,152
+hops net          | 1 | mcf-hops 1              | more --phases
+throughput net    | 1 | mcf-throughput 1        | linear program
 checkhops net cert     | 3 | refused cert K1 line 1  | which check judges, one of a total
 checkhops net total    | 3 | refused cert K1 line 1  | which check judges, one of a total
 checkthroughput net cert | 3 | refused cert K1 line 1 | which check judges, one with hop limits
@@ -342,6 +357,7 @@ def test_line_has_its_hint(tmp_path: Path, monkeypatch: pytest.MonkeyPatch, word
     os.close(writer)
     others = {"mcf-certificate 2": "verdict open", "trial nodes": "verdict open", "sweep L1 open": "some link open", "matrix m1": "some matrix open",
               "something else": f"status {status}"}
+    others |= {"mcf-hops 1": "verdict open", "mcf-throughput 1": "total open"}
     named = "best open" if words.startswith("tighten") and line in others else others.get(line, line)
     assert told is not None and re.fullmatch(rf"hint: {named}: [^\n]+ \(docs/guide\.md, part (?:[1-9]|10)\)", told)
     assert said in told
@@ -349,7 +365,8 @@ def test_line_has_its_hint(tmp_path: Path, monkeypatch: pytest.MonkeyPatch, word
 
 def test_every_row_of_the_table_is_reached() -> None:
     for row in TABLE:
-        lines = {line for _, _, line, _ in LINES} | {"verdict open", "some link open", "some matrix open", "best open", "status 1", "status 3"}
+        lines = {line for _, _, line, _ in LINES} | {"verdict open", "some link open", "some matrix open", "best open", "total open", "status 1",
+                                                 "status 3"}
         assert any(row.line.fullmatch(line) for line in lines), row.line.pattern
 
 
@@ -504,7 +521,7 @@ def judged(case: Path, status: int, wrote: str, said: str) -> int:
         return 0
     line = wrote.rstrip("\n")
     if status == 1 and not wrote.startswith("invalid"):
-        opens = {"batch": "some matrix open", "sweepsolve": "some link open", "tighten": "best open"}
+        opens = {"batch": "some matrix open", "sweepsolve": "some link open", "tighten": "best open", "throughput": "total open"}
         line = opens.get(case.parent.name, "verdict open")
     assert re.fullmatch(rf"hint: {re.escape(line)}: [^\n]+ \(docs/guide\.md, part (?:[1-9]|10)\)\n", said), (case, line, said)
     assert USAGE not in said and "docs/formats.md tells" not in said, (case, said)
