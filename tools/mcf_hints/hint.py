@@ -10,6 +10,9 @@ from .told import line_of
 from .words import Misfit, Request, read, shown
 
 USAGE = "the words are not in the grammar: compare them with ./mcf help COMMAND"
+# the part of the guide on what is wrong
+WRONG = 10
+_KINDS = ((b"mcf-routing ", "routing"), (b"mcf-hops ", "limited"), (b"mcf-throughput ", "total"))
 
 
 def hint(status: int, program: str, words: list[str], output: int) -> str | None:
@@ -17,11 +20,11 @@ def hint(status: int, program: str, words: list[str], output: int) -> str | None
     try:
         request = read(words)
     except Misfit as misfit:
-        return _told("usage", str(misfit), 8) if status == 2 else None
+        return _told("usage", str(misfit), WRONG) if status == 2 else None
     if status == 2:
-        return _told("usage", USAGE, 8)
+        return _told("usage", USAGE, WRONG)
     if status == 4:
-        return _told("read fault", _unreadable(request), 8)
+        return _told("read fault", _unreadable(request), WRONG)
     line = line_of(status, program, words, request, output)
     return _of_line(line, program, request)
 
@@ -35,12 +38,18 @@ def _of_line(line: str, program: str, request: Request) -> str:
     """The hint for a line of a request that is in the grammar."""
     if line == "refused net N1 line 1":
         return _told(line, f"{shown(request.words['NET'])} {kind_of(front_of(request.words['NET']))}", 1)
-    kind = "routing" if front_of(request.words.get("CERT", ""), 12) == b"mcf-routing " else "certificate"
+    kind = _kind(request.words.get("CERT2" if line.startswith("refused cert2 ") else "CERT", ""))
     row = next((row for row in TABLE if row.line.fullmatch(line) and row.of in ("", kind, request.command)), None)
     if row is None:
-        return _told(line, "docs/formats.md tells what is refused so, under this kind", 8)
+        return _told(line, "docs/formats.md tells what is refused so, under this kind", WRONG)
     found = _fullest(program, request) if line == "invalid C3" and kind == "routing" else None
     return _told(line, found or row.sentence, row.part)
+
+
+def _kind(path: str) -> str:
+    """What a second file is by its first word: a routing, a certificate with hop limits or of a total, or else a certificate."""
+    front = front_of(path, 16)
+    return next((kind for word, kind in _KINDS if front.startswith(word)), "certificate")
 
 
 def _fullest(program: str, request: Request) -> str | None:

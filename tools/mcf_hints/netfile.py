@@ -35,7 +35,7 @@ def kind_of(front: bytes) -> str:
         return _markup(text)
     if front.startswith(MARK):
         return f"begins with a byte order mark, {_CONVERT}"
-    if text.startswith((b"mcf-certificate", b"mcf-routing")):
+    if text.startswith((b"mcf-certificate", b"mcf-routing", b"mcf-hops", b"mcf-throughput")):
         return "is a certificate or routing, and the network's file stands first"
     if text.startswith(HEADER):
         return "has a blank or an empty line before its header"

@@ -8,20 +8,24 @@ from dataclasses import dataclass
 
 @dataclass(frozen=True)
 class Row:
-    """A sentence for lines of one form; `of` limits it to a kind of second file (`certificate` or `routing`) or to a command."""
+    """A sentence for lines of one form.
+
+    `of` limits it to a command, or to a kind of second file: `routing`, `limited` (a certificate with hop limits), `total` (one of a
+    total), or else `certificate`.
+    """
 
     line: re.Pattern[str]
     sentence: str
-    part: int = 8
+    part: int = 10
     of: str = ""
 
 
-def _row(line: str, sentence: str, part: int = 8, of: str = "") -> Row:
+def _row(line: str, sentence: str, part: int = 10, of: str = "") -> Row:
     """A row of the table; a line is written with N for its number."""
     return Row(re.compile(line.replace(" line N", " line [0-9]+").replace(" W", " [0-9]+")), sentence, part, of)
 
 
-_OTHER = "mostly since the network's file was changed after the certificate was made: solve it anew"
+_OTHER = "mostly since the network's file was changed after the certificate was made: make a new one"
 _EDITED = "mostly in a file that was edited by hand or cut off"
 
 TABLE = (
@@ -45,6 +49,9 @@ TABLE = (
          "with many decimals: write the file in a greater unit, or round"),
     _row("refused net N10 line N",
          "no demand is left, since each has amount 0 or ends in its own node, mostly in a file that has links alone"),
+    _row("refused net N11 line N",
+         "the longest path of a demand limits its paths to more than 64 links: write 64 or less, or UNLIMITED; a number that is not less "
+         "than the nodes less one is no limit", 8),
     _row("refused net TooLong", "the network file is over 64 MiB, mostly by sections that are skipped anyway: take them out"),
     _row("refused work W",
          "links times demands times phases are over 2,097,152, so --phases has to be less, or left out; where it is, the network is "
@@ -54,6 +61,16 @@ TABLE = (
          "batch"),
     _row("refused work W",
          "demands times phases are over 2,097,152, so with so many demands --phases has to be less, or left out", 5),
+    _row("refused cert K1 line 1",
+         "this is no certificate with hop limits: mostly one of solve, which check judges, one of a total, which checkthroughput judges, "
+         "or line ends as on Windows, which sed 's/\\r$//' mends", 8, "checkhops"),
+    _row("refused cert K1 line 1",
+         "this is no certificate of a total: mostly one of solve, which check judges, one with hop limits, which checkhops judges, or line "
+         "ends as on Windows, which sed 's/\\r$//' mends", 9, "checkthroughput"),
+    _row("refused cert2? K1 line 1",
+         "this is a certificate with hop limits, which checkhops judges and no other command reads", 8, "limited"),
+    _row("refused cert2? K1 line 1",
+         "this is a certificate of a total, which checkthroughput judges and no other command reads", 9, "total"),
     _row("refused cert K1 line 1",
          "this is no certificate: another file, a routing, which whatif does not take, or line ends as on Windows, which sed "
          "'s/\\r$//' mends", of="whatif"),
@@ -73,6 +90,8 @@ TABLE = (
          "the network has no demand, link or node of that name, mostly since it is another network; in form 2 a sign stands "
          "before each link's id, one that the links have (a demand of amount 0 is left out)"),
     _row("refused cert2? K4 line N", f"a word is no number of a certificate's form, as one with a zero in front, {_EDITED}"),
+    _row("refused cert K5 line N",
+         f"a number is over its limit, as a layer's index over 64, or a path has more than 511 links, {_EDITED}", 10, "checkhops"),
     _row("refused cert2? K5 line N", f"a number is over its limit or a path has more than 511 links, {_EDITED}"),
     _row("refused cert2 K6 line [34]",
          "the second certificate reads links or modules otherwise than the first: solve with the same --links and --modules"),
@@ -93,10 +112,15 @@ TABLE = (
     _row("invalid C1",
          "a path is no walk from its demand's source to its target, mostly by links out of order, or against their way where "
          "links are directed or a cell goes one way", 3, "routing"),
+    _row("invalid C1",
+         "a path is no walk from its demand's source to its target, or has more links than the demand's longest path allows", 8,
+         "checkhops"),
     _row("invalid2? C1", f"a path is no walk from its demand's source to its target, {_OTHER}"),
     _row("invalid C2",
          "the weights of a demand do not sum to phases times its amount in whole units, mostly by a path that is missing or by "
          "rounding", 3, "routing"),
+    _row("invalid C2",
+         "the weights of a demand, times the scale, come to more than its amount, mostly by a scale that is too great", 9, "checkthroughput"),
     _row("invalid2? C2", f"the weights of a demand do not sum to phases times its amount, {_OTHER}"),
     _row("invalid C3",
          "a link carries more than its capacity at this scale, mostly by a scale that is too great", 3, "routing"),
@@ -104,8 +128,16 @@ TABLE = (
     _row("invalid C4", "the second number of the scale is 0, and has to be a load above 0", 3, "routing"),
     _row("invalid2? C4", f"the second number of the scale is 0, {_EDITED}"),
     _row("invalid2? C5", f"a link, or one way of it, has no length or has two, {_EDITED}"),
+    _row("invalid C6",
+         "a row is missing, stands twice or is one too many: a source of demands without a limit has one row of potentials, and one of "
+         "demands with a limit has layers from 0 to the greatest of their limits", 8, "checkhops"),
     _row("invalid2? C6", f"a source of demands has no row of potentials or two, or another node has one, {_EDITED}"),
+    _row("invalid C7",
+         "a link raises a potential by more than its length, or a layer is above the one before it, at a node or by more than the length of "
+         "a link that leads there", 8, "checkhops"),
     _row("invalid2? C7", f"a link raises a potential by more than its length, {_OTHER}"),
+    _row("invalid C8", f"no demand has a distance above 0, by its potentials or by its layers, {_EDITED}", 8, "checkhops"),
+    _row("invalid C8", "the threshold of line 11 is 0", 9, "checkthroughput"),
     _row("invalid2? C8", f"no demand has a potential that rises from its source to its target, {_EDITED}"),
     _row("invalid2? C9", f"the fractions of lines 9 and 10 are not those of the rows, {_OTHER}"),
     _row("invalid2? C10", f"the verdict is not that of the gap and of both fractions, {_EDITED}"),
@@ -132,6 +164,9 @@ TABLE = (
     _row("some link open",
          "without some link the phases were spent before both fractions came within the gap; all of them hold, and more --phases, "
          "another --step or a greater --gap may close it", 4),
+    _row("total open",
+         "both totals hold; more --phases close the gap only where nearly all demand fits, and where it does not, the prices of a linear "
+         "program make a certificate for checkthroughput", 9),
     _row("status 1", "a condition of the certificate fails; the line on standard output names the first one"),
     _row("status 3", "a file is refused; the line on standard output names the kind of the fault and its line"),
 )

@@ -15,8 +15,10 @@ _LINES = {1: re.compile(r"invalid2? C[0-9]+"), 3: re.compile(r"refused [a-z0-9]+
 
 def line_of(status: int, program: str, words: list[str], request: Request, output: int) -> str:
     """The line, or `status S` where it cannot be known. Output is a descriptor of the program's standard output."""
-    if status == 1 and request.command in ("solve", "trial"):
+    if status == 1 and request.command in ("solve", "hops", "trial"):
         return "verdict open"
+    if status == 1 and request.command == "throughput":
+        return "total open"
     if status == 1 and request.command == "sweepsolve":
         return "some link open"
     if status == 1 and request.command == "batch":

@@ -48,6 +48,10 @@ COMMANDS = {
     "batch": Command(("NET", "LIST"), ONE_WORKER_OPTIONS),
     "sweep": Command(FILES[:2]),
     "sweepsolve": Command(FILES[:1], ONE_WORKER_OPTIONS),
+    "hops": Command(FILES[:1], ONE_WORKER_OPTIONS),
+    "checkhops": Command(FILES[:2]),
+    "throughput": Command(FILES[:1], ONE_WORKER_OPTIONS),
+    "checkthroughput": Command(FILES[:2]),
     "print": Command(FILES[:1]),
     "gen": Command(tuple(DRAWN)),
     "trial": Command(tuple(DRAWN), OPTIONS),
@@ -123,7 +127,8 @@ def _take_option(name: str, command: Command, seen: set[str], word: str, rest: I
     """One more option, with its value."""
     option, equals, value = word.partition("=")
     if option not in command.options:
-        none = ", which takes none; they are those of solve, batch, sweepsolve and trial" if not command.options else _nearest(option, command.options)
+        named = listed(tuple(other for other in COMMANDS if COMMANDS[other].options)).replace(" or ", " and ")
+        none = _nearest(option, command.options) if command.options else f", which takes none; they are those of {named}"
         raise Misfit(f"{shown(option)} is no option of {name}{none}")
     if option in seen:
         raise Misfit(f"{option} stands twice")

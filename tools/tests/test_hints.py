@@ -35,7 +35,8 @@ DEMANDS (
 # -- words
 
 MISFITS = [
-    ("", "a command has to stand there: solve, check, whatif, upgrade, tighten, batch, sweep, sweepsolve, print, gen or trial"),
+    ("", "a command has to stand there: solve, check, whatif, upgrade, tighten, batch, sweep, sweepsolve, hops, "
+     "checkhops, throughput, checkthroughput, print, gen or trial"),
     ("slove n", "`slove` is no command; perhaps solve"),
     ("Solve n", "`Solve` is no command; perhaps solve"),
     ("help slove", "`slove` is no command; perhaps solve"),
@@ -56,6 +57,23 @@ MISFITS = [
     ("sweepsolve", "NET is missing at the end: sweepsolve takes NET"),
     ("sweepsolve a b", "`b` is one word too many: sweepsolve takes NET"),
     ("sweepsolve a --workers 1", "`--workers` is no option of sweepsolve"),
+    ("hops", "NET is missing at the end: hops takes NET"),
+    ("hops a b", "`b` is one word too many: hops takes NET"),
+    ("hops a --workers 4", "`--workers` is no option of hops"),
+    ("hops a --gap=1000.000001", "`1000.000001` is no value of --gap"),
+    ("hops -h", "`-h` is no option of hops"),
+    ("checkhops n", "CERT is missing at the end: checkhops takes NET CERT"),
+    ("checkhops a b c", "`c` is one word too many: checkhops takes NET CERT"),
+    ("checkhops a b --links directed", "`--links` is no option of checkhops, which takes none"),
+    ("check-hops a b", "`check-hops` is no command; perhaps checkhops"),
+    ("throughput", "NET is missing at the end: throughput takes NET"),
+    ("throughput a --workers 1", "`--workers` is no option of throughput"),
+    ("throughput a --step 1048577", "`1048577` is no value of --step"),
+    ("throughputs a", "`throughputs` is no command; perhaps throughput"),
+    ("checkthroughput n", "CERT is missing at the end: checkthroughput takes NET CERT"),
+    ("checkthroughput a b c", "`c` is one word too many: checkthroughput takes NET CERT"),
+    ("checkthroughput a b --gap 0", "`--gap` is no option of checkthroughput, which takes none"),
+    ("Checkthroughput a b", "`Checkthroughput` is no command; perhaps checkthroughput"),
     ("gen 1 2 2", "DEMANDS is missing at the end"),
     ("solve a b", "`b` is one word too many"),
     ("print a --links directed", "`--links` is no option of print, which takes none"),
@@ -90,6 +108,8 @@ FITS = [
     "solve n --gap 5e-6", "print x", "whatif a b c", "gen 18446744073709551615 2 2 1", "gen 007 512 4096 32768",
     "trial 1 2 2 1 --step 1048576 --links=directed --modules sum", "solve n --links bidirected", "upgrade a b", "tighten a b", "tighten a b c",
     "sweep a b", "sweep -- -- -", "batch n l", "batch --gap 0.1 n l", "sweepsolve n --phases=7 --links bidirected", "sweepsolve --gap 0.1 --step 65536 --modules sum n",
+    "hops n --links=directed", "hops --gap 0.1 --phases 7 n", "throughput --links=directed -- n", "throughput n --step 1 --modules none",
+    "checkhops a b", "checkhops -- -h -", "checkthroughput a b", "checkthroughput - --  --gap",
 ]
 
 
@@ -99,7 +119,7 @@ def test_first_word_that_does_not_fit(line: str, said: str) -> None:
         read(line.split())
     assert str(misfit.value).startswith(said)
     told = hint(2, "/nothing", line.split(), 99)
-    assert told is not None and told.startswith(f"hint: usage: {said}") and told.endswith(" (docs/guide.md, part 8)")
+    assert told is not None and told.startswith(f"hint: usage: {said}") and told.endswith(" (docs/guide.md, part 10)")
 
 
 @pytest.mark.parametrize("line", FITS)
@@ -108,7 +128,7 @@ def test_words_that_fit(line: str) -> None:
 
 
 def test_usage_of_words_that_fit_here_is_told_without_a_word() -> None:
-    assert hint(2, "/nothing", ["print", "x"], 99) == f"hint: usage: {USAGE} (docs/guide.md, part 8)"
+    assert hint(2, "/nothing", ["print", "x"], 99) == f"hint: usage: {USAGE} (docs/guide.md, part 10)"
 
 
 GOOD = {
@@ -124,7 +144,7 @@ def words_drawn(draw: random.Random) -> list[str]:
     """Words of a command line that is right or nearly so; every file in them is missing."""
     name = draw.choice([*COMMANDS] * 4 + ["help", "--help", ""])
     words = ["no.file"] * len(COMMANDS[name].words if name in COMMANDS and draw.random() < 0.9 else "x" * draw.randrange(5))
-    for option in draw.sample(OPTIONS, draw.randrange(4) if name in ("solve", "batch", "sweepsolve", "trial") else draw.randrange(10) // 9):
+    for option in draw.sample(OPTIONS, draw.randrange(4) if name in COMMANDS and COMMANDS[name].options else draw.randrange(10) // 9):
         value = draw.choice(GOOD[option] if draw.random() < 0.85 else ODD)
         place = draw.randrange(len(words) + 1)
         words[place:place] = draw.choice([[option, value], [f"{option}={value}"]])
@@ -186,6 +206,7 @@ KINDS = [
     (b'<?xml version="1.0"?>\n<graphml xmlns="http://graphml.graphdrawing.org/xmlns">', "is GraphML, which tools/convert"),
     (b"\n <GraphML>", "is GraphML"), (b"<!DOCTYPE html>\n<html>", "is a web page"), (b"PK\x03\x04abc", "is a zip archive"),
     (b"mcf-certificate 1\nverdict", "is a certificate or routing"), (b"mcf-routing 2\n", "is a certificate or routing"),
+    (b"mcf-hops 1\nverdict", "is a certificate or routing"), (b"mcf-throughput 1\n", "is a certificate or routing"),
     (b"\n" + NET, "has a blank or an empty line"),
     (b"?SNDlib native format; type: solution; version: 1.0\n", "is of SNDlib, and no network"),
     (b"NODES (\n", "does not begin with ?SNDlib native format; type: network;"),
@@ -253,6 +274,32 @@ batch net list    | 3 | refused list TooLong     | limit of bytes
 batch net list    | 1 | matrix m1               | both fractions of each
 batch net list    | 3 | refused work 2129920    | demands of all matrices
 sweepsolve net    | 3 | refused work 2129920    | links times demands
+checkhops net limited  | 3 | refused net N11 line 7  | 64 or less
+hops net          | 3 | refused net N11 line 7  | 64 or less
+hops net          | 3 | refused work 2129920    | 2,097,152
+throughput net    | 3 | refused work 2129920    | 2,097,152
+hops net          | 1 | mcf-hops 1              | more --phases
+throughput net    | 1 | mcf-throughput 1        | linear program
+checkhops net cert     | 3 | refused cert K1 line 1  | which check judges, one of a total
+checkhops net total    | 3 | refused cert K1 line 1  | which check judges, one of a total
+checkthroughput net cert | 3 | refused cert K1 line 1 | which check judges, one with hop limits
+check net limited | 3 | refused cert K1 line 1  | which checkhops judges
+check net total   | 3 | refused cert K1 line 1  | which checkthroughput judges
+upgrade net limited | 3 | refused cert K1 line 1 | which checkhops judges
+tighten net cert limited | 3 | refused cert2 K1 line 1 | which checkhops judges
+tighten net cert total | 3 | refused cert2 K1 line 1 | which checkthroughput judges
+checkhops net limited  | 3 | refused cert K5 line 20 | index over 64
+checkthroughput net total | 3 | refused cert K5 line 20 | 511 links
+checkhops net limited  | 1 | invalid C1              | longest path
+checkhops net limited  | 1 | invalid C2              | phases times its amount
+checkhops net limited  | 1 | invalid C6              | layers from 0
+checkhops net limited  | 1 | invalid C7              | a layer is above
+checkhops net limited  | 1 | invalid C8              | by its layers
+checkthroughput net total | 1 | invalid C1           | changed after
+checkthroughput net total | 1 | invalid C2           | more than its amount
+checkthroughput net total | 1 | invalid C6           | a source of demands
+checkthroughput net total | 1 | invalid C8           | threshold
+checkthroughput net total | 1 | invalid C9           | lines 9 and 10
 check net cert    | 3 | refused cert K2 line 4  | form that is due
 check net cert    | 3 | refused cert K3 line 11 | another network
 upgrade net cert  | 3 | refused cert K3 line 11 | a sign stands
@@ -297,7 +344,8 @@ def test_line_has_its_hint(tmp_path: Path, monkeypatch: pytest.MonkeyPatch, word
                            to_file: bool) -> None:
     status = int(ended)
     monkeypatch.chdir(tmp_path)
-    for name, text in (("net", NET), ("cert", b"mcf-certificate 1\n"), ("routing", b"mcf-routing 1\n"), ("s", b"show\n"), ("list", b"")):
+    for name, text in (("net", NET), ("cert", b"mcf-certificate 1\n"), ("routing", b"mcf-routing 1\n"), ("s", b"show\n"), ("list", b""),
+                       ("limited", b"mcf-hops 1\n"), ("total", b"mcf-throughput 1\n")):
         Path(name).write_bytes(text)
     program = says(tmp_path, line, status)
     reader, writer = os.pipe()
@@ -309,21 +357,23 @@ def test_line_has_its_hint(tmp_path: Path, monkeypatch: pytest.MonkeyPatch, word
     os.close(writer)
     others = {"mcf-certificate 2": "verdict open", "trial nodes": "verdict open", "sweep L1 open": "some link open", "matrix m1": "some matrix open",
               "something else": f"status {status}"}
+    others |= {"mcf-hops 1": "verdict open", "mcf-throughput 1": "total open"}
     named = "best open" if words.startswith("tighten") and line in others else others.get(line, line)
-    assert told is not None and re.fullmatch(rf"hint: {named}: [^\n]+ \(docs/guide\.md, part [1-8]\)", told)
+    assert told is not None and re.fullmatch(rf"hint: {named}: [^\n]+ \(docs/guide\.md, part (?:[1-9]|10)\)", told)
     assert said in told
 
 
 def test_every_row_of_the_table_is_reached() -> None:
     for row in TABLE:
-        lines = {line for _, _, line, _ in LINES} | {"verdict open", "some link open", "some matrix open", "best open", "status 1", "status 3"}
+        lines = {line for _, _, line, _ in LINES} | {"verdict open", "some link open", "some matrix open", "best open", "total open", "status 1",
+                                                 "status 3"}
         assert any(row.line.fullmatch(line) for line in lines), row.line.pattern
 
 
 def test_every_refusal_and_condition_of_the_formats_has_a_row(root: Path) -> None:
     text = (root / "docs/formats.md").read_text()
     kinds = re.findall(r"^\| `([NKSCM][0-9]+)` \|", text, re.M)
-    assert len(kinds) == 40 and {kind[0] for kind in kinds} == set("NKSCM")
+    assert len(kinds) == 61 and {kind[0] for kind in kinds} == set("NKSCM")
     of = {"N": "refused net {} line 1", "K": "refused cert {} line 1", "S": "refused script {} line 1", "M": "refused list {} line 1", "C": "invalid {}"}
     for kind in set(kinds) - {"N1"}:
         line = of[kind[0]].format(kind) if kind != "K6" else "refused cert K6 line 5"
@@ -332,7 +382,7 @@ def test_every_refusal_and_condition_of_the_formats_has_a_row(root: Path) -> Non
 
 def test_parts_of_the_guide_are_there(root: Path) -> None:
     parts = {int(number) for number in re.findall(r"^## ([0-9]+)\. ", (root / "docs/guide.md").read_text(), re.M)}
-    assert {row.part for row in TABLE} | {1, 8} <= parts
+    assert {row.part for row in TABLE} | {1, 10} <= parts
 
 
 def test_a_pipe_is_not_read_again(tmp_path: Path) -> None:
@@ -368,7 +418,7 @@ def test_a_file_that_cannot_be_read_is_named(tmp_path: Path, monkeypatch: pytest
     monkeypatch.chdir(tmp_path)
     Path("net").write_bytes(NET)
     Path("folder").mkdir()
-    assert hint(4, "/nothing", words, 99) == f"hint: read fault: {said} (docs/guide.md, part 8)"
+    assert hint(4, "/nothing", words, 99) == f"hint: read fault: {said} (docs/guide.md, part 10)"
 
 
 def test_tools_that_call_the_starter_get_no_hints(tmp_path: Path, monkeypatch: pytest.MonkeyPatch) -> None:
@@ -471,8 +521,8 @@ def judged(case: Path, status: int, wrote: str, said: str) -> int:
         return 0
     line = wrote.rstrip("\n")
     if status == 1 and not wrote.startswith("invalid"):
-        opens = {"batch": "some matrix open", "sweepsolve": "some link open", "tighten": "best open"}
+        opens = {"batch": "some matrix open", "sweepsolve": "some link open", "tighten": "best open", "throughput": "total open"}
         line = opens.get(case.parent.name, "verdict open")
-    assert re.fullmatch(rf"hint: {re.escape(line)}: [^\n]+ \(docs/guide\.md, part [1-8]\)\n", said), (case, line, said)
+    assert re.fullmatch(rf"hint: {re.escape(line)}: [^\n]+ \(docs/guide\.md, part (?:[1-9]|10)\)\n", said), (case, line, said)
     assert USAGE not in said and "docs/formats.md tells" not in said, (case, said)
     return 1

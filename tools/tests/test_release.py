@@ -136,7 +136,7 @@ def test_release_of_the_program_works_where_it_is_unpacked(program: Program, roo
     env = {**os.environ, "PATH": f"{tmp_path}/bin:{os.environ['PATH']}", "MCF_HINTS": "1"}
     said = subprocess.run(["mcf", "solve", "none.net"], env=env, cwd=tmp_path, capture_output=True, text=True)
     assert (said.returncode, said.stdout) == (4, "read fault\n")
-    assert said.stderr == "hint: read fault: `none.net` does not exist (docs/guide.md, part 8)\n"
+    assert said.stderr == "hint: read fault: `none.net` does not exist (docs/guide.md, part 10)\n"
     shutil.copy(root / "examples/triangle.routing", tmp_path / "r")
     text = (tmp_path / "r").read_text().replace("scale 2 3", "scale 1 1")
     (tmp_path / "r").write_text(text)
