@@ -1,5 +1,5 @@
 -- Loads that grow along a path, cell by cell.
-use Rattle.std.proofs.Common.{◌≡◌, inl, inr, ℕ, ◌+◌, ◌*◌, ◌<◌, ◌≤◌, nat_eq, cond, List, length, get_or, set, drop, refl, sym, ap, ◌∙◌, arith, eq-eqb, ne_eqb, mul-add, mul-one, mul-zero}
+use Rattle.std.proofs.Common.{◌≡◌, inl, inr, ℕ, ◌+◌, ◌*◌, ◌<◌, ◌≤◌, nat_eq, cond, List, length, get_or, set, drop, refl, sym, ap, ◌∙◌, arith, eq-eqb, ne_eqb, mul-add, mul-one}
 use Rattle.std.proofs.lemmas.Bool.{cases_eq}
 use Rattle.std.proofs.lemmas.List.{drop_more, get_or-set_same, get_or-set_other}
 use Rattle.std.proofs.lemmas.List.Sums.{sum_by-cons}

@@ -1,5 +1,5 @@
 -- Layers that are appended, one more at a time.
-use Rattle.std.proofs.Common.{◌≡◌, inl, inr, ℕ, zero, suc, ◌+◌, ◌<◌, ◌≤◌, Bool, true, false, nat_lt, cond, List, [], ◌∷◌, ◌++◌, length, length-append, get_or, map, Option, refl, sym, ap, subst, ◌∙◌, arith, lt-ltb, le-ltb, append_assoc, append-nil, add-one}
+use Rattle.std.proofs.Common.{◌≡◌, ℕ, zero, suc, ◌+◌, ◌<◌, ◌≤◌, Bool, true, false, nat_lt, cond, List, [], ◌∷◌, ◌++◌, length, get_or, map, Option, refl, sym, ap, subst, ◌∙◌, arith, lt-ltb, le-ltb, append_assoc, append-nil}
 use Rattle.std.specs.Prelude.{All, flat_map}
 use Rattle.std.specs.List.{filter, range_with_len}
 use Rattle.std.proofs.lemmas.List.{map-append, length-map, get_or-map, flat_map_more}
@@ -8,7 +8,7 @@ use Rattle.std.proofs.lemmas.List.FromFn.{length-range_with_len, get_or-range_wi
 use Rattle.mcf_limits.specs.declared.TheConstants.{MAX_HOPS}
 use Rattle.flow_model.specs.Network.{Network}
 use Rattle.hop_paths.specs.Allowed.{has_layer}
-use Rattle.hop_check.specs.LayerRows.{Layer, no_layer}
+use Rattle.hop_check.specs.LayerRows.{Layer}
 use Rattle.hop_check.specs.Tables.{AreCounts}
 use Rattle.hop_solve.specs.Run.{IsLayerWith}
 use Rattle.hop_solve.specs.Numbers.{AddsLayers, first_layers, asked_of}

@@ -1,5 +1,5 @@
 -- What the last phase makes a run.
-use Rattle.std.proofs.Common.{◌≡◌, ◌↔◌, ℕ, ◌*◌, ◌<◌, ◌≤◌, Bool, false, IsTrue, List, [], length, get_or, Option, inr, sym, ap, ◌∙◌, subst, arith}
+use Rattle.std.proofs.Common.{◌≡◌, ◌↔◌, ℕ, ◌≤◌, Bool, false, IsTrue, List, [], length, get_or, Option, inr, sym, ap, ◌∙◌, subst, arith}
 use Rattle.std.proofs.lemmas.Option.{slice_get-get_or}
 use Rattle.flow_model.specs.Network.{Network}
 use Rattle.flow_model.specs.Routing.{Row}
@@ -7,7 +7,6 @@ use Rattle.gap_fraction.specs.Fraction.{Fraction}
 use Rattle.flow_paths.specs.PathRows.{no_row}
 use Rattle.route_tally.specs.declared.options.RunOptions.{RunOptions}
 use Rattle.route_tally.specs.Tally.{IsCollected, IsTally}
-use Rattle.hop_paths.specs.Allowed.{IsAllowed}
 use Rattle.hop_check.specs.declared.hop_proof.HopProof.{HopProof}
 use Rattle.hop_check.specs.Layers.{dual_of}
 use Rattle.hop_check.specs.Conditions.{HopFractionsArePrinted}

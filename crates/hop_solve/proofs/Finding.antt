@@ -1,16 +1,15 @@
 -- What a search has found is a least of the allowed walks.
-use Rattle.std.proofs.Common.{◌≡◌, ℕ, ◌<◌, ◌≤◌, List, Option, Some, None, length, get_or, refl, sym, ap, subst, ◌∙◌, arith}
-use Rattle.std.specs.Prelude.{slice_get, IfSome, IsSomeAnd, MatchOption}
-use Rattle.std.specs.Option.{option_map}
+use Rattle.std.proofs.Common.{◌≡◌, ℕ, ◌≤◌, List, Option, Some, None, refl, sym, subst, ◌∙◌, arith}
+use Rattle.std.specs.Prelude.{slice_get, IfSome, IsSomeAnd}
 use Rattle.std.proofs.lemmas.Option.{same_Some}
 use Rattle.flow_model.specs.declared.net.Commodity.{Commodity}
 use Rattle.flow_model.specs.Network.{Network}
 use Rattle.flow_model.specs.Lengths.{AreLengths}
 use Rattle.flow_model.specs.Walk.{PositiveWalk}
 use Rattle.flow_model.specs.Bound.{walk_length}
-use Rattle.flow_model.specs.Least.{IsLeast, AreDifferent}
+use Rattle.flow_model.specs.Least.{IsLeast}
 use Rattle.dijkstra_paths.specs.Searched.{IsPath}
-use Rattle.hop_paths.specs.Allowed.{limit_at, IsWithin, IsAllowed, IsLeastAllowed, IsShortWalk, IsLeastOf}
+use Rattle.hop_paths.specs.Allowed.{limit_at, IsWithin, IsAllowed, IsShortWalk, IsLeastOf}
 use Rattle.hop_paths.specs.Searched.{IsShortPath}
 use Rattle.hop_solve.specs.Turns.{IsFound, Finds}
 use Rattle.hop_solve.proofs.Once.{IsLeastShort, least-once, cells-inside}

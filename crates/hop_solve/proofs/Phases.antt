@@ -1,12 +1,11 @@
 -- The turns of a phase, one more at a time.
-use Rattle.std.proofs.Common.{◌≡◌, ℕ, zero, suc, ◌+◌, ◌^◌, ◌<◌, ◌≤◌, List, [], ◌∷◌, ◌++◌, length, length-append, get_or, take, Option, Some, inl, inr, refl, sym, ap, subst, ◌∙◌, arith, append_assoc, append-nil}
-use Rattle.std.specs.Prelude.{slice_get, IsTrue}
+use Rattle.std.proofs.Common.{◌≡◌, ℕ, ◌+◌, ◌<◌, ◌≤◌, List, [], ◌∷◌, ◌++◌, length, length-append, get_or, take, Option, Some, inl, inr, refl, sym, ap, subst, ◌∙◌, arith, append_assoc, append-nil}
+use Rattle.std.specs.Prelude.{slice_get}
 use Rattle.std.proofs.Math.Seq.{get_or-append_seam, take-length}
 use Rattle.std.proofs.lemmas.Bool.{cases_lt}
-use Rattle.std.proofs.lemmas.List.{take-append-le, get_or_append_left, take_more, take_all}
+use Rattle.std.proofs.lemmas.List.{take-append-le, get_or_append_left}
 use Rattle.std.proofs.lemmas.List.Sums.{sum_by-cons, sum_by-append, sum_by_more, sum_by-take-drop}
-use Rattle.std.proofs.lemmas.Option.{slice_get_within, slice_get-get_or, get_or_from_slice_get, same_Some}
-use Rattle.mcf_limits.specs.declared.TheConstants.{MAX_LENGTH}
+use Rattle.std.proofs.lemmas.Option.{slice_get_within, slice_get-get_or, get_or_from_slice_get}
 use Rattle.flow_model.specs.declared.setting.Setting.{Setting}
 use Rattle.flow_model.specs.declared.net.Commodity.{Commodity}
 use Rattle.flow_model.specs.Network.{Network}
@@ -14,7 +13,7 @@ use Rattle.flow_model.specs.Routing.{Row}
 use Rattle.flow_model.proofs.Duality.{no_commodity}
 use Rattle.flow_paths.specs.PathRows.{no_row}
 use Rattle.hop_solve.specs.declared.turns.Routed.{Routed}
-use Rattle.hop_solve.specs.Run.{IsTurn, IsHopPhase}
+use Rattle.hop_solve.specs.Run.{IsTurn}
 use Rattle.hop_solve.specs.Turns.{weight_of, amount_of, amount_at, IsRouted, HasRoom, HasTurned, HasPhase}
 
 -- behind these turns the first k commodities had their turns

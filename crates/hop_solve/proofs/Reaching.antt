@@ -1,7 +1,7 @@
 -- What is reached with the first phase, and with one phase more.
 use Rattle.std.proofs.Common.{◌≡◌, ℕ, zero, suc, ◌+◌, ◌*◌, ◌<◌, ◌≤◌, Bool, true, false, nat_eq, nat_lt, cond, ◌^◌, List, [], ◌∷◌, ◌++◌, length, get_or, take, Option, refl, sym, ap, ◌∙◌, subst, arith, length-append, append-nil, mul-le-mul_left, mul_comm, ne_eqb}
 use Rattle.std.specs.Prelude.{All}
-use Rattle.std.proofs.Math.Seq.{get_or-append_seam, take-length}
+use Rattle.std.proofs.Math.Seq.{get_or-append_seam}
 use Rattle.std.proofs.lemmas.Bool.Decides.{nat_tests}
 use Rattle.std.proofs.lemmas.List.{take-append-le, take_all, flat_map_more, get_or_append_left}
 use Rattle.std.proofs.lemmas.List.Elements.{All-push, All-nil, All-cons, All-from_get_or}
@@ -21,8 +21,6 @@ use Rattle.route_tally.specs.declared.options.RunOptions.{RunOptions}
 use Rattle.route_tally.specs.Asked.{AreRunOptions, first_setting, later_setting, setting_after}
 use Rattle.hop_paths.specs.Allowed.{AreLimits}
 use Rattle.hop_check.specs.Layers.{HopDual, hop_upper_of}
-use Rattle.hop_solve.specs.declared.turns.Routed.{Routed}
-use Rattle.hop_solve.specs.declared.finder.Finder.{Finder}
 use Rattle.hop_solve.specs.declared.bounds.HopBound.{HopBound}
 use Rattle.hop_solve.specs.declared.reached.HopReached.{HopReached}
 use Rattle.hop_solve.specs.Run.{IsHopPhase, turns_after, fill_after, lower_after, IsHopBoundOf, no_hop_dual, kept_after, IsHopClosedAfter, IsNextHops}
@@ -31,7 +29,6 @@ use Rattle.hop_solve.specs.Numbers.{hop_dual_of}
 use Rattle.hop_solve.specs.Reached.{IsHopReached, IsHopMet}
 use Rattle.hop_solve.proofs.Turning.{loads-length}
 use Rattle.hop_solve.proofs.Rounds.{IsRound, round-of, all_turns, rounds-count, rounds-weight, lengths-are}
-use Rattle.hop_solve.proofs.Filled.{HasFill}
 use Rattle.hop_solve.proofs.Shows.{bound-shows}
 use Rattle.hop_solve.proofs.Valid.{rounds-fill, total-within, all-after}
 

@@ -1,7 +1,6 @@
 -- Phases of turns: what they carry, and what every turn is.
-use Rattle.std.proofs.Common.{◌≡◌, ◌≢◌, inl, inr, ℕ, zero, suc, ◌+◌, ◌*◌, ◌-◌, ◌^◌, ◌<◌, ◌≤◌, nat_eq, cond, List, [], ◌∷◌, ◌++◌, length, length-append, get_or, take, Option, Some, None, refl, sym, ap, subst, ◌∙◌, arith, eq-eqb, ne_eqb, suc-mul}
+use Rattle.std.proofs.Common.{◌≡◌, ◌≢◌, ℕ, zero, suc, ◌+◌, ◌*◌, ◌<◌, ◌≤◌, nat_eq, cond, List, [], ◌∷◌, ◌++◌, length, length-append, get_or, take, Option, Some, None, refl, sym, ap, subst, ◌∙◌, arith, eq-eqb, ne_eqb, suc-mul}
 use Rattle.std.specs.Prelude.{All, MatchOption, flat_map, slice_get}
-use Rattle.std.proofs.lemmas.Bool.{cases_eq}
 use Rattle.std.proofs.lemmas.List.Elements.{All-nil, All-append, All-head, All-tail, All-from_get_or}
 use Rattle.std.proofs.lemmas.List.Sums.{sum_by-cons, sum_by-append}
 use Rattle.std.proofs.lemmas.Option.{slice_get-get_or, slice_get_within, get_or_from_slice_get, same_Some}
@@ -20,7 +19,7 @@ use Rattle.flow_paths.specs.Evaluation.{loads_of}
 use Rattle.solver_run.proofs.Short.{least-short}
 use Rattle.hop_paths.specs.Allowed.{limit_at, IsWithin, IsAllowed, AreLimits}
 use Rattle.hop_solve.specs.Run.{IsTurn, IsHopPhase}
-use Rattle.hop_solve.specs.Turns.{weight_of, amount_of, amount_at, IsOnce}
+use Rattle.hop_solve.specs.Turns.{weight_of, amount_of, IsOnce}
 use Rattle.hop_solve.proofs.Once.{least-once, cells-inside}
 use Rattle.hop_solve.proofs.Turning.{loads-length}
 use Rattle.hop_solve.proofs.Counted.{limit-small}

@@ -18,7 +18,7 @@ use Rattle.flow_model.specs.Least.{IsLeast, far_or}
 use Rattle.flow_model.specs.Lengths.{AreLengths}
 use Rattle.flow_model.proofs.Duality.{no_commodity}
 use Rattle.fixed_exp.specs.Far.{EmptyAreFar}
-use Rattle.flow_paths.specs.DualRows.{Length, Potential, DualRows}
+use Rattle.flow_paths.specs.DualRows.{Length, Potential}
 use Rattle.flow_paths.specs.Certificate.{CellsHaveLengths, RowsArePotentials, IsPotentialOf, lengths_in, distance_of}
 use Rattle.dijkstra_paths.proofs.Spreading.{walk-more}
 use Rattle.dijkstra_paths.proofs.Least.{length-more, length-first}
@@ -32,7 +32,6 @@ use Rattle.hop_check.specs.Layers.{HopDual, layer_in, hop_distance, hop_distance
 use Rattle.hop_check.specs.Conditions.{IsLayerOf}
 use Rattle.hop_check.specs.Tables.{PotentialsAreAsked, LayersAreAsked, LayersBound}
 use Rattle.hop_check.proofs.AskedRows.{layer_is_asked, source_is_unlimited}
-use Rattle.hop_check.proofs.Sound.{hop_distance_at}
 use Rattle.hop_check.proofs.Weighing.{weighed, summed}
 use Rattle.hop_solve.specs.Run.{IsLayerWith, IsHopDualWith, IsLeastLength, IsHopBoundOf, IsCutLayer, IsHopCutDual, HasHopCut, layers_asked}
 use Rattle.hop_solve.specs.Numbers.{asked_of}

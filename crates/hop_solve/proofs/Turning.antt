@@ -1,7 +1,6 @@
 -- What one turn more makes of loads and rows.
-use Rattle.std.proofs.Common.{◌≡◌, ℕ, zero, suc, ◌+◌, ◌*◌, ◌^◌, ◌<◌, ◌≤◌, Bool, true, false, nat_eq, cond, List, [], ◌∷◌, ◌++◌, length, get_or, refl, sym, ap, ◌∙◌, subst, arith, length-append}
+use Rattle.std.proofs.Common.{◌≡◌, ℕ, ◌+◌, ◌*◌, ◌<◌, ◌≤◌, Bool, true, false, nat_eq, cond, List, [], ◌∷◌, ◌++◌, length, get_or, sym, ap, ◌∙◌, subst, arith, length-append}
 use Rattle.std.specs.Prelude.{All, replicate}
-use Rattle.std.specs.List.{sum_by}
 use Rattle.std.proofs.Math.Nat.{mul-le-mul_left}
 use Rattle.std.proofs.lemmas.List.{length-replicate, get_or-replicate}
 use Rattle.std.proofs.lemmas.List.Elements.{All-head, All-tail, All-append, All-cons, All-nil}
@@ -15,7 +14,7 @@ use Rattle.mcf_limits.specs.declared.TheConstants.{MAX_LENGTH}
 use Rattle.route_tally.specs.Tally.{IsCollected, TakesTurn}
 use Rattle.route_tally.proofs.TurnSums.{same_carried}
 use Rattle.hop_solve.specs.declared.turns.Routed.{Routed}
-use Rattle.hop_solve.specs.Turns.{weight_of, IsOnce, IsRouted, HasRoom}
+use Rattle.hop_solve.specs.Turns.{weight_of, IsOnce, IsRouted}
 
 abbrev pub AreOnce : List Row → Type 0
 AreOnce rows = All (λ row. IsOnce row.walk) rows

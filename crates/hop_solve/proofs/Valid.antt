@@ -1,30 +1,25 @@
 -- The proof of a run is valid, and fits its network.
-use Rattle.std.proofs.Common.{◌≡◌, ◌≢◌, ◌↔◌, inl, inr, ℕ, zero, suc, ◌+◌, ◌*◌, ◌<◌, ◌≤◌, Bool, true, false, cond, List, [], ◌∷◌, length, get_or, take, Option, Some, refl, sym, ap, subst, ◌∙◌, arith, mul-le-mul}
+use Rattle.std.proofs.Common.{◌≡◌, ◌≢◌, ◌↔◌, inl, inr, ℕ, suc, ◌+◌, ◌*◌, ◌<◌, ◌≤◌, Bool, true, false, cond, List, [], ◌∷◌, length, get_or, take, Option, Some, refl, sym, ap, subst, ◌∙◌, arith, mul-le-mul}
 use Rattle.std.specs.Prelude.{All, ◌⊎◌, IsTrue, slice_get}
-use Rattle.std.specs.List.{list_any}
 use Rattle.std.proofs.Math.Seq.{take-length}
 use Rattle.std.proofs.lemmas.List.{take_all}
 use Rattle.std.proofs.lemmas.List.Elements.{All-nil, All-from_get_or}
 use Rattle.std.proofs.lemmas.List.Folds.{Any-from_list_any}
-use Rattle.std.proofs.lemmas.Option.{slice_get_within, get_or_from_slice_get, slice_get-get_or}
+use Rattle.std.proofs.lemmas.Option.{slice_get_within, get_or_from_slice_get}
 use Rattle.mcf_limits.specs.declared.TheConstants.{MAX_LENGTH, MAX_PHASES, MAX_TOTAL}
-use Rattle.flow_model.specs.declared.net.Cell.{Cell}
 use Rattle.flow_model.specs.declared.net.Commodity.{Commodity}
 use Rattle.flow_model.specs.Network.{Network, IsNetwork}
 use Rattle.flow_model.specs.Walk.{IsWalk, PositiveWalk}
-use Rattle.flow_model.specs.Routing.{Row, Joins, load_of}
+use Rattle.flow_model.specs.Routing.{Row, Joins}
 use Rattle.flow_model.specs.Bound.{volume}
 use Rattle.flow_model.specs.Lengths.{lengths_of, greatest_exponent, least_capacity}
 use Rattle.flow_model.proofs.Duality.{no_commodity}
 use Rattle.fixed_exp.proofs.Passes.{empty-far}
 use Rattle.gap_fraction.specs.Fraction.{Fraction, IsWithinGap}
 use Rattle.flow_paths.specs.declared.certificate.Routing.{Routing}
-use Rattle.flow_paths.specs.DualRows.{DualRows}
-use Rattle.flow_paths.specs.Certificate.{PathsAreWalks, PhasesAreCarried, LoadsFit, ScaleDivides, IsRoutingOf, IsRowOf, lower_of, lengths_in}
-use Rattle.flow_paths.specs.PathRows.{no_row}
+use Rattle.flow_paths.specs.Certificate.{PathsAreWalks, PhasesAreCarried, LoadsFit, ScaleDivides, IsRoutingOf, IsRowOf, lower_of}
 use Rattle.flow_paths.specs.Evaluation.{fill, loads_of, fraction_le}
 use Rattle.flow_paths.specs.Least.{least_by}
-use Rattle.cert_check.specs.declared.verdict.Fault.{Fault}
 use Rattle.route_tally.specs.declared.options.RunOptions.{RunOptions}
 use Rattle.route_tally.specs.Asked.{AreRunOptions, later_setting}
 use Rattle.route_tally.specs.Tally.{same_path, IsTally}
@@ -36,12 +31,12 @@ use Rattle.hop_paths.specs.Allowed.{limit_at, IsWithin, AreWithin, AreLimits}
 use Rattle.hop_check.specs.declared.hop_proof.HopProof.{HopProof}
 use Rattle.hop_check.specs.Layers.{HopDual, dual_of, hop_upper_of}
 use Rattle.hop_check.specs.Conditions.{HopFractionsArePrinted, IsValidHops, IsHopProofOf}
-use Rattle.hop_solve.specs.Run.{turns_after, fill_after, lower_after, no_hop_dual, kept_after, IsHopPhasedRun, IsHopCutProof, IsHopRun, HasHopCut, HasNoHopCut}
-use Rattle.hop_solve.specs.Turns.{weight_of, amount_of}
+use Rattle.hop_solve.specs.Run.{turns_after, fill_after, lower_after, no_hop_dual, IsHopPhasedRun, IsHopCutProof, IsHopRun, HasHopCut, HasNoHopCut}
+use Rattle.hop_solve.specs.Turns.{amount_of}
 use Rattle.hop_solve.proofs.Shows.{ShowsHops, bound-shows, cut-shows}
-use Rattle.hop_solve.proofs.Turning.{loads-length, load-within}
+use Rattle.hop_solve.proofs.Turning.{loads-length}
 use Rattle.hop_solve.proofs.Rounds.{IsGood, IsRound, round-of, all_turns, rounds-good, rounds-count, rounds-weight, rounds-carried, lengths-are}
-use Rattle.hop_solve.proofs.Filled.{HasFill, fill-has, good-once}
+use Rattle.hop_solve.proofs.Filled.{HasFill, fill-has}
 
 -- ---- rows
 
@@ -143,17 +138,34 @@ record Makes (net : Network) (limits : List (Option ℕ)) (h : HopProof) : Type 
 makes-valid : (net : Network) (limits : List (Option ℕ)) (h : HopProof) → Makes net limits h → HopFractionsArePrinted net limits h → IsValidHops net limits h
 makes-valid net limits h m printed =
     let s = m.shows in
-    let divides : (hop_upper_of net limits (dual_of h)).den ≢ 0 = λ e. absurd (omega (arith, s.positive, e)) in
-    (record { walks = m.walks; within = m.within },
-      (m.carried_are,
-        (m.loads,
-          (m.scale,
-            (s.cells,
-              (record { potentials = s.asked; layers = s.asked_layers },
-                (record { potentials = s.potentials; layers = s.layers },
-                  (divides,
-                    (printed,
-                      (m.closed, tt))))))))))
+    let divides : (hop_upper_of net limits (dual_of h)).den ≢ 0 = λ e. absurd (omega (arith, s.positive, e)) in (
+      record { walks = m.walks; within = m.within },
+      (
+        m.carried_are,
+        (
+          m.loads,
+          (
+            m.scale,
+            (
+              s.cells,
+              (
+                record { potentials = s.asked; layers = s.asked_layers },
+                (
+                  record { potentials = s.potentials; layers = s.layers },
+                  (
+                    divides,
+                    (
+                      printed,
+                      (m.closed, tt),
+                    ),
+                  ),
+                ),
+              ),
+            ),
+          ),
+        ),
+      ),
+    )
 
 makes-fits : (net : Network) (limits : List (Option ℕ)) (o : RunOptions) (h : HopProof) → AreRunOptions (length net.commodities) o → h.proof.gap ≡ o.gap → Makes net limits h → h.proof.lower.micro < 1000000 → h.proof.upper.micro < 1000000 → IsHopProofOf net h
 makes-fits net limits o h options gap m low high = record {

@@ -1,5 +1,5 @@
 -- What a run has reached after some phases.
-use Rattle.std.specs.Prelude.{◌≡◌, ℕ, ◌*◌, ◌<◌, ◌≤◌, List, [], All, length, Option, slice_index_or}
+use Rattle.std.specs.Prelude.{◌≡◌, ℕ, ◌*◌, ◌<◌, ◌≤◌, List, All, length, Option, slice_index_or}
 use Rattle.flow_model.specs.Network.{Network}
 use Rattle.flow_model.specs.Routing.{Row}
 use Rattle.gap_fraction.specs.Fraction.{IsWithinGap}

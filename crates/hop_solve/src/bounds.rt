@@ -44,8 +44,10 @@ fn finished(
     requires rows { All (λ row. All (λ n. n ≤ MOST) row.values.items) rows.now }
     requires weighs { CanWeigh on.now.net.now on.now.limits.now lengths.now
         (record { dual = dual_of lengths.now rows.now; layers = layers }) }
-    ensures dual { IfOk result (λ b. hop_dual_of b ≡ record { dual = dual_of lengths.now rows.now; layers = layers }) }
-    ensures value { IfOk result (λ b. b.value ≡ hop_upper_of on.now.net.now on.now.limits.now (hop_dual_of b)) }
+    ensures dual { IfOk result (λ b. hop_dual_of b
+        ≡ record { dual = dual_of lengths.now rows.now; layers = layers }) }
+    ensures value { IfOk result (λ b. b.value
+        ≡ hop_upper_of on.now.net.now on.now.limits.now (hop_dual_of b)) }
 {
     let net = on.net;
     let cells = net.cells();
@@ -72,8 +74,10 @@ pub fn bound_of(
     requires empty { EmptyAreFar on.now.net.now.cells lengths.now }
     requires finder { IsFinder on.now.net.now on.now.counts.now finder.old }
     ensures finder { IsFinder on.now.net.now on.now.counts.now finder.new }
-    ensures dual { IfOk result (λ b. IsHopBoundOf on.now.net.now on.now.limits.now lengths.now (hop_dual_of b)) }
-    ensures value { IfOk result (λ b. b.value ≡ hop_upper_of on.now.net.now on.now.limits.now (hop_dual_of b)) }
+    ensures dual { IfOk result (λ b.
+        IsHopBoundOf on.now.net.now on.now.limits.now lengths.now (hop_dual_of b)) }
+    ensures value { IfOk result (λ b. b.value
+        ≡ hop_upper_of on.now.net.now on.now.limits.now (hop_dual_of b)) }
 {
     let _nodes = on.net.nodes();
     let rows = distance_rows(alloc, on, lengths)?;
@@ -92,9 +96,9 @@ fn lengths_of_cut(alloc: Global, cells: &[Cell]) -> Result<Vec<u64>, AllocError>
     Ok(lengths)
 }
 
-/// The bound of a network in which some commodity has no allowed walk, 0: a cell without capacity has length 1 and every other 0;
-/// potentials and layers have 0 for a node that such a walk from their source leads to, and 1 for every other. Searches take any
-/// lengths of 1 to 2^52.
+/// The bound of a network in which some commodity has no allowed walk, 0: a cell without capacity has length 1 and every
+/// other 0; potentials and layers have 0 for a node that such a walk from their source leads to, and 1 for every other. The
+/// searches for them take the given lengths, whatever they are.
 pub fn cut_bound(
     alloc: Global,
     on: &Given<'_>,
@@ -105,8 +109,10 @@ pub fn cut_bound(
     requires cut { HasHopCut on.now.net.now on.now.limits.now }
     requires lengths { AreLengths on.now.net.now.cells lengths.now }
     requires finder { IsFinder on.now.net.now on.now.counts.now finder.old }
-    ensures dual { IfOk result (λ b. IsHopCutDual on.now.net.now on.now.limits.now (hop_dual_of b)) }
-    ensures value { IfOk result (λ b. b.value ≡ hop_upper_of on.now.net.now on.now.limits.now (hop_dual_of b)) }
+    ensures dual { IfOk result (λ b.
+        IsHopCutDual on.now.net.now on.now.limits.now (hop_dual_of b)) }
+    ensures value { IfOk result (λ b. b.value
+        ≡ hop_upper_of on.now.net.now on.now.limits.now (hop_dual_of b)) }
 {
     let rows = mark_rows(alloc, on)?;
     let layers = all_layers(alloc, on, lengths, finder, Numbers::Marks)?;

@@ -24,7 +24,8 @@ pub enum Numbers {
     Marks,
 }
 
-/// The number of a node with this distance: the distance, or 2^62 where there is none; as a mark 0, or 1 where there is none.
+/// The number of a node with this distance: the distance, or 2^62 where there is none; as a mark 0, or 1 where there is
+/// none.
 #[inline(always)]
 fn number(kind: Numbers, distance: Option<u64>) -> u64
     requires limit { IfSome distance (λ d. d < MOST) }
@@ -67,8 +68,8 @@ fn push_layers(
     ensures values { length finder.new.values.items ≡ length finder.old.values.items }
     ensures plain { finder.new.plain ≡ finder.old.plain }
     ensures layered { finder.new.layered ≡ finder.old.layered }
-    ensures layers { OnOk result (AddsLayers finder.old.layered.nodes (IsSearchedNumber kind finder.old.layered)
-        (first_layers node count) layers.old layers.new) }
+    ensures layers { OnOk result (AddsLayers finder.old.layered.nodes
+        (IsSearchedNumber kind finder.old.layered) (first_layers node count) layers.old layers.new) }
 {
     for index in 0..count {
         put_numbers(&finder.layered, index, kind, &mut finder.values);
@@ -100,9 +101,7 @@ fn node_layers(
     if count == 0 {
         return Ok(());
     }
-    finder
-        .layered
-        .search(on.graph, lengths, node, count - 1);
+    finder.layered.search(on.graph, lengths, node, count - 1);
     push_layers(alloc, finder, node, count, kind, layers)?;
     Ok(())
 }

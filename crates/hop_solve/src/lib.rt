@@ -1,5 +1,5 @@
-//! Runs within hop limits: one commodity after the other goes along a least of its allowed walks, phase after phase, with a bound by
-//! layers after each, until the gap is met or the budget is spent.
+//! Runs within hop limits: one commodity after the other goes along a least of its allowed walks, phase after phase, with a
+//! bound by layers after each, until the gap is met or the budget is spent.
 #![tactic(auto)]
 
 mod bounds;

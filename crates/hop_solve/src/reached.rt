@@ -67,8 +67,8 @@ fn lesser(earlier: HopBound, later: HopBound) -> HopBound
     }
 }
 
-/// What is reached with the first phase: its fullest cell is the reference of all lengths from now on, and the bound is that of
-/// the loads after it.
+/// What is reached with the first phase: its fullest cell is the reference of all lengths from now on, and the bound is
+/// that of the loads after it.
 pub fn first(
     alloc: Global,
     on: &Given<'_>,
@@ -79,7 +79,8 @@ pub fn first(
     requires limits { AreLimits on.now.net.now on.now.limits.now }
     requires options { AreRunOptions (length on.now.net.now.commodities) options.now }
     requires finder { IsFinder on.now.net.now on.now.counts.now finder }
-    requires phase { (turns : List Row) × IsHopPhase on.now.net.now on.now.limits.now (first_setting options.now.step) [] turns
+    requires phase { (turns : List Row)
+        × IsHopPhase on.now.net.now on.now.limits.now (first_setting options.now.step) [] turns
         × IsRouted on.now.net.now turns routed }
     ensures reached { IfOk result
         (IsHopReached on.now.net.now on.now.limits.now on.now.counts.now options.now) }

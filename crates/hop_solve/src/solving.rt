@@ -76,10 +76,12 @@ fn finished(
     requires options { AreRunOptions (length on.now.net.now.commodities) options.now }
     requires reached { IsHopReached on.now.net.now on.now.limits.now on.now.counts.now options.now ended.reached }
     requires budget { ended.reached.phases ≤ options.now.phases }
-    requires closed { IsTrue ended.closed ↔ IsHopMet on.now.net.now on.now.limits.now options.now ended.reached }
+    requires closed { IsTrue ended.closed
+        ↔ IsHopMet on.now.net.now on.now.limits.now options.now ended.reached }
     requires spent { ended.closed ≡ false → ended.reached.phases ≡ options.now.phases }
     ensures run { IfOk result (IsHopRun on.now.net.now on.now.limits.now options.now) }
-    ensures micro { IfOk result (λ h. (h.proof.lower.micro < 1000000) × (h.proof.upper.micro < 1000000)) }
+    ensures micro { IfOk result (λ h. (h.proof.lower.micro < 1000000)
+        × (h.proof.upper.micro < 1000000)) }
 {
     let Ended { reached, closed } = ended;
     let HopReached {
@@ -124,7 +126,8 @@ fn cut_off(
     requires net { routed.table.net ≡ on.now.net.now }
     requires finder { IsFinder on.now.net.now on.now.counts.now finder }
     ensures run { IfOk result (IsHopRun on.now.net.now on.now.limits.now options.now) }
-    ensures micro { IfOk result (λ h. (h.proof.lower.micro < 1000000) × (h.proof.upper.micro < 1000000)) }
+    ensures micro { IfOk result (λ h. (h.proof.lower.micro < 1000000)
+        × (h.proof.upper.micro < 1000000)) }
 {
     let mut finder = finder;
     let HopBound {
@@ -149,15 +152,12 @@ fn cut_off(
 }
 
 /// A cut's proof, or that of all phases.
-fn run(
-    alloc: Global,
-    on: &Given<'_>,
-    options: &RunOptions,
-) -> Result<HopProof, AllocError>
+fn run(alloc: Global, on: &Given<'_>, options: &RunOptions) -> Result<HopProof, AllocError>
     requires limits { AreLimits on.now.net.now on.now.limits.now }
     requires options { AreRunOptions (length on.now.net.now.commodities) options.now }
     ensures run { IfOk result (IsHopRun on.now.net.now on.now.limits.now options.now) }
-    ensures micro { IfOk result (λ h. (h.proof.lower.micro < 1000000) × (h.proof.upper.micro < 1000000)) }
+    ensures micro { IfOk result (λ h. (h.proof.lower.micro < 1000000)
+        × (h.proof.upper.micro < 1000000)) }
 {
     let mut routed = new_routed(alloc, on, &setting_at_first(options.step))?;
     let mut finder = new_finder(alloc, on)?;
@@ -169,10 +169,11 @@ fn run(
     finished(alloc, on, options, ended)
 }
 
-/// A certificate of the network within the limits of hops, of which there is one, of at most 64 cells, or none for each
-/// commodity. Paths carry one fraction of every amount within every capacity, each over at most as many cells as its commodity's
-/// limit; lengths, potentials and layers bound the fraction of every such routing. It is closed exactly where the two lie within
-/// the asked gap, and open only after the whole phase budget. `Err` is for want of memory.
+/// A certificate of the network within the limits of hops: one of at most 64 cells, or none, for each commodity. Paths carry
+/// one fraction of every amount within every capacity, each over at most as many cells as its commodity's limit; lengths,
+/// potentials and layers bound the fraction of every such routing. It is closed exactly where the two lie within the asked
+/// gap, which is in millionths, and open only after the whole phase budget. Where some commodity has no walk over positive
+/// cells within its limit, it is closed without a phase, and the bound is 0. `Err` is for want of memory.
 pub fn solve_hops(
     alloc: Global,
     net: &Net,
@@ -198,5 +199,7 @@ pub fn solve_hops(
         counts: &counts,
         marks: &marks,
     };
-    run(alloc, &on, options)
+    let _nodes = net.nodes();
+    let h = run(alloc, &on, options)?;
+    Ok(h)
 }

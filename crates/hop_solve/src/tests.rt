@@ -1,8 +1,7 @@
 //! A triangle of links that go both ways, and a demand from its first node to its second.
 
-ghost use Rattle.std.specs.Prelude.{◌≡◌, ◌≤◌, [], ◌∷◌, true, IfOk, Some, None, length};
-ghost use Rattle.flow_model.specs.Network.{Network};
-ghost use Rattle.mcf_limits.specs.declared.TheConstants.{MAX_HOPS};
+ghost use Rattle.std.specs.Prelude.{◌≡◌, ◌≤◌, true, IfOk, MatchOption, length};
+ghost use Rattle.mcf_limits.specs.declared.TheConstants.{MAX_HOPS, MAX_STEP};
 
 use crate::solving::solve_hops;
 use flow_model::{Cell, Commodity, Net};
@@ -36,7 +35,11 @@ fn triangle(alloc: Global) -> Result<Net, AllocError>
 }
 
 // What is solved of the triangle, where a path may have so many links.
-fn solved(alloc: Global, limit: Option<u8>, step: u32) -> Result<HopProof, AllocError> {
+fn solved(alloc: Global, limit: Option<u8>, step: u32) -> Result<HopProof, AllocError>
+    requires limit { MatchOption limit (Unit {0}) (λ n. n ≤ MAX_HOPS) }
+    requires some_step { 1 ≤ step }
+    requires step { step ≤ MAX_STEP }
+{
     let net = triangle(alloc)?;
     let options = RunOptions {
         gap: 50000,
@@ -61,10 +64,19 @@ fn the_limit_keeps_to_the_first_link(rt: HostRuntime) -> Result<(), Fail> {
     let h = solved(alloc, Some(1), 1048576)?;
     assert!(rt; h.proof.closed);
     assert_eq!(rt; h.proof.routing.phases, 1);
-    assert_eq!(rt; (h.proof.routing.scale_cap, h.proof.routing.scale_load), (2, 2));
-    assert_eq!(rt; (h.proof.upper.num, h.proof.upper.den), (9007474132647932, 9007199254740992));
+    assert_eq!(rt;
+        (h.proof.routing.scale_cap, h.proof.routing.scale_load),
+        (2, 2)
+    );
+    assert_eq!(rt;
+        (h.proof.upper.num, h.proof.upper.den),
+        (9007474132647932, 9007199254740992)
+    );
     assert_eq!(rt; (h.proof.upper.whole, h.proof.upper.micro), (1, 31));
-    assert_eq!(rt; lengths(alloc, &h)?.as_slice(), [4503599627370496, 13743895347, 13743895347].as_slice());
+    assert_eq!(rt;
+        lengths(alloc, &h)?.as_slice(),
+        [4503599627370496, 13743895347, 13743895347].as_slice()
+    );
     assert_eq!(rt; h.proof.routing.paths.rows(), 1);
     assert_eq!(rt; h.proof.dual.rows(), 0);
     assert_eq!(rt; h.layers.rows(), 2);

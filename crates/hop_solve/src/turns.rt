@@ -28,11 +28,7 @@ pub struct Routed {
 }
 
 /// Before any turn, with lengths under this setting.
-pub fn new_routed(
-    alloc: Global,
-    on: &Given<'_>,
-    setting: &Setting,
-) -> Result<Routed, AllocError>
+pub fn new_routed(alloc: Global, on: &Given<'_>, setting: &Setting) -> Result<Routed, AllocError>
     requires { IsSetting setting.now }
     ensures nothing { IfOk result (IsRouted on.now.net.now []) }
     ensures setting { IfOk result (λ r. r.table.setting ≡ setting.now) }
@@ -70,9 +66,10 @@ fn route(
     requires once { IsOnce path.now }
     requires room { HasRoom on.now.net.now 1 amount routed.old }
     ensures routed { OnOk result ((before : List Row) → IsRouted on.now.net.now before routed.old
-        → IsRouted on.now.net.now (before ++ record { commodity = k; walk = path.now; weight = amount } ∷ [])
-        routed.new) }
-    ensures setting { OnOk result (routed.new.table.setting ≡ routed.old.table.setting) }
+        → IsRouted on.now.net.now
+        (before ++ record { commodity = k; walk = path.now; weight = amount } ∷ []) routed.new) }
+    ensures net { routed.new.table.net ≡ routed.old.table.net }
+    ensures setting { routed.new.table.setting ≡ routed.old.table.setting }
 {
     routed.tally.add(k, path, amount)?;
     add_along(&mut routed.loads, path, amount);
@@ -95,8 +92,8 @@ fn turn_along(
     ensures turned { IfOk result (λ yes. IsTrue yes → (before : List Row)
         → IsRouted on.now.net.now before routed.old
         → HasTurned on.now.net.now on.now.limits.now before k routed.old routed.new) }
-    ensures setting { IfOk result (λ yes. IsTrue yes
-        → routed.new.table.setting ≡ routed.old.table.setting) }
+    ensures net { routed.new.table.net ≡ routed.old.table.net }
+    ensures setting { routed.new.table.setting ≡ routed.old.table.setting }
     ensures cut { IfOk result (λ yes. yes ≡ false → (walk : List ℕ)
         → IsAllowed on.now.net.now on.now.limits.now k walk → ⊥) }
 {
@@ -123,8 +120,8 @@ fn free_turn(
     ensures turned { IfOk result (λ yes. IsTrue yes → (before : List Row)
         → IsRouted on.now.net.now before routed.old
         → HasTurned on.now.net.now on.now.limits.now before k routed.old routed.new) }
-    ensures setting { IfOk result (λ yes. IsTrue yes
-        → routed.new.table.setting ≡ routed.old.table.setting) }
+    ensures net { routed.new.table.net ≡ routed.old.table.net }
+    ensures setting { routed.new.table.setting ≡ routed.old.table.setting }
     ensures cut { IfOk result (λ yes. yes ≡ false → (walk : List ℕ)
         → IsAllowed on.now.net.now on.now.limits.now k walk → ⊥) }
 {
@@ -152,8 +149,8 @@ fn limited_turn(
     ensures turned { IfOk result (λ yes. IsTrue yes → (before : List Row)
         → IsRouted on.now.net.now before routed.old
         → HasTurned on.now.net.now on.now.limits.now before k routed.old routed.new) }
-    ensures setting { IfOk result (λ yes. IsTrue yes
-        → routed.new.table.setting ≡ routed.old.table.setting) }
+    ensures net { routed.new.table.net ≡ routed.old.table.net }
+    ensures setting { routed.new.table.setting ≡ routed.old.table.setting }
     ensures cut { IfOk result (λ yes. yes ≡ false → (walk : List ℕ)
         → IsAllowed on.now.net.now on.now.limits.now k walk → ⊥) }
 {
@@ -177,8 +174,8 @@ fn turn(
     ensures turned { IfOk result (λ yes. IsTrue yes → (before : List Row)
         → IsRouted on.now.net.now before routed.old
         → HasTurned on.now.net.now on.now.limits.now before k routed.old routed.new) }
-    ensures setting { IfOk result (λ yes. IsTrue yes
-        → routed.new.table.setting ≡ routed.old.table.setting) }
+    ensures net { routed.new.table.net ≡ routed.old.table.net }
+    ensures setting { routed.new.table.setting ≡ routed.old.table.setting }
     ensures cut { IfOk result (λ yes. yes ≡ false → (walk : List ℕ)
         → IsAllowed on.now.net.now on.now.limits.now k walk → ⊥) }
 {
@@ -190,11 +187,7 @@ fn turn(
 }
 
 /// A turn for each commodity, in their order: whether each has an allowed walk. It ends at the first that has none.
-pub fn phase(
-    on: &Given<'_>,
-    routed: &mut Routed,
-    finder: &mut Finder,
-) -> Result<bool, AllocError>
+pub fn phase(on: &Given<'_>, routed: &mut Routed, finder: &mut Finder) -> Result<bool, AllocError>
     requires finder { IsFinder on.now.net.now on.now.counts.now finder.old }
     requires room { HasRoom on.now.net.now (length on.now.net.now.commodities)
         (amount_of on.now.net.now.commodities) routed.old }
@@ -202,8 +195,8 @@ pub fn phase(
     ensures phase { IfOk result (λ yes. IsTrue yes → (before : List Row)
         → IsRouted on.now.net.now before routed.old
         → HasPhase on.now.net.now on.now.limits.now before routed.old routed.new) }
-    ensures setting { IfOk result (λ yes. IsTrue yes
-        → routed.new.table.setting ≡ routed.old.table.setting) }
+    ensures net { routed.new.table.net ≡ routed.old.table.net }
+    ensures setting { routed.new.table.setting ≡ routed.old.table.setting }
     ensures cut { IfOk result (λ yes. yes ≡ false → HasHopCut on.now.net.now on.now.limits.now) }
 {
     for k in 0..on.net.commodities().len() as u32 {

@@ -22,7 +22,8 @@ fn append_row(
     requires { source < nodes }
     ensures sources { (b : _) → mark ≡ (if b then 1 else 0) → OnOk result (sources_of rows.new.items
         ≡ sources_of rows.old.items ++ (if b then source ∷ [] else [])) }
-    ensures blank { OnOk result (All (IsBlank nodes) rows.old.items → All (IsBlank nodes) rows.new.items) }
+    ensures blank { OnOk result (All (IsBlank nodes) rows.old.items
+        → All (IsBlank nodes) rows.new.items) }
 {
     if mark == 0 {
         return Ok(());
@@ -38,7 +39,8 @@ fn append_row(
 /// A blank row for each of these sources.
 fn blank_rows(alloc: Global, on: &Given<'_>) -> Result<Vec<Row>, AllocError>
     ensures sources { IfOk result (λ rows. sources_of rows.items
-        ≡ filter (is_unlimited on.now.net.now on.now.limits.now) (range_with_len 0 on.now.net.now.nodes)) }
+        ≡ filter (is_unlimited on.now.net.now on.now.limits.now)
+        (range_with_len 0 on.now.net.now.nodes)) }
     ensures blank { IfOk result (λ rows. All (IsBlank on.now.net.now.nodes) rows.items) }
 {
     let nodes = on.net.nodes();
@@ -50,14 +52,11 @@ fn blank_rows(alloc: Global, on: &Given<'_>) -> Result<Vec<Row>, AllocError>
 }
 
 /// A row of distances for each of these sources: 2^62 where there is no walk.
-pub fn distance_rows(
-    alloc: Global,
-    on: &Given<'_>,
-    lengths: &[u64],
-) -> Result<Vec<Row>, AllocError>
+pub fn distance_rows(alloc: Global, on: &Given<'_>, lengths: &[u64]) -> Result<Vec<Row>, AllocError>
     requires lengths { AreLengths on.now.net.now.cells lengths.now }
     ensures sources { IfOk result (λ rows. sources_of rows.items
-        ≡ filter (is_unlimited on.now.net.now on.now.limits.now) (range_with_len 0 on.now.net.now.nodes)) }
+        ≡ filter (is_unlimited on.now.net.now on.now.limits.now)
+        (range_with_len 0 on.now.net.now.nodes)) }
     ensures filled { IfOk result (λ rows. All (IsFilledWith on.now.net.now.nodes
         (IsDistance on.now.net.now.cells lengths.now)) rows.items) }
 {
@@ -73,7 +72,8 @@ pub fn distance_rows(
 /// A row of marks for each of these sources: 0 for what it reaches, 1 for what it does not.
 pub fn mark_rows(alloc: Global, on: &Given<'_>) -> Result<Vec<Row>, AllocError>
     ensures sources { IfOk result (λ rows. sources_of rows.items
-        ≡ filter (is_unlimited on.now.net.now on.now.limits.now) (range_with_len 0 on.now.net.now.nodes)) }
+        ≡ filter (is_unlimited on.now.net.now on.now.limits.now)
+        (range_with_len 0 on.now.net.now.nodes)) }
     ensures filled { IfOk result (λ rows. All (IsFilledWith on.now.net.now.nodes
         (IsCutPotential on.now.net.now.cells)) rows.items) }
 {

@@ -1,4 +1,4 @@
-use Rattle.std.proofs.Common.{◌≡◌, ℕ, ◌<◌, ◌≤◌, List, get_or, sym, ap, ◌∙◌, subst, arith}
+use Rattle.std.proofs.Common.{◌≡◌, ℕ, ◌<◌, List, get_or, sym, ◌∙◌, subst, arith}
 use Rattle.flow_model.specs.Network.{Network}
 use Rattle.hop_paths.specs.Allowed.{IsShortWalk, IsLeastOf}
 use Rattle.hop_paths.specs.Searched.{layer_dist}

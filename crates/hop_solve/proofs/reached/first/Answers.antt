@@ -1,7 +1,6 @@
-use Rattle.std.proofs.Common.{◌≡◌, ℕ, ◌<◌, ◌≤◌, List, [], length, get_or, refl, sym, ap, ◌∙◌, subst, arith}
+use Rattle.std.proofs.Common.{◌≡◌, ℕ, ◌<◌, List, length, get_or, refl, sym, ap, ◌∙◌, subst, arith}
 use Rattle.std.proofs.lemmas.List.{get_or_default}
 use Rattle.flow_model.specs.declared.net.Cell.{Cell}
-use Rattle.flow_model.specs.declared.setting.Setting.{Setting}
 use Rattle.flow_model.specs.Lengths.{IsSetting, lengths_of}
 use Rattle.fixed_exp.specs.LoadedNetwork.{LoadedNetwork}
 use Rattle.flow_paths.specs.Fullness.{fullness}
@@ -31,8 +30,13 @@ update-requires-clause-small c = λ k d l.
     let p = c.requires.phase in
     let same = c.deref-2.ensures.value in
     let inside : k < length c.args.routed.loads.items = omega (arith, l, ap (λ (xs : List ℕ). length xs) same) in
-    omega (arith, get_or_default c.deref-2.result.now k d 0 l, ap (λ (xs : List ℕ). get_or xs k 0) same, loads-within net p.0 c.args.routed k p.2 inside,
-    first-small net c.args.on.now.limits.now _ p.0 c.cells.ensures.net c.requires.limits p.1)
+    omega (
+      arith,
+      get_or_default c.deref-2.result.now k d 0 l,
+      ap (λ (xs : List ℕ). get_or xs k 0) same,
+      loads-within net p.0 c.args.routed k p.2 inside,
+      first-small net c.args.on.now.limits.now _ p.0 c.cells.ensures.net c.requires.limits p.1,
+    )
 
 pub returns-clause-reached : goal.returns-clause-reached
 returns-clause-reached c =

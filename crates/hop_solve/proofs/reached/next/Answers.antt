@@ -53,7 +53,7 @@ returns-clause-reached c =
     let before = turns_after is.phases (length is.phases) in
     let p = c.in_ok-whole.ensures.phase c.if-prove.false before is.routed in
     let all = before ++ p.turns in
-    let same : c.phase.new.routed.table.setting ≡ old.routed.table.setting = c.in_ok-whole.ensures.setting c.if-prove.false in
+    let same : c.phase.new.routed.table.setting ≡ old.routed.table.setting = c.phase.ensures.setting in
     let loads : c.deref.result.now ≡ loads_of net all = c.deref.ensures.value ∙ p.routed.loads in
     let fills : fullness c.fullest-fill.result ≡ fill net.cells (loads_of net all) = c.fullest-fill.ensures ∙ (ap (λ (cells : List Cell). fill cells c.deref.result.now) c.cells.ensures.value ∙ ap (fill net.cells) loads) in
     let lengths : c.lengths.result.now ≡ lengths_of net old.routed.table.setting (loads_of net all)

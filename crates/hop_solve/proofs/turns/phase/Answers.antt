@@ -1,4 +1,4 @@
-use Rattle.std.proofs.Common.{◌≡◌, ℕ, ◌<◌, List, ◌++◌, length, ap, arith, ◌∙◌}
+use Rattle.std.proofs.Common.{◌<◌, List, ◌++◌, length, ap, arith, ◌∙◌}
 use Rattle.flow_model.specs.declared.net.Commodity.{Commodity}
 use Rattle.hop_solve.proofs.Phases.{begun-more}
 use Rattle.hop_solve.proofs.turns.phase.Goals as goal
@@ -13,7 +13,8 @@ loop-k-preserved c =
       turns = λ before is.
           let b = c.loop-k.invariant.turns before is in
           begun-more net limits before c.loop-k.k c.args.routed.now c.loop-k.routed c.turn.new.routed inside c.loop-k.invariant.setting b (c.in_ok-turn.ensures.turned c.if-not-branch.false (before ++ b.turns) b.routed);
-      setting = c.in_ok-turn.ensures.setting c.if-not-branch.false ∙ c.loop-k.invariant.setting;
+      net = c.turn.ensures.net ∙ c.loop-k.invariant.net;
+      setting = c.turn.ensures.setting ∙ c.loop-k.invariant.setting;
     }
 
 pub returns-then-not-branch-clause-cut : goal.returns-then-not-branch-clause-cut

@@ -1,4 +1,4 @@
-use Rattle.std.proofs.Common.{◌≡◌, ℕ, List, Option, Some, ap, subst}
+use Rattle.std.proofs.Common.{Option, subst}
 use Rattle.std.specs.Option.{option_map}
 use Rattle.hop_solve.specs.Turns.{lengths_then, IsFound, Finds}
 use Rattle.hop_solve.proofs.Turned.{turned-by}

@@ -1,4 +1,4 @@
-use Rattle.std.proofs.Common.{arith, sym, ap, ◌∙◌, ◌≡◌, ℕ, ◌<◌, Bool, cond, get_or, refl, subst}
+use Rattle.std.proofs.Common.{arith, sym, ◌∙◌, ◌≡◌, ℕ, Bool, cond, get_or, refl, subst}
 use Rattle.std.specs.Prelude.{All}
 use Rattle.hop_paths.specs.Allowed.{is_unlimited}
 use Rattle.dual_bound.specs.Rows.{IsBlank, sources_of}
