@@ -1,8 +1,9 @@
-//! Runs of `checkhops` and `checkthroughput`: what is said of a text, and of one in which a part is another.
+//! Runs of `hops` and `throughput`, and of `checkhops` and `checkthroughput`: what is said of a text, and of one in which a part is
+//! another.
 
 use crate::texts::{HOPS, NET};
 use cert_cases::{ONE_LINK, edited};
-use run_given::{File, expect};
+use run_given::{File, expect, expect_net};
 use std::alloc::Global;
 use std::test::Fail;
 use std::thread::Threads;
@@ -10,6 +11,19 @@ use std::thread::Threads;
 const CHECK_HOPS: &[&str] = &["checkhops", "net", "cert"];
 
 const CHECK_TOTAL: &[&str] = &["checkthroughput", "net", "cert"];
+
+const SOLVE_HOPS: &[&str] = &["hops", "net", "--step", "1048576"];
+
+const SOLVE_TOTAL: &[&str] = &[
+    "throughput",
+    "net",
+    "--links",
+    "directed",
+    "--phases",
+    "1",
+    "--step",
+    "327680",
+];
 
 // A certificate of the total of one link.
 const TOTAL: &[u8] =
@@ -140,4 +154,36 @@ fn hops_judged(rt: HostRuntime) -> Result<(), Fail> {
 #[test]
 fn totals_judged(rt: HostRuntime) -> Result<(), Fail> {
     all_said(&rt, rt.alloc(), CHECK_TOTAL, ONE_LINK, TOTAL, OF_TOTALS)
+}
+
+// The certificate where the demand may take no link.
+const NO_WALK: &[u8] =
+    b"mcf-hops 1\nverdict closed\nlinks undirected\nmodules largest\nnet nodes 3 cells 3 commodities 1 decimals 0 skipped 0 left 0 hops 1\ngap 0.050000\nphases 0\nscale 0 1\nlower 0/1 0.000000\nupper 0/2 0.000000\nlength =L1 0\nlength =L2 0\nlength =L3 0\nlayer A 0 0 1 1\nend\n";
+
+#[test]
+fn hops_solved(rt: HostRuntime) -> Result<(), Fail> {
+    expect_net(
+        &rt,
+        rt.alloc(),
+        "one_link_allowed",
+        SOLVE_HOPS,
+        NET,
+        0,
+        HOPS,
+    )?;
+    let none = edited(rt.alloc(), NET, b"1 2 1\n", b"1 2 0\n")?;
+    expect_net(
+        &rt,
+        rt.alloc(),
+        "no_link_allowed",
+        SOLVE_HOPS,
+        &none,
+        0,
+        NO_WALK,
+    )
+}
+
+#[test]
+fn total_solved(rt: HostRuntime) -> Result<(), Fail> {
+    expect_net(&rt, rt.alloc(), "one_link", SOLVE_TOTAL, ONE_LINK, 1, TOTAL)
 }
