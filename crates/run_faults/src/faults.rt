@@ -1,5 +1,6 @@
 //! Files and output that fail: at each read, at each write, and where nothing stands.
 
+use crate::tightens::{PATH, PATH_BEST, PATH_CERTIFICATE};
 use cert_cases::{CERTIFICATE, ONE_LINK, ROUTING, SIGNED, VALID};
 use run_given::{
     AMPLE, FREE_LAYOUT, FREE_LAYOUT_PRINTED, File, OPEN, OPEN_SWEPT, Outside, TWO_LINKS,
@@ -59,6 +60,13 @@ const SWEEP: Run = Run {
     words: &["sweep", "net", "cert"],
     files: &[("net", TWO_LINKS), ("cert", OPEN)],
     text: OPEN_SWEPT,
+    reads: 13,
+};
+
+const TIGHTEN: Run = Run {
+    words: &["tighten", "net", "cert"],
+    files: &[("net", PATH), ("cert", PATH_CERTIFICATE)],
+    text: PATH_BEST,
     reads: 13,
 };
 
@@ -150,6 +158,12 @@ fn sweep_fails(rt: HostRuntime) -> Result<(), Fail> {
 }
 
 #[test]
+fn tighten_fails(rt: HostRuntime) -> Result<(), Fail> {
+    reads_fail(&rt, rt.alloc(), &TIGHTEN)?;
+    writes_fail(&rt, rt.alloc(), &TIGHTEN)
+}
+
+#[test]
 fn whatif_fails(rt: HostRuntime) -> Result<(), Fail> {
     reads_fail(&rt, rt.alloc(), &WHAT_IF)?;
     writes_fail(&rt, rt.alloc(), &WHAT_IF)?;
@@ -179,7 +193,7 @@ fn second_write_fails(rt: HostRuntime) -> Result<(), Fail> {
 // A read fault whose line cannot be written ends as a write that failed.
 #[test]
 fn read_and_write_fail(rt: HostRuntime) -> Result<(), Fail> {
-    for case in [&CHECK, &PRINT, &SOLVE, &UPGRADE, &SWEEP, &WHAT_IF] {
+    for case in [&CHECK, &PRINT, &SOLVE, &UPGRADE, &SWEEP, &TIGHTEN, &WHAT_IF] {
         let outside = Outside {
             failing_read: case.reads,
             failing_write: 6,
@@ -263,7 +277,7 @@ fn files_that_do_not_stand(rt: HostRuntime) -> Result<(), Fail> {
 // A program that always answers want of memory meets its contract, and fails here.
 #[test]
 fn always_memory(rt: HostRuntime) -> Result<(), Fail> {
-    for case in [&CHECK, &PRINT, &SOLVE, &UPGRADE, &SWEEP, &WHAT_IF] {
+    for case in [&CHECK, &PRINT, &SOLVE, &UPGRADE, &SWEEP, &TIGHTEN, &WHAT_IF] {
         let given = ample_answer(&rt, rt.alloc(), case.words, case.files)?;
         assert!(&rt; given.is(0, case.text));
     }

@@ -24,13 +24,13 @@ const UNTRUE: &[u8] =
     b"mcf-certificate 2\nverdict closed\nlinks undirected\nmodules largest\nnet nodes 3 cells 3 commodities 2 decimals 0 skipped 0 left 0 hops 0\ngap 0.050000\nphases 1\nscale 10 8\nlower 10/8 1.250000\nupper 22/12 1.833334\npath D1 8 =L1\npath D2 4 =L3\nlength =L1 1\nlength =L2 1\nlength =L3 1\npotential A 0 1 1\nend\n";
 
 /// A path of links of one way.
-const PATH: &[u8] =
+pub const PATH: &[u8] =
     b"?SNDlib native format; type: network; version: 1.0\nNODES (\n  A\n  B\n  C\n)\nLINKS (\n  L1 ( A B ) 9 0 0 0 ( )\n  L2 ( B C ) 5 0 0 0 ( )\n)\nDEMANDS (\n  D1 ( A B ) 1 2 UNLIMITED\n  D2 ( A C ) 1 1 UNLIMITED\n  D3 ( B C ) 1 1 UNLIMITED\n)\n";
 
-const PATH_CERTIFICATE: &[u8] =
+pub const PATH_CERTIFICATE: &[u8] =
     b"mcf-certificate 2\nverdict open\nlinks directed\nmodules none\nnet nodes 3 cells 2 commodities 3 decimals 0 skipped 0 left 0 hops 0\ngap 0.000000\nphases 1\nscale 5 2\nlower 5/2 2.500000\nupper 14/5 2.800000\npath D1 2 +L1\npath D2 1 +L1 +L2\npath D3 1 +L2\nlength +L1 1\nlength +L2 1\npotential B 0 0 1\npotential A 0 1 2\nend\n";
 
-const PATH_BEST: &[u8] =
+pub const PATH_BEST: &[u8] =
     b"mcf-certificate 2\nverdict closed\nlinks directed\nmodules none\nnet nodes 3 cells 2 commodities 3 decimals 0 skipped 0 left 0 hops 0\ngap 0.000000\nphases 1\nscale 5 2\nlower 5/2 2.500000\nupper 5/2 2.500000\npath D1 2 +L1\npath D2 1 +L1 +L2\npath D3 1 +L2\nlength +L1 0\nlength +L2 1\npotential A 0 0 1\npotential B 0 0 1\nend\n";
 
 /// Two nodes and a link of two cells.
