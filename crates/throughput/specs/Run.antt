@@ -18,7 +18,7 @@ use Rattle.throughput.specs.declared.part_proof.PartDual.{PartDual}
 use Rattle.throughput.specs.declared.part_proof.PartProof.{PartProof}
 use Rattle.throughput.specs.Partial.{total_of, part_upper_of}
 use Rattle.throughput.specs.Conditions.{PartFractionsArePrinted}
-use Rattle.throughput.specs.Gates.{AreGates, gated, gated_loads, gated_lengths, IsPrice, IsLeastPrice}
+use Rattle.gates.specs.Gates.{AreGates, gated, gated_loads, gated_lengths, IsPrice, IsLeastPrice}
 
 -- ---- phases
 

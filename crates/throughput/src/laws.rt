@@ -1,6 +1,6 @@
 //! Laws of totals and their certificates, proved for all networks.
 
-ghost use Rattle.throughput.specs.Laws.{ThresholdBoundsTotals, ValidPartsCertify};
+ghost use Rattle.throughput.specs.Laws.{ThresholdBoundsTotals, ThroughputRunsAreValid, ValidPartsCertify};
 
 /// Whatever the threshold: the total of a partial routing times the threshold is at most the volume of any lengths and
 /// what the threshold has above any distances that are not above its walks.
@@ -12,4 +12,9 @@ pub fn threshold_bounds_totals()
 /// fraction, its threshold bounds the total of every such routing, and closed says whether the two lie within the gap.
 pub fn valid_parts_certify()
     ensures { ValidPartsCertify }
+{}
+
+/// The certificate of a run for the greatest total is valid.
+pub fn throughput_runs_are_valid()
+    ensures { ThroughputRunsAreValid }
 {}

@@ -1,15 +1,17 @@
 //! A link of 10 with a demand of 4 over it, and a certificate of the total 4.
 
 ghost use Rattle.std.specs.Prelude.{◌≡◌, ◌≤◌, [], ◌∷◌, false, IfOk};
-ghost use Rattle.mcf_limits.specs.declared.TheConstants.{MAX_GAP, MAX_LENGTH};
+ghost use Rattle.mcf_limits.specs.declared.TheConstants.{MAX_GAP, MAX_LENGTH, MAX_PHASES, MAX_STEP};
 ghost use Rattle.flow_model.specs.Network.{Network};
 ghost use Rattle.throughput.specs.Conditions.{IsPartProofOf};
 
 use crate::check::check_part;
 use crate::part_proof::{PartDual, PartProof};
+use crate::solving::solve_parts;
 use cert_check::{Fault, Verdict};
 use flow_model::{Cell, Commodity, Net};
 use flow_paths::{Dual, PathStore, Printed, Routing};
+use route_tally::RunOptions;
 use std::alloc::{AllocError, Global};
 use std::test::Fail;
 
@@ -121,5 +123,33 @@ fn certificates_of_one_link(rt: HostRuntime) -> Result<(), Fail> {
     assert_eq!(rt; judged(alloc, 4, 0, 50000, false)?, Some(Fault::C8));
     assert_eq!(rt; judged(alloc, 5, RIGHT, 50000, false)?, Some(Fault::C2));
     assert_eq!(rt; judged(alloc, 3, RIGHT, 50000, false)?, Some(Fault::C9));
+    Ok(())
+}
+
+// The certificate of a run of at most so many phases.
+fn solved(alloc: Global, gap: u64, phases: u32, step: u32) -> Result<PartProof, AllocError>
+    requires gap { gap ≤ MAX_GAP }
+    requires phases { (1 ≤ phases) × (phases ≤ MAX_PHASES) }
+    requires step { (1 ≤ step) × (step ≤ MAX_STEP) }
+{
+    let net = network(alloc)?;
+    let options = RunOptions { gap, phases, step };
+    solve_parts(alloc, &net, &options)
+}
+
+#[test]
+fn runs_over_one_link(rt: HostRuntime) -> Result<(), Fail> {
+    let alloc = rt.alloc();
+    let open = solved(alloc, 50000, 1, 327680)?;
+    assert_eq!(rt; open.closed, false);
+    assert_eq!(rt; open.lower.num, 16);
+    assert_eq!(rt; open.upper, UPPER);
+    assert_eq!(rt; open.bound.dual.length(0).1, 225179981368524);
+    let closed = solved(alloc, 50000, 1000, 8192)?;
+    assert_eq!(rt; closed.closed, true);
+    assert_eq!(rt; closed.routing.phases, 48);
+    assert_eq!(rt; closed.routing.paths.weight(0), 192);
+    assert_eq!(rt; closed.upper.num, 19500027361689594);
+    assert_eq!(rt; closed.bound.threshold, 4652162512591257);
     Ok(())
 }

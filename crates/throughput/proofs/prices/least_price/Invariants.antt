@@ -1,6 +1,0 @@
-use Rattle.std.proofs.Common.{◌++◌}
-use Rattle.throughput.specs.Prices.{IsLeastBelow}
-use Rattle.throughput.proofs.prices.least_price.Given as goal
-
-abbrev pub invariant-loop-k : goal.invariant-loop-k
-invariant-loop-k l = IsLeastBelow l.net (l.lengths.cells.now ++ l.lengths.gates.now) l.k l.least
