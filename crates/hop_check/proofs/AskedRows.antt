@@ -1,6 +1,6 @@
 -- What tables tell of the rows of a certificate.
 use Rattle.std.proofs.Common.{◌≡◌, ℕ, ◌+◌, ◌*◌, ◌<◌, ◌≤◌, Bool, true, false, ◌&&◌, cond, eqb, eq-eqb, ltb, leb, List, [], ◌∷◌, length, get_or, Option, Some, None, inl, inr, sym, ap, subst, ◌∙◌, arith, refl}
-use Rattle.std.specs.Prelude.{All, count_by, find, IsTrue, ◌↔◌, slice_get}
+use Rattle.std.specs.Prelude.{All, MatchOption, count_by, find, IsTrue, ◌↔◌, slice_get}
 use Rattle.std.specs.Option.{option_map_or, is_none}
 use Rattle.std.specs.List.{list_any, enumerate_from}
 use Rattle.std.proofs.lemmas.Bool.{cases_lt, lt-ltb, ltb-true, le-ltb, le-leb, leb-true}
@@ -14,7 +14,7 @@ use Rattle.mcf_limits.specs.declared.TheConstants.{MAX_HOPS}
 use Rattle.flow_model.specs.declared.net.Commodity.{Commodity}
 use Rattle.flow_model.specs.Network.{Network, IsNetwork, IsCommodity}
 use Rattle.flow_model.proofs.Duality.{no_commodity}
-use Rattle.hop_paths.specs.Allowed.{limit_at, is_unlimited, has_layer}
+use Rattle.hop_paths.specs.Allowed.{limit_at, is_unlimited, has_layer, AreLimits}
 use Rattle.hop_paths.specs.Layers.{IsLayers}
 use Rattle.hop_check.specs.LayerRows.{Layer, no_layer, layer_at}
 use Rattle.hop_check.specs.Layers.{HopDual, layer_in}
@@ -163,6 +163,27 @@ placed net limits counts places layers are rows asked len value v i lv l =
     let row : IsLayerOf net (layer_at layers (get_or places (place_of v i) 0)) = rows (get_or places (place_of v i) 0) no_layer there.0 in
     record {
       inside = omega (arith, place_within net.nodes v i lv small);
+      row = there.0;
+      found = is;
+      long = ap length is ∙ row.values;
+    }
+
+-- where the row of a layer that is asked for stands
+pub placed_where : (net : Network) (limits : List (Option ℕ)) (places : List ℕ) (layers : List Layer) (v i : ℕ) → AreLimits net limits → All (IsLayerOf net) layers → LayersAreAsked net limits layers → length places ≡ net.nodes * (MAX_HOPS + 1)
+    → ((v i : ℕ) → v < net.nodes → i ≤ MAX_HOPS → count_by (λ r. eqb r.node v && eqb r.index i) layers ≡ 1
+    → (get_or places (place_of v i) 0 < length layers) × (find (λ r. eqb r.node v && eqb r.index i) layers ≡ Some (layer_at layers (get_or places (place_of v i) 0))))
+    → v < net.nodes → has_layer net limits v i ≡ true → IsPlaced net.nodes layers places v i
+placed_where net limits places layers v i are rows asked len value lv has =
+    let limit = layer_has_limit net limits v i has in
+    let inside = slice_get_within net.commodities limit.0 limit.2 limit.3 in
+    let most : limit.1 ≤ MAX_HOPS = subst (λ (o : Option ℕ). MatchOption o (Unit {0}) (λ n. n ≤ MAX_HOPS)) limit.5 (are.small limit.0 None (omega (arith, are.count))) in
+    let small : i ≤ MAX_HOPS = omega (arith, most, limit.6) in
+    let one : count_by (λ r. eqb r.node v && eqb r.index i) layers ≡ 1 = asked v i lv ∙ ap (λ (x : Bool). cond {A = ℕ} x 1 0) has in
+    let there = value v i lv small one in
+    let is : layer_in layers v i ≡ (layer_at layers (get_or places (place_of v i) 0)).values = ap (λ (o : Option Layer). option_map_or (λ r. r.values) o []) there.1 in
+    let row : IsLayerOf net (layer_at layers (get_or places (place_of v i) 0)) = rows (get_or places (place_of v i) 0) no_layer there.0 in
+    record {
+      inside = omega (arith, place_within net.nodes v i lv small, len);
       row = there.0;
       found = is;
       long = ap length is ∙ row.values;

@@ -34,7 +34,7 @@ bound-more cs k total d lt small h =
     let product = mul-le a d a MAX_LENGTH (omega arith) small in
     omega arith
 
-summed : (f : ℕ → Commodity → ℕ) (n : ℕ) (cs : List Commodity) → weighted_distance cs (map (λ (j : ℕ × Commodity). f j.0 j.1) (enumerate_from n cs)) ≡ sum_by (weighed f) (enumerate_from n cs)
+pub summed : (f : ℕ → Commodity → ℕ) (n : ℕ) (cs : List Commodity) → weighted_distance cs (map (λ (j : ℕ × Commodity). f j.0 j.1) (enumerate_from n cs)) ≡ sum_by (weighed f) (enumerate_from n cs)
 summed f n [] = refl
 summed f n (x ∷ cs) = ap (λ (m : ℕ). x.amount * f n x + m) (summed f (n + 1) cs) ∙ sym (sum_by-cons (weighed f) (n, x) (enumerate_from (n + 1) cs))
 

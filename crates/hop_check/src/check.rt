@@ -95,7 +95,7 @@ fn check_rows(
     if !rows_bound(net, h, lengths, &places, &counts) {
         return Ok(Verdict::Invalid(Fault::C7));
     }
-    let den = bottom(alloc, net, limits, h, &places)?;
+    let den = bottom(alloc, net, limits, &h.proof.dual, &h.layers, &places)?;
     Ok(figures(h, lower, volume(net.cells(), lengths), den))
 }
 

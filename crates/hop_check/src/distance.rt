@@ -4,12 +4,13 @@ ghost use Rattle.std.specs.Prelude.{◌≡◌, ℕ, ◌-◌, ◌^◌, ◌<◌, �
 ghost use Rattle.flow_model.specs.declared.net.Commodity.{Commodity as CommodityIs};
 ghost use Rattle.flow_model.specs.Bound.{weighted_distance};
 ghost use Rattle.hop_paths.specs.Allowed.{limit_at};
-ghost use Rattle.hop_check.specs.Layers.{dual_of, hop_distance, hop_distances};
+ghost use Rattle.hop_check.specs.Layers.{hop_distance, hop_distances};
 ghost use Rattle.hop_check.specs.Tables.{HasPlaces};
 
-use crate::hop_proof::HopProof;
+use crate::layers::Layers;
 use crate::rise::layer;
 use flow_model::{Commodity, Net};
+use flow_paths::Dual;
 use mcf_limits::{MAX_LENGTH, MAX_TOTAL};
 
 // What the commodity's to has above what its from has, or 0 where that is negative.
@@ -28,22 +29,23 @@ fn distance(
     net: &Net,
     k: Commodity,
     limit: Option<u8>,
-    h: &HopProof,
+    dual: &Dual,
+    layers: &Layers,
     rows: &[usize],
     places: &[usize],
 ) -> u64
     requires ends { (k.from < net.now.nodes) × (k.to < net.now.nodes) }
-    requires placed { HasPlaces net.now.nodes (dual_of h.now) rows.now places.now limit k }
-    ensures value { result ≡ hop_distance (dual_of h.now) limit k }
+    requires placed { HasPlaces net.now.nodes (record { dual = dual.now; layers = layers.now }) rows.now places.now limit k }
+    ensures value { result ≡ hop_distance (record { dual = dual.now; layers = layers.now }) limit k }
     ensures limit { result ≤ MAX_LENGTH }
 {
     match limit {
         Some(most) => {
-            let above = layer(net, &h.layers, places, k.from, most);
-            difference(k, above, layer(net, &h.layers, places, k.from, 0))
+            let above = layer(net, layers, places, k.from, most);
+            difference(k, above, layer(net, layers, places, k.from, 0))
         }
         None => {
-            let row = h.proof.dual.row(rows[k.from as usize]);
+            let row = dual.row(rows[k.from as usize]);
             difference(k, row, row)
         }
     }
@@ -54,20 +56,21 @@ fn distance(
 pub fn weighted(
     net: &Net,
     limits: &[Option<u8>],
-    h: &HopProof,
+    dual: &Dual,
+    layers: &Layers,
     rows: &[usize],
     places: &[usize],
 ) -> u128
     requires count { length limits.now ≡ length net.now.commodities }
     requires placed { (k : ℕ) (commodity : CommodityIs) → slice_get net.now.commodities k ≡ Some commodity
-        → HasPlaces net.now.nodes (dual_of h.now) rows.now places.now (limit_at limits.now k) commodity }
+        → HasPlaces net.now.nodes (record { dual = dual.now; layers = layers.now }) rows.now places.now (limit_at limits.now k) commodity }
     ensures value { result ≡ weighted_distance net.now.commodities
-        (hop_distances net.now limits.now (dual_of h.now)) }
+        (hop_distances net.now limits.now (record { dual = dual.now; layers = layers.now })) }
     ensures limit { result ≤ 2 ^ 108 }
 {
     let mut total = 0u128;
     for (k, commodity) in net.commodities().iter().enumerate() {
-        let distance = distance(net, *commodity, limits[k], h, rows, places);
+        let distance = distance(net, *commodity, limits[k], dual, layers, rows, places);
         total += u128::from(commodity.amount) * u128::from(distance);
     }
     total

@@ -15,9 +15,11 @@ mod rounded;
 mod rows;
 mod within;
 
+pub use asked::{layer_counts, unlimited_counts};
 pub use check::check_hops;
 pub use hop_proof::HopProof;
 pub use laws::valid_hops_certify;
 pub use layers::Layers;
 pub use limits::hop_limits;
+pub use rows::hop_weighted_distance;
 pub use within::are_within;

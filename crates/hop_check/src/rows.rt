@@ -4,7 +4,7 @@ ghost use Rattle.std.specs.Prelude.{◌≡◌, ℕ, ◌^◌, ◌<◌, ◌≤◌,
 ghost use Rattle.flow_model.specs.Bound.{weighted_distance};
 ghost use Rattle.flow_paths.specs.Certificate.{IsPotentialOf, lengths_in};
 ghost use Rattle.hop_paths.specs.Allowed.{AreLimits, has_layer};
-ghost use Rattle.hop_check.specs.Layers.{dual_of, hop_distances};
+ghost use Rattle.hop_check.specs.Layers.{hop_distances};
 ghost use Rattle.hop_check.specs.Conditions.{IsLayerOf, IsHopProofOf, RowsAreAsked, RowsBound};
 ghost use Rattle.hop_check.specs.Tables.{AreCounts, IsPlaced, ArePlaces, PotentialsAreAsked, LayersAreAsked, LayersBound};
 
@@ -12,7 +12,7 @@ use crate::asked::unlimited_counts;
 use crate::distance::weighted;
 use crate::hop_proof::HopProof;
 use crate::layers::Layers;
-use crate::places::{are_asked, layer_rows};
+use crate::places::{are_asked, layer_places, layer_rows};
 use crate::rise::are_next;
 use cert_check::{are_wanted, row_counts, rows_are_potentials};
 use flow_model::Net;
@@ -112,18 +112,41 @@ pub fn bottom(
     alloc: Global,
     net: &Net,
     limits: &[Option<u8>],
-    h: &HopProof,
+    dual: &Dual,
+    layers: &Layers,
     places: &[usize],
 ) -> Result<u128, AllocError>
     requires limits { AreLimits net.now limits.now }
-    requires proof { IsHopProofOf net.now h.now }
-    requires asked { RowsAreAsked net.now limits.now h.now }
+    requires rows { All (IsPotentialOf net.now) dual.now.potentials }
+    requires asked { PotentialsAreAsked net.now limits.now dual.now.potentials }
     requires placed { (v i : ℕ) → v < net.now.nodes → IsTrue (has_layer net.now limits.now v i)
-        → IsPlaced net.now.nodes h.now.layers places.now v i }
+        → IsPlaced net.now.nodes layers.now places.now v i }
     ensures value { IfOk result (λ n. n ≡ weighted_distance net.now.commodities
-        (hop_distances net.now limits.now (dual_of h.now))) }
+        (hop_distances net.now limits.now (record { dual = dual.now; layers = layers.now }))) }
     ensures limit { IfOk result (λ n. n ≤ 2 ^ 108) }
 {
-    let rows = row_places(alloc, net.nodes() as usize, &h.proof.dual)?;
-    Ok(weighted(net, limits, h, &rows, places))
+    let rows = row_places(alloc, net.nodes() as usize, dual)?;
+    Ok(weighted(net, limits, dual, layers, &rows, places))
+}
+
+/// Amount times distance within the limits, over all commodities, in units: at most 2^108. Potentials have a row for each
+/// source of a commodity without a limit, and the layers of a source go up to the greatest limit of its commodities.
+pub fn hop_weighted_distance(
+    alloc: Global,
+    net: &Net,
+    limits: &[Option<u8>],
+    dual: &Dual,
+    layers: &Layers,
+) -> Result<u128, AllocError>
+    requires limits { AreLimits net.now limits.now }
+    requires rows { All (IsPotentialOf net.now) dual.now.potentials }
+    requires layers { All (IsLayerOf net.now) layers.now }
+    requires asked { PotentialsAreAsked net.now limits.now dual.now.potentials }
+    requires asked_layers { LayersAreAsked net.now limits.now layers.now }
+    ensures value { IfOk result (λ n. n ≡ weighted_distance net.now.commodities
+        (hop_distances net.now limits.now (record { dual = dual.now; layers = layers.now }))) }
+    ensures limit { IfOk result (λ n. n ≤ 2 ^ 108) }
+{
+    let places = layer_places(alloc, net.nodes(), layers)?;
+    bottom(alloc, net, limits, dual, layers, &places)
 }

@@ -2,7 +2,7 @@ use Rattle.std.proofs.Common.{◌≡◌, ◌+◌, ◌*◌, ◌<◌, ℕ, length,
 use Rattle.flow_model.specs.declared.net.Commodity.{Commodity}
 use Rattle.flow_model.proofs.Duality.{no_commodity}
 use Rattle.hop_paths.specs.Allowed.{limit_at}
-use Rattle.hop_check.specs.Layers.{dual_of, hop_distance}
+use Rattle.hop_check.specs.Layers.{hop_distance}
 use Rattle.hop_check.proofs.Weighing.{weighed-more, bound-more, weighed-all}
 use Rattle.hop_check.proofs.distance.weighted.Goals as goal
 
@@ -11,7 +11,7 @@ loop-k-preserved c =
     let cs = c.args.net.now.commodities in
     let k = c.loop-k.k in
     let d = c.distance-distance.result in
-    let f : ℕ → Commodity → ℕ = λ j x. hop_distance (dual_of c.args.h.now) (limit_at c.args.limits.now j) x in
+    let f : ℕ → Commodity → ℕ = λ j x. hop_distance (record { dual = c.args.dual.now; layers = c.args.layers.now }) (limit_at c.args.limits.now j) x in
     let same : c.commodities-commodity-items.result.now ≡ cs = c.commodities-commodity-items.ensures.value in
     let lt : k < length cs = omega (arith, ap length same) in
     let item = ap (λ (l : List Commodity). get_or l k no_commodity) same in
@@ -26,4 +26,4 @@ pub returns-clause-value : goal.returns-clause-value
 returns-clause-value c =
     let cs = c.args.net.now.commodities in
     let same : length c.commodities-commodity-items.result.now ≡ length cs = ap length c.commodities-commodity-items.ensures.value in
-    weighed-all cs (λ j x. hop_distance (dual_of c.args.h.now) (limit_at c.args.limits.now j) x) c.loop-k.k c.loop-k.total (omega arith) c.loop-k.invariant.value
+    weighed-all cs (λ j x. hop_distance (record { dual = c.args.dual.now; layers = c.args.layers.now }) (limit_at c.args.limits.now j) x) c.loop-k.k c.loop-k.total (omega arith) c.loop-k.invariant.value

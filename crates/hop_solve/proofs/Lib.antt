@@ -1,0 +1,15 @@
+pub mod Once
+pub mod Finding
+pub mod Turning
+pub mod Counted
+pub mod Shows
+pub mod Rounds
+pub mod Filled
+pub mod Valid
+pub mod Reaching
+pub mod Phases
+pub mod Ending
+pub mod Along
+pub mod Appending
+pub mod Turned
+pub mod Weighs

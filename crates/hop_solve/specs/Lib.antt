@@ -1,0 +1,5 @@
+pub mod Run
+pub mod Laws
+pub mod Turns
+pub mod Numbers
+pub mod Reached
