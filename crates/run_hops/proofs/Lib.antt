@@ -1,1 +1,5 @@
 mod Judgements
+mod Made
+mod Figures
+mod Written
+mod Checked

@@ -1,6 +1,6 @@
 //! From two texts to what is said of a certificate with hop limits.
 
-ghost use Rattle.std.specs.Prelude.{◌≡◌, ◌≤◌, IfOk, length};
+ghost use Rattle.std.specs.Prelude.{◌≤◌, IfOk, length};
 ghost use Rattle.mcf_limits.specs.declared.TheConstants.{MAX_CERT_BYTES};
 ghost use Rattle.text_lines.specs.Lines.{lines_of};
 ghost use Rattle.sndlib_grammar.specs.Rows.{AreNetRows};

@@ -1,2 +1,7 @@
 mod Judgements
 mod Verdicts
+mod Made
+mod Figures
+mod Amounts
+mod Written
+mod Checked
