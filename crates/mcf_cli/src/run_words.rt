@@ -10,8 +10,8 @@ use mcf_words::{Command, Request, WordsEnd, read_words};
 use run_base::{Ended, Outcome, tell};
 use run_batches::{BatchFiles, batch};
 use run_certs::{check, tighten, upgrade, whatif_files};
-use run_hops::{checkhops, hops_file};
-use run_parts::{checkthroughput, throughput_file};
+use run_hops::{checkhops, hops};
+use run_parts::{checkthroughput, throughput_of};
 use run_solves::{gen_net, print, solve_file, trial};
 use run_sweeps::{sweep, sweepsolve};
 use std::alloc::Global;
@@ -74,8 +74,8 @@ fn run_command<F: Shelf, K: Sink, G: Gate, R: Threads + Sync>(
         Command::SweepSolve => {
             sweepsolve(rt, alloc, shelf, out, request.names.name(0), request, gate)
         }
-        Command::Hops => hops_file(alloc, shelf, out, request.names.name(0), request),
-        Command::Throughput => throughput_file(alloc, shelf, out, request.names.name(0), request),
+        Command::Hops => hops(alloc, shelf, out, request.names.name(0), request),
+        Command::Throughput => throughput_of(alloc, shelf, out, request.names.name(0), request),
         Command::CheckHops => checkhops(
             alloc,
             shelf,

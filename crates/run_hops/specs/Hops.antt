@@ -16,7 +16,7 @@ use Rattle.hop_check.specs.Limits.{limits_of, hop_refusal}
 use Rattle.hop_solve.specs.Run.{IsHopRun}
 use Rattle.run_texts.specs.HopsText.{hops_text, FitsHops}
 use Rattle.mcf_words.specs.declared.request.Request.{Request}
-use Rattle.run_base.specs.Found.{nothing}
+use Rattle.run_base.specs.Found.{found_hops}
 use Rattle.run_base.specs.declared.outcome.Outcome.TheVariants.{NetRefused, TooMuch as TooMuchWork}
 use Rattle.run_base.specs.Answer.{Answer, answer_of}
 use Rattle.run_base.specs.Files.{Ends, OfNet}
@@ -70,7 +70,7 @@ HopsCanBeWritten = (rows : NetRows) (net : ScaledNet) (limits : List (Option ℕ
 
 -- the certificate, with status 0 where it is closed and 1 where it is open
 abbrev pub hops_answer : NetRows → ScaledNet → HopProof → Answer
-hops_answer rows net h = record { status = if h.proof.closed then 0 else 1; text = hops_text (sheet_of rows net) h; found = nothing }
+hops_answer rows net h = record { status = if h.proof.closed then 0 else 1; text = hops_text (sheet_of rows net) h; found = found_hops h }
 
 -- the first refusal of the rows, the work where it is too much, or the certificate
 abbrev pub solving_answer : NetRows → HopSolving → Answer

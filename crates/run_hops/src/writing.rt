@@ -17,31 +17,34 @@ use hop_check::HopProof;
 use mcf_base::{Shelf, Sink};
 use mcf_limits::MAX_NET_BYTES;
 use mcf_words::Request;
-use run_base::{Ended, Outcome, Paper, file_text, net_rows, tell, verdict_status};
+use run_base::{Ended, Found, Outcome, Paper, file_text, net_rows, tell, verdict_status};
 use run_texts::write_hops;
 use sndlib_read::RawNet;
 use std::alloc::Global;
 use unit_scale::Scaled;
 
 // Writes the certificate, which fits its text.
-fn write_fitting<K: Sink>(rows: &RawNet<'_>, net: &Scaled, h: &HopProof, out: &mut K) -> Ended
+fn write_fitting<K: Sink>(rows: &RawNet<'_>, net: &Scaled, h: HopProof, out: &mut K) -> Ended
     requires of { IsOf rows.now net.now }
-    requires fits { FitsHops (sheet_of rows.now net.now) h.now }
-    ensures { Writes (K.seen out.old) (K.seen out.new) result (hops_answer rows.now net.now h.now) }
+    requires fits { FitsHops (sheet_of rows.now net.now) h }
+    ensures { Writes (K.seen out.old) (K.seen out.new) result (hops_answer rows.now net.now h) }
 {
     let status = verdict_status(h.proof.closed);
-    match write_hops(&Names::new(rows, net, Form::Second), h, out) {
-        Ok(()) => Ended::told(status),
+    match write_hops(&Names::new(rows, net, Form::Second), &h, out) {
+        Ok(()) => Ended {
+            status,
+            found: Found::hop_proof(h),
+        },
         Err(_) => Ended::told(5),
     }
 }
 
 // Writes the certificate of a run on the network of the rows.
-fn write_solved<K: Sink>(rows: &RawNet<'_>, net: &Scaled, h: &HopProof, out: &mut K) -> Ended
+fn write_solved<K: Sink>(rows: &RawNet<'_>, net: &Scaled, h: HopProof, out: &mut K) -> Ended
     requires of { IsOf rows.now net.now }
     requires solved { (limits : List (Option ℕ)) × (o : RunOptions)
-        × IsHopSolved net.now.net limits o h.now }
-    ensures { Writes (K.seen out.old) (K.seen out.new) result (hops_answer rows.now net.now h.now) }
+        × IsHopSolved net.now.net limits o h }
+    ensures { Writes (K.seen out.old) (K.seen out.new) result (hops_answer rows.now net.now h) }
 {
     hops_can_be_written();
     let _nodes = net.net().nodes();
@@ -61,7 +64,7 @@ fn solve_and_tell<K: Sink>(
         (K.seen out.old) (K.seen out.new) result }
 {
     match solve_hop_rows(alloc, rows, request.net, &asked_by(request)) {
-        Ok(HopSolving::Done(net, h)) => write_solved(rows, &net, &h, out),
+        Ok(HopSolving::Done(net, h)) => write_solved(rows, &net, h, out),
         Ok(HopSolving::Refused(refusal)) => tell(out, Outcome::NetRefused(refusal)),
         Ok(HopSolving::TooMuch(work)) => tell(out, Outcome::TooMuch(work)),
         Err(_) => tell(out, Outcome::Memory),

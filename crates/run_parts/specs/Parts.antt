@@ -15,7 +15,7 @@ use Rattle.throughput.specs.Conditions.{IsValidPart, IsPartProofOf, IsPartCertif
 use Rattle.throughput.specs.Run.{IsThroughputRun}
 use Rattle.run_texts.specs.PartText.{part_text, FitsPart}
 use Rattle.mcf_words.specs.declared.request.Request.{Request}
-use Rattle.run_base.specs.Found.{nothing}
+use Rattle.run_base.specs.Found.{found_part}
 use Rattle.run_base.specs.declared.outcome.Outcome.TheVariants.{NetRefused, TooMuch as TooMuchWork}
 use Rattle.run_base.specs.Answer.{Answer, answer_of}
 use Rattle.run_base.specs.Files.{Ends, OfNet}
@@ -64,7 +64,7 @@ PartsCanBeWritten = (rows : NetRows) (net : ScaledNet) (o : RunOptions) (p : Par
 
 -- the certificate, with status 0 where it is closed and 1 where it is open
 abbrev pub part_answer : NetRows → ScaledNet → PartProof → Answer
-part_answer rows net p = record { status = if p.closed then 0 else 1; text = part_text (sheet_of rows net) p; found = nothing }
+part_answer rows net p = record { status = if p.closed then 0 else 1; text = part_text (sheet_of rows net) p; found = found_part p }
 
 -- the first refusal of the rows, the work where it is too much, or the certificate
 abbrev pub solving_answer : NetRows → PartSolving → Answer

@@ -15,7 +15,7 @@ use cert_lines::{Form, Names};
 use mcf_base::{Shelf, Sink};
 use mcf_limits::MAX_NET_BYTES;
 use mcf_words::Request;
-use run_base::{Ended, Outcome, Paper, file_text, net_rows, tell, verdict_status};
+use run_base::{Ended, Found, Outcome, Paper, file_text, net_rows, tell, verdict_status};
 use run_texts::write_part;
 use sndlib_read::RawNet;
 use std::alloc::Global;
@@ -23,23 +23,26 @@ use throughput::PartProof;
 use unit_scale::Scaled;
 
 // Writes the certificate, which fits its text.
-fn write_fitting<K: Sink>(rows: &RawNet<'_>, net: &Scaled, p: &PartProof, out: &mut K) -> Ended
+fn write_fitting<K: Sink>(rows: &RawNet<'_>, net: &Scaled, p: PartProof, out: &mut K) -> Ended
     requires of { IsOf rows.now net.now }
-    requires fits { FitsPart (sheet_of rows.now net.now) p.now }
-    ensures { Writes (K.seen out.old) (K.seen out.new) result (part_answer rows.now net.now p.now) }
+    requires fits { FitsPart (sheet_of rows.now net.now) p }
+    ensures { Writes (K.seen out.old) (K.seen out.new) result (part_answer rows.now net.now p) }
 {
     let status = verdict_status(p.closed);
-    match write_part(&Names::new(rows, net, Form::Second), p, out) {
-        Ok(()) => Ended::told(status),
+    match write_part(&Names::new(rows, net, Form::Second), &p, out) {
+        Ok(()) => Ended {
+            status,
+            found: Found::part_proof(p),
+        },
         Err(_) => Ended::told(5),
     }
 }
 
 // Writes the certificate of a run on the network of the rows.
-fn write_solved<K: Sink>(rows: &RawNet<'_>, net: &Scaled, p: &PartProof, out: &mut K) -> Ended
+fn write_solved<K: Sink>(rows: &RawNet<'_>, net: &Scaled, p: PartProof, out: &mut K) -> Ended
     requires of { IsOf rows.now net.now }
-    requires solved { (o : RunOptions) × IsPartSolved net.now.net o p.now }
-    ensures { Writes (K.seen out.old) (K.seen out.new) result (part_answer rows.now net.now p.now) }
+    requires solved { (o : RunOptions) × IsPartSolved net.now.net o p }
+    ensures { Writes (K.seen out.old) (K.seen out.new) result (part_answer rows.now net.now p) }
 {
     parts_can_be_written();
     let _nodes = net.net().nodes();
@@ -59,7 +62,7 @@ fn solve_and_tell<K: Sink>(
         (K.seen out.old) (K.seen out.new) result }
 {
     match solve_part_rows(alloc, rows, request.net, &asked_by(request)) {
-        Ok(PartSolving::Done(net, p)) => write_solved(rows, &net, &p, out),
+        Ok(PartSolving::Done(net, p)) => write_solved(rows, &net, p, out),
         Ok(PartSolving::Refused(refusal)) => tell(out, Outcome::NetRefused(refusal)),
         Ok(PartSolving::TooMuch(work)) => tell(out, Outcome::TooMuch(work)),
         Err(_) => tell(out, Outcome::Memory),

@@ -5,10 +5,10 @@ use Rattle.run_parts.proofs.writing.write_fitting.Goals as goal
 
 pub returns-in-Ok : goal.returns-in-Ok
 returns-in-Ok g c =
-    let wrote = text_wrote _ _ c.write_part.result _ (sheet_of c.args.rows.now c.args.net.now) c.args.p.now c.new.ensures c.write_part.ensures in
+    let wrote = text_wrote _ _ c.write_part.result _ (sheet_of c.args.rows.now c.args.net.now) c.args.p c.new.ensures c.write_part.ensures in
     inl (record { ends = search rules; text = search rules; faults = search rules })
 
 pub returns-in-Err : goal.returns-in-Err
 returns-in-Err g c =
-    let wrote = text_wrote _ _ c.write_part.result _ (sheet_of c.args.rows.now c.args.net.now) c.args.p.now c.new.ensures c.write_part.ensures in
+    let wrote = text_wrote _ _ c.write_part.result _ (sheet_of c.args.rows.now c.args.net.now) c.args.p c.new.ensures c.write_part.ensures in
     inr (record { ends = search rules; text = search rules; failed = search rules; later = search rules })
