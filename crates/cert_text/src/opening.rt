@@ -2,6 +2,7 @@
 
 ghost use Rattle.std.specs.Prelude.{◌≡◌, ◌≤◌, ◌+◌, ◌^◌, ◌<◌, IfOk, length};
 ghost use Rattle.text_lines.specs.Lines.{words_of, lines_of};
+ghost use Rattle.cert_lines.specs.HeadLines.{verdict_line};
 ghost use Rattle.cert_lines.specs.Forms.{seen};
 ghost use Rattle.cert_text.specs.Views.{place_view, opened_view, HasRoom};
 ghost use Rattle.cert_text.specs.Reading.{next_line};

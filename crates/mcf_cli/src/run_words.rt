@@ -49,6 +49,7 @@ fn run_command<F: Shelf, K: Sink, G: Gate, R: Threads + Sync>(
             request.names.name(1),
         ),
         Command::Tighten => tighten(
+            rt,
             alloc,
             shelf,
             out,

@@ -22,7 +22,15 @@ use mcf_limits::{MAX_CERT_BYTES, MAX_NET_BYTES};
 use run_base::{Ended, Outcome, Paper, file_text, net_rows, tell, verdict_status};
 use sndlib_read::RawNet;
 use std::alloc::Global;
+use std::thread::Threads;
 use unit_scale::{LinkMode, Scaled};
+
+// The first certificate, which is valid, and its network in units.
+#[derive(Drop)]
+struct First {
+    net: Scaled,
+    proof: Proof,
+}
 
 // Each cell goes both ways.
 fn go_both_ways(links: LinkMode) -> bool
@@ -47,7 +55,8 @@ fn write_best<K: Sink>(rows: &RawNet<'_>, net: &Scaled, best: &Proof, out: &mut 
 }
 
 // Writes the best certificate that one or two valid ones give.
-fn write_tightened<K: Sink>(
+fn write_tightened<K: Sink, R: Threads + Sync>(
+    rt: &R,
     alloc: Global,
     rows: &RawNet<'_>,
     net: &Scaled,
@@ -61,33 +70,36 @@ fn write_tightened<K: Sink>(
         (K.seen out.old) (K.seen out.new) result }
 {
     let both = go_both_ways(net.options().links);
-    match tightened(alloc, net.net(), both, first, second) {
+    match tightened(rt, alloc, net.net(), both, first, second) {
         Ok(best) => write_best(rows, net, &best, out),
         Err(_) => tell(out, Outcome::Memory),
     }
 }
 
 // Tightens the valid certificate together with that in the file of this name.
-fn tighten_both<F: Shelf, K: Sink>(
+fn tighten_both<F: Shelf, K: Sink, R: Threads + Sync>(
+    rt: &R,
     alloc: Global,
     shelf: &mut F,
     out: &mut K,
     rows: &RawNet<'_>,
-    net: &Scaled,
-    first: Proof,
+    first: First,
     second: &str,
 ) -> Ended
-    requires { IsCertificate rows.now net.now first }
+    requires { IsCertificate rows.now first.net first.proof }
     ensures { IsTold (OfFile MAX_CERT_BYTES PaperIs.Second second.now
-        (λ text. Ends (OnSecond rows.now net.now first text)) (F.seen shelf.old) (F.seen shelf.new))
+        (λ text. Ends (OnSecond rows.now first.net first.proof text)) (F.seen shelf.old) (F.seen shelf.new))
         (K.seen out.old) (K.seen out.new) result }
 {
+    let First { net, proof: first } = first;
     let text = match file_text(alloc, shelf, second, MAX_CERT_BYTES, Paper::Second) {
         Ok(text) => text,
         Err(outcome) => return tell(out, outcome),
     };
-    match read_second(alloc, rows, net, &text) {
-        Ok(Second::Valid(proof)) => write_tightened(alloc, rows, net, first, Some(proof), out),
+    match read_second(alloc, rows, &net, &text) {
+        Ok(Second::Valid(proof)) => {
+            write_tightened(rt, alloc, rows, &net, first, Some(proof), out)
+        }
         Ok(Second::Refused(refusal)) => tell(out, Outcome::SecondRefused(refusal)),
         Ok(Second::Invalid(fault)) => tell(out, Outcome::SecondInvalid(fault)),
         Err(_) => tell(out, Outcome::Memory),
@@ -95,27 +107,31 @@ fn tighten_both<F: Shelf, K: Sink>(
 }
 
 // Tightens the valid certificate, alone or together with a second one.
-fn tighten_first<F: Shelf, K: Sink>(
+fn tighten_first<F: Shelf, K: Sink, R: Threads + Sync>(
+    rt: &R,
     alloc: Global,
     shelf: &mut F,
     out: &mut K,
     rows: &RawNet<'_>,
-    net: &Scaled,
-    first: Proof,
+    first: First,
     second: Option<&str>,
 ) -> Ended
-    requires { IsCertificate rows.now net.now first }
-    ensures { IsTold (OnFirst rows.now (option_map (λ w. w.now) second.entry) net.now first
+    requires { IsCertificate rows.now first.net first.proof }
+    ensures { IsTold (OnFirst rows.now (option_map (λ w. w.now) second.entry) first.net first.proof
         (F.seen shelf.old) (F.seen shelf.new)) (K.seen out.old) (K.seen out.new) result }
 {
     match second {
-        Some(name) => tighten_both(alloc, shelf, out, rows, net, first, name),
-        None => write_tightened(alloc, rows, net, first, None, out),
+        Some(name) => tighten_both(rt, alloc, shelf, out, rows, first, name),
+        None => {
+            let First { net, proof } = first;
+            write_tightened(rt, alloc, rows, &net, proof, None, out)
+        }
     }
 }
 
 // Tightens the certificate of that name, where it is valid, and tells what else is said of it.
-fn tighten_on<F: Shelf, K: Sink>(
+fn tighten_on<F: Shelf, K: Sink, R: Threads + Sync>(
+    rt: &R,
     alloc: Global,
     shelf: &mut F,
     out: &mut K,
@@ -133,7 +149,7 @@ fn tighten_on<F: Shelf, K: Sink>(
     };
     match read_certificate(alloc, rows, &text) {
         Ok(Certified::Valid(net, proof)) => {
-            tighten_first(alloc, shelf, out, rows, &net, proof, second)
+            tighten_first(rt, alloc, shelf, out, rows, First { net, proof }, second)
         }
         Ok(Certified::Said(judged)) => tell(out, Outcome::Judged(judged)),
         Err(_) => tell(out, Outcome::Memory),
@@ -141,8 +157,9 @@ fn tighten_on<F: Shelf, K: Sink>(
 }
 
 /// Writes the best certificate that those in the second and, where there is one, the third file give, where they are
-/// valid on the network in the first; else what is said of the first of them that is not.
-pub fn tighten<F: Shelf, K: Sink>(
+/// valid on the network in the first; else what is said of the first of them that is not. It may wait for its own threads.
+pub fn tighten<F: Shelf, K: Sink, R: Threads + Sync>(
+    rt: &R,
     alloc: Global,
     shelf: &mut F,
     out: &mut K,
@@ -158,7 +175,7 @@ pub fn tighten<F: Shelf, K: Sink>(
         Err(outcome) => return tell(out, outcome),
     };
     match net_rows(alloc, &text) {
-        Ok(rows) => tighten_on(alloc, shelf, out, &rows, cert, second),
+        Ok(rows) => tighten_on(rt, alloc, shelf, out, &rows, cert, second),
         Err(outcome) => tell(out, outcome),
     }
 }

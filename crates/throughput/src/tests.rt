@@ -144,11 +144,12 @@ fn runs_over_one_link(rt: HostRuntime) -> Result<(), Fail> {
     assert_eq!(rt; open.closed, false);
     assert_eq!(rt; open.lower.num, 16);
     assert_eq!(rt; open.upper, UPPER);
-    assert_eq!(rt; open.bound.dual.length(0).1, 225179981368524);
+    assert_eq!(rt; open.bound.threshold, RIGHT);
     let closed = solved(alloc, 50000, 1000, 8192)?;
     assert_eq!(rt; closed.closed, true);
     assert_eq!(rt; closed.routing.phases, 48);
-    assert_eq!(rt; closed.routing.paths.weight(0), 192);
+    assert_eq!(rt; closed.lower.num, 768);
+    assert_eq!(rt; closed.lower.den, 192);
     assert_eq!(rt; closed.upper.num, 19500027361689594);
     assert_eq!(rt; closed.bound.threshold, 4652162512591257);
     Ok(())

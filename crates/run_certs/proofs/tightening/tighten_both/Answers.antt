@@ -16,22 +16,22 @@ returns-in-Err g c = (answer_of c.in-Err.outcome, inl c.in-Err.ensures, c.tell.e
 
 pub returns-in-Ok-Refused : goal.returns-in-Ok-Refused
 returns-in-Ok-Refused g c =
-    let is : IsSecondText c.args.rows.now c.args.net.now.options c.in-Ok.text.items (with_net c.args.net.now (Refused c.in-Ok-Refused.refusal)) = search rules in
-    let came = file_came MAX_CERT_BYTES Second c.args.second.now (λ text. Ends (OnSecond c.args.rows.now c.args.net.now c.args.first text)) _ _ _ _ _ c.in-Ok.ensures.0 c.in-Ok.ensures.1
+    let is : IsSecondText c.args.rows.now c.args.first.net.options c.in-Ok.text.items (with_net c.args.first.net (Refused c.in-Ok-Refused.refusal)) = search rules in
+    let came = file_came MAX_CERT_BYTES Second c.args.second.now (λ text. Ends (OnSecond c.args.rows.now c.args.first.net c.args.first.proof text)) _ _ _ _ _ c.in-Ok.ensures.0 c.in-Ok.ensures.1
     (refl, inr (Refused c.in-Ok-Refused.refusal, is, refl)) in
     (answer_of (SecondRefused c.in-Ok-Refused.refusal), came, c.tell-in-Ok-Refused.ensures)
 
 pub returns-in-Ok-Invalid : goal.returns-in-Ok-Invalid
 returns-in-Ok-Invalid g c =
-    let is : IsSecondText c.args.rows.now c.args.net.now.options c.in-Ok.text.items (with_net c.args.net.now (Invalid c.in-Ok-Invalid.fault)) = search rules in
-    let came = file_came MAX_CERT_BYTES Second c.args.second.now (λ text. Ends (OnSecond c.args.rows.now c.args.net.now c.args.first text)) _ _ _ _ _ c.in-Ok.ensures.0 c.in-Ok.ensures.1
+    let is : IsSecondText c.args.rows.now c.args.first.net.options c.in-Ok.text.items (with_net c.args.first.net (Invalid c.in-Ok-Invalid.fault)) = search rules in
+    let came = file_came MAX_CERT_BYTES Second c.args.second.now (λ text. Ends (OnSecond c.args.rows.now c.args.first.net c.args.first.proof text)) _ _ _ _ _ c.in-Ok.ensures.0 c.in-Ok.ensures.1
     (refl, inr (Invalid c.in-Ok-Invalid.fault, is, refl)) in
     (answer_of (SecondInvalid c.in-Ok-Invalid.fault), came, c.tell-in-Ok-Invalid.ensures)
 
 pub returns-in-Ok-Valid : goal.returns-in-Ok-Valid
 returns-in-Ok-Valid g c =
-    let is : IsSecondText c.args.rows.now c.args.net.now.options c.in-Ok.text.items (with_net c.args.net.now (Valid c.in-Ok-Valid.proof)) = search rules in
+    let is : IsSecondText c.args.rows.now c.args.first.net.options c.in-Ok.text.items (with_net c.args.first.net (Valid c.in-Ok-Valid.proof)) = search rules in
     let told = c.write_tightened.ensures in
-    let came = file_came MAX_CERT_BYTES Second c.args.second.now (λ text. Ends (OnSecond c.args.rows.now c.args.net.now c.args.first text)) _ _ _ _ _ c.in-Ok.ensures.0 c.in-Ok.ensures.1
-    (refl, both_came c.args.rows.now c.args.net.now c.args.first c.in-Ok-Valid.proof c.in-Ok.text.items told.0 is told.1) in
+    let came = file_came MAX_CERT_BYTES Second c.args.second.now (λ text. Ends (OnSecond c.args.rows.now c.args.first.net c.args.first.proof text)) _ _ _ _ _ c.in-Ok.ensures.0 c.in-Ok.ensures.1
+    (refl, both_came c.args.rows.now c.args.first.net c.args.first.proof c.in-Ok-Valid.proof c.in-Ok.text.items told.0 is told.1) in
     (told.0, came, told.2)

@@ -9,7 +9,7 @@ use Rattle.run_certs.proofs.BestCertificates.{best_fits, given_all, ways_of}
 use Rattle.run_certs.proofs.tightening.write_tightened.Goals as goal
 
 pub tightened-requires-clause-ways : goal.tightened-requires-clause-ways
-tightened-requires-clause-ways g c =
+tightened-requires-clause-ways g c κs within =
     let net = c.args.net.now in
     let both : c.go_both_ways-both.result ≡ go_both_ways c.args.net.now.options.links = c.go_both_ways-both.ensures ∙ ap (λ (o : NetOptions). go_both_ways o.links) c.options.ensures in
     subst (λ (n : Network). GoBothWays n c.go_both_ways-both.result) (sym c.net.ensures.value)
