@@ -85,13 +85,7 @@ pub fn length_of(powers: &Powers, under: &Under, cell: &Cell, load: u64) -> u64
 }
 
 /// Puts the length of each of these cells in its place.
-pub fn put_lengths(
-    powers: &Powers,
-    under: &Under,
-    cells: &[Cell],
-    loads: &[u64],
-    into: &mut [u64],
-)
+pub fn put_lengths(powers: &Powers, under: &Under, cells: &[Cell], loads: &[u64], into: &mut [u64])
     requires setting { IsSetting under.now.setting }
     requires caps { All (λ cell. cell.cap ≤ MAX_UNITS) cells.now }
     requires loads { length loads.now ≡ length cells.now }

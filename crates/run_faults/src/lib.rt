@@ -7,7 +7,7 @@ mod certificates;
 #[cfg(test)]
 mod faults;
 #[cfg(test)]
-mod gates;
+mod held_workers;
 #[cfg(test)]
 mod sweep_solves;
 #[cfg(test)]

@@ -354,9 +354,9 @@ hop_solving_low : (rows : NetRows) (request : Request) (solving : HopSolving) �
     → (hop_runs.solving_answer rows solving).status ≤ 1
 hop_solving_low rows request solving can is =
     let on : hop_runs.OnNet rows (Ok can.net) (hop_runs.asked_of request) solving =
-        subst (λ (r : Result ScaledNet NetRefusal). hop_runs.OnNet rows r (hop_runs.asked_of request) solving) can.scaled is in
+    subst (λ (r : Result ScaledNet NetRefusal). hop_runs.OnNet rows r (hop_runs.asked_of request) solving) can.scaled is in
     let run : hop_runs.OnLimits rows can.net (hop_runs.asked_of request) None solving =
-        subst (λ (o : Option NetRefusal). hop_runs.OnLimits rows can.net (hop_runs.asked_of request) o solving) can.near on in
+    subst (λ (o : Option NetRefusal). hop_runs.OnLimits rows can.net (hop_runs.asked_of request) o solving) can.near on in
     hop_run_low rows can.net (limits_of rows can.net) request solving can.work run
 
 hops_low : (files : Holding) (request : Request) (old new : ShelfView) (answer : Answer) → old.holds ≡ Some files → ¬ (Rose old.faults.count new.faults.count)
@@ -376,7 +376,7 @@ part_solving_low : (rows : NetRows) (request : Request) (solving : PartSolving) 
     → (part_runs.solving_answer rows solving).status ≤ 1
 part_solving_low rows request solving can is =
     let on : part_runs.OnNet (Ok can.net) (part_runs.asked_of request) solving =
-        subst (λ (r : Result ScaledNet NetRefusal). part_runs.OnNet r (part_runs.asked_of request) solving) can.scaled is in
+    subst (λ (r : Result ScaledNet NetRefusal). part_runs.OnNet r (part_runs.asked_of request) solving) can.scaled is in
     part_run_low rows can.net request solving can.work on
 
 throughput_low : (files : Holding) (request : Request) (old new : ShelfView) (answer : Answer) → old.holds ≡ Some files → ¬ (Rose old.faults.count new.faults.count)

@@ -35,7 +35,6 @@ judged_full judged low (Cert r) e = not_full (answer_of (outcomes.Judged judged)
 
 module _ {A : Type 0} (more : NetRows → ScaledNet → Option NetRefusal) (rest : NetRows → List Line → ScaledNet → Result A CertRefusal) (head : List Line → Result NetOptions CertRefusal)
     (Says : NetRows → ScaledNet → A → Judged → Type 0) where
-
   -- the answer is what is said of the text on the rows
   abbrev On : NetRows → List ℕ → Answer → Type 0
   On rows text answer =

@@ -4,8 +4,8 @@ ghost use Rattle.std.specs.Prelude.{◌≡◌, ℕ, ◌+◌, ◌*◌, ◌<◌, �
 ghost use Rattle.flow_model.specs.Walk.{times};
 ghost use Rattle.flow_model.specs.Lengths.{IsSetting, greatest_exponent};
 
-use gates::exponent;
 use flow_model::{Cell, Setting};
+use gates::exponent;
 use mcf_limits::{MAX_LENGTH, MAX_UNITS};
 
 /// Adds the amount to the load of each cell of the path, and gives the greatest exponent under the loads then, where

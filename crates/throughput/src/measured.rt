@@ -10,16 +10,15 @@ ghost use Rattle.throughput.specs.Run.{HasNoWalk, IsPartBoundOf};
 ghost use Rattle.throughput.specs.Loaded.{HasLoaded, IsPrepared, lengths_under};
 
 use crate::bound::upper_num;
-use gates::{Gated, gated_lengths};
 use crate::loaded::Loaded;
 use crate::part_proof::PartDual;
 use crate::prepared::Prepared;
-use gates::least_price;
 use cert_check::lengths;
 use dual_bound::{are_filled, assembled, fill_rows, source_rows};
 use flow_model::{Net, Setting};
 use flow_paths::{Dual, row_places};
 use gap_fraction::Frac;
+use gates::{Gated, gated_lengths, least_price};
 use mcf_limits::MAX_LENGTH;
 use std::alloc::{AllocError, Global};
 

@@ -7,12 +7,12 @@ ghost use Rattle.gates.specs.Gates.{IsLeastPrice};
 ghost use Rattle.throughput.specs.Loaded.{Follow, HasLoaded, IsPrepared, lengths_under};
 ghost use Rattle.throughput.specs.Reached.{HasPhase};
 
-use gates::{greatest_of, put_lengths};
 use crate::loaded::Loaded;
 use crate::prepared::Prepared;
 use crate::turns::{Tops, turn, under};
 use dijkstra_paths::Scratch;
 use flow_model::Setting;
+use gates::{greatest_of, put_lengths};
 use mcf_limits::MAX_LENGTH;
 use std::alloc::AllocError;
 

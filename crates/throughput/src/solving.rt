@@ -8,8 +8,6 @@ ghost use Rattle.throughput.specs.Run.{HasNoWalk, HasSomeWalk, IsThroughputRun};
 ghost use Rattle.throughput.specs.Loaded.{IsLoaded, IsPrepared, lengths_under};
 ghost use Rattle.throughput.specs.Reached.{IsMet, IsReached, IsRoom};
 
-use gates::gates;
-use gates::least_of;
 use crate::loaded::{Loaded, nothing_loaded, zeros};
 use crate::measured::{measured, value_of};
 use crate::part_proof::{PartDual, PartProof};
@@ -22,6 +20,7 @@ use fixed_exp::Powers;
 use flow_model::Net;
 use flow_paths::{PathStore, Routing, printed_down, printed_up};
 use gap_fraction::Frac;
+use gates::{gates, least_of};
 use mcf_limits::MAX_LENGTH;
 use route_tally::RunOptions;
 use std::alloc::{AllocError, Global};

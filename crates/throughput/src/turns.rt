@@ -7,11 +7,11 @@ ghost use Rattle.flow_model.specs.Least.{AreDifferent};
 ghost use Rattle.throughput.specs.Loaded.{Follow, HasLoaded, HasTurned, IsLoaded, IsPrepared, amount_of};
 
 use crate::adding::add_along;
-use gates::{Under, exponent, length_of, put_lengths};
 use crate::loaded::Loaded;
 use crate::prepared::Prepared;
 use dijkstra_paths::Scratch;
 use flow_model::{Cell, Setting};
+use gates::{Under, exponent, length_of, put_lengths};
 use mcf_limits::{MAX_LENGTH, MAX_UNITS};
 use std::alloc::AllocError;
 

@@ -10,11 +10,11 @@ use dijkstra_paths::{Graph, Scratch};
 use fixed_exp::{LengthTable, Powers};
 use flow_model::{Net, Setting};
 use mcf_limits::{MAX_CELLS, MAX_LENGTH, MAX_NODES};
+use solve_cases::{Words, loads, ring_network};
 use std::alloc::Global;
 use std::env;
 use std::rt::Clock;
 use std::time::Instant;
-use solve_cases::{Words, loads, ring_network};
 
 const SETTING: Setting = Setting {
     first: false,
