@@ -78,7 +78,7 @@ use Rattle.run_parts.specs.declared.solving.PartSolving.TheVariants as part_solv
 use Rattle.mcf_cli.specs.Run.{file_at, file_if, OfCommand}
 use Rattle.run_laws.specs.Accepted.{IsSolvable, IsSweepSolvable, IsListFile, IsPaperFile, IsScriptFile, IsSecondFile, AcceptsPrint, AcceptsSolve, AcceptsSweepSolve, AcceptsBatch, AcceptsCheck, AcceptsTighten, AcceptsUpgrade, AcceptsWhatIf, AcceptsTrial, IsHopSolvable, IsPartSolvable, AcceptsHops, AcceptsThroughput, AcceptsCheckHops, AcceptsCheckThroughput, Accepts}
 use Rattle.run_laws.proofs.Given.{Memories, of_text, of_rows}
-use Rattle.run_laws.proofs.Kinds.{kind_low}
+use Rattle.run_laws.proofs.KindRuns.{kind_low}
 
 -- reading answers one thing
 clash : {T E : Type 0} (r : Result T E) (x : T) (e : E) → r ≡ Ok x → r ≡ Err e → ⊥

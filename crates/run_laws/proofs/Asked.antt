@@ -82,7 +82,7 @@ use Rattle.run_laws.specs.Accepted.{IsSolvable, IsSweepSolvable, IsListFile, IsN
 use Rattle.run_laws.specs.Whole.{HasNoFault, EndsWhole}
 use Rattle.run_laws.proofs.Given.{not_full, text_of_file, rows_of_file, ends_full}
 use Rattle.run_laws.proofs.Answered.{Low, command_low}
-use Rattle.run_laws.proofs.Kinds.{judged_full, kind_accepts}
+use Rattle.run_laws.proofs.KindRuns.{judged_full, kind_accepts}
 
 -- ---- a run of accepted words and files
 

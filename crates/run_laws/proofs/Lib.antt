@@ -1,6 +1,6 @@
 pub mod Named
 pub mod Given
-pub mod Kinds
+pub mod KindRuns
 pub mod Answered
 pub mod Asked
 pub mod Starting
