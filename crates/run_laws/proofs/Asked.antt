@@ -448,14 +448,14 @@ check_hops_accepts : (files : Holding) (request : Request) (old new : ShelfView)
     → hops.OfCheckHops (file_at request 0) (file_at request 1) old new answer → AcceptsCheckHops files request
 check_hops_accepts files request old new answer tells full of =
     let k = kind_accepts hops.too_far hops.rest_of (λ (lines : List Line). run_head (codes "mcf-hops 1") lines) hops.SaysHops files (file_at request 0) (file_at request 1) old new answer tells full of in
-    (k.0, k.1, k.2.0, k.2.1, record { text = k.2.2.0; given = k.2.2.1; read = k.2.2.2 })
+    (k.0, k.1, k.2, k.3, record { text = k.4; given = k.5; read = k.6 })
 
 check_part_accepts : (files : Holding) (request : Request) (old new : ShelfView) (answer : Answer) → old.holds ≡ Some files → answer.status ≤ 1
     → parts.OfCheckThroughput (file_at request 0) (file_at request 1) old new answer → AcceptsCheckThroughput files request
 check_part_accepts files request old new answer tells full of =
     let k = kind_accepts (λ (rows : NetRows). nothing_more) parts.rest_of (λ (lines : List Line). run_head (codes "mcf-throughput 1") lines) (λ (rows : NetRows). parts.SaysPart)
     files (file_at request 0) (file_at request 1) old new answer tells full of in
-    (k.0, k.1, k.2.0, k.2.1, record { text = k.2.2.0; given = k.2.2.1; read = k.2.2.2 })
+    (k.0, k.1, k.2, k.3, record { text = k.4; given = k.5; read = k.6 })
 
 -- ---- all commands
 

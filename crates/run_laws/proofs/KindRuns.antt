@@ -80,4 +80,4 @@ module _ {A : Type 0} (more : NetRows → ScaledNet → Option NetRefusal) (rest
       let on : On r.0 t.0 answer = ends_full (On r.0 t.0) (with_file (with_file old first) cert) new answer full t.2 in
       let low = subst (λ (a : Answer). a.status ≤ 1) on.2 full in
       let p = accepted_by r.0 own (more r.0) (rest r.0 (lines_of t.0)) (head (lines_of t.0)) refused (Says r.0) on.0 (judged_full on.0 low) on.1 in
-      (r.0, r.1, p.0, p.1, t.0, t.1, p.2.0)
+      (r.0, r.1, p.0, p.1, t.0, t.1, p.2)
