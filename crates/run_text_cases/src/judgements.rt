@@ -129,19 +129,32 @@ const OF_TOTALS: &[Row] = &[
     ),
 ];
 
+// The words are answered so, on the network and the text.
+fn said<'a, R: Threads + Sync>(
+    rt: &R,
+    alloc: Global,
+    words: &[&str],
+    net: &'a [u8],
+    cert: &'a [u8],
+    row: &Row,
+) -> Result<(), Fail> {
+    let (shows, _, _, status, line) = *row;
+    let files: [File<'a>; 2] = [("net", net), ("cert", cert)];
+    expect(rt, alloc, shows, words, &files, status, line)
+}
+
 // Each row is answered so, on the network and the text with its edit.
 fn all_said<R: Threads + Sync>(
     rt: &R,
     alloc: Global,
     words: &[&str],
-    net: &'static [u8],
+    net: &[u8],
     cert: &[u8],
     rows: &[Row],
 ) -> Result<(), Fail> {
-    for (shows, part, by, status, line) in rows {
-        let text = edited(alloc, cert, *part, *by)?;
-        let files: [File<'_>; 2] = [("net", net), ("cert", &text)];
-        expect(rt, alloc, shows, words, &files, *status, line)?;
+    for row in rows {
+        let text = edited(alloc, cert, row.1, row.2)?;
+        said(rt, alloc, words, net, &text, row)?;
     }
     Ok(())
 }
