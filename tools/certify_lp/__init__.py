@@ -1,1 +1,1 @@
-"""Certificates from a linear program over paths, solved by CLP."""
+"""Certificates of all three kinds from a linear program over paths, solved by CLP."""

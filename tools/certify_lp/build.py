@@ -1,4 +1,4 @@
-"""A certificate from whole weights and whole lengths."""
+"""A certificate from whole weights and whole lengths: what all kinds have in common, and the rows of each."""
 
 from __future__ import annotations
 
@@ -7,12 +7,14 @@ from fractions import Fraction
 
 import numpy as np
 
-from mcf_texts import Certificate, Length, Path, Potential, ScaledNetwork, rounded_down, rounded_up
+from mcf_texts import (Certificate, HopCertificate, Layer, Length, Path, Potential, ScaledNetwork, TotalCertificate, rounded_down,
+                       rounded_up)
 
-from .path_lp import Pool
+from .pool import Pool
 from .prices import Bound
 from .problem import Arcs, Pairs, Walk
 from .rounding import Whole
+from .search import Layers
 
 FAR = 2**62
 """The length of a cell without capacity, and the potential of a node that is not reached."""
@@ -22,21 +24,54 @@ MOST_GAP = 1000 * 10**6
 
 def certificate_of(scaled: ScaledNetwork, like: Certificate, pairs: Pairs, arcs: Arcs, pool: Pool, whole: Whole,
                    bound: Bound) -> Certificate:
-    """The certificate, of the form and with the counts of another one for the same network; its gap is the true one."""
-    form, counts = like.form, like.counts
-    paths = path_rows(scaled, form, pairs, pool, whole)
-    words = scaled.words(form)
+    """The certificate, of the kind, form and counts of another one for the same network; its gap is the true one."""
+    words = scaled.words(like.form)
+    lower, upper = (whole.carried * whole.capacity, whole.load), (bound.above, bound.below)
     lengths = [Length(words[number], int(bound.lengths[number]) if cell.capacity else FAR) for number, cell in enumerate(scaled.cells)]
-    sources = sorted({commodity.source for commodity in scaled.commodities})
-    distances, _ = arcs.distances(bound.lengths, np.array(sources))
-    nodes = scaled.network.nodes
-    potentials = [Potential(nodes[source].id, tuple(int(far) if far < np.inf else FAR for far in row))
-                  for source, row in zip(sources, distances.tolist())]
-    certificate = Certificate(form, scaled.links, scaled.modules, whole.phases, whole.capacity, whole.load, paths, "open", counts, 0,
-                              (whole.phases * whole.capacity, whole.load), 0, (bound.volume, bound.distance), 0, lengths, potentials)
-    certificate.lower_millionths = rounded_down(*certificate.lower)
-    certificate.upper_millionths = rounded_up(*certificate.upper)
+    limited = isinstance(like, HopCertificate)
+    free = [commodity.source for commodity, limit in zip(scaled.commodities, scaled.limits) if not limited or limit is None]
+    certificate = replace(like, links=scaled.links, modules=scaled.modules, phases=whole.phases, scale_capacity=whole.capacity,
+                          scale_load=whole.load, lower=lower, lower_millionths=rounded_down(*lower), upper=upper,
+                          upper_millionths=rounded_up(*upper), paths=path_rows(scaled, like.form, pairs, pool, whole), lengths=lengths,
+                          potentials=potential_rows(scaled, arcs, bound.lengths, free))
+    if isinstance(certificate, HopCertificate):
+        certificate.layers = layer_rows(scaled, arcs, bound.lengths)
+    if isinstance(certificate, TotalCertificate):
+        certificate.threshold = bound.below
     return with_gap(certificate, None)
+
+
+def potential_rows(scaled: ScaledNetwork, arcs: Arcs, lengths: np.ndarray, sources: list[int]) -> list[Potential]:
+    """The distances of all nodes from sources, in the order of nodes."""
+    once = sorted(set(sources))
+    if not once:
+        return []
+    distances, _ = arcs.distances(lengths, np.array(once))
+    return [Potential(scaled.network.nodes[source].id, _whole(row)) for source, row in zip(once, distances)]
+
+
+def layer_rows(scaled: ScaledNetwork, arcs: Arcs, lengths: np.ndarray) -> list[Layer]:
+    """The layers of all sources of commodities with limits, each up to the greatest of these limits."""
+    most: dict[int, int] = {}
+    for commodity, limit in zip(scaled.commodities, scaled.limits):
+        if limit is not None:
+            most[commodity.source] = max(limit, most.get(commodity.source, 0))
+    if not most:
+        return []
+    sources = sorted(most)
+    layers = Layers(arcs, np.array(sources), max(most.values()))
+    layers.fill(lengths)
+    rows = []
+    for column, source in enumerate(sources):
+        # (further layers are the last one, once in memory)
+        values = [_whole(layers.at(index)[:, column]) for index in range(min(most[source], layers.last) + 1)]
+        rows += [Layer(scaled.network.nodes[source].id, index, values[min(index, layers.last)]) for index in range(most[source] + 1)]
+    return rows
+
+
+def _whole(distances: np.ndarray) -> tuple[int, ...]:
+    """Distances as whole numbers, those that are infinite too."""
+    return tuple(int(far) if far < np.inf else FAR for far in distances.tolist())
 
 
 def path_rows(scaled: ScaledNetwork, form: int, pairs: Pairs, pool: Pool, whole: Whole) -> list[Path]:
@@ -54,15 +89,15 @@ def shares_of_demands(scaled: ScaledNetwork, pairs: Pairs, pool: Pool, whole: Wh
             left[pair].append((walk, weight))
     rows = []
     for commodity, pair, turned in zip(scaled.commodities, pairs.of_commodity.tolist(), pairs.turned.tolist()):
-        taken = _take(left[pair], whole.phases * commodity.amount)
+        taken = _take(left[pair], whole.units * commodity.amount)
         rows.append([(walk[::-1] if turned else walk, weight) for walk, weight in taken])
     return rows
 
 
 def _take(left: list[tuple[Walk, int]], wanted: int) -> list[tuple[Walk, int]]:
-    """Takes a weight from the end of a list of paths with their weights."""
+    """Takes a weight, or what there is, from the end of a list of paths with their weights."""
     taken = []
-    while wanted:
+    while wanted and left:
         walk, weight = left.pop()
         part = min(weight, wanted)
         taken.append((walk, part))

@@ -26,6 +26,7 @@ _FUNCTIONS: dict[str, tuple[object, Sequence[object]]] = {
     "copyinStatus": (None, (c_void_p, c_void_p)),
     "statusArray": (c_void_p, (c_void_p,)),
     "primal": (c_int, (c_void_p, c_int)),
+    "dual": (c_int, (c_void_p, c_int)),
     "initialSolve": (c_int, (c_void_p,)),
     "status": (c_int, (c_void_p,)),
     "objectiveValue": (c_double, (c_void_p,)),
@@ -97,6 +98,12 @@ class Model:
         """Primal simplex for at most so many seconds; whether it ended with an optimum."""
         self._clp.Clp_setMaximumSeconds(self._model, max(seconds, 0.0))
         self._clp.Clp_primal(self._model, 0)
+        return self._clp.Clp_status(self._model) == 0
+
+    def dual(self, seconds: float) -> bool:
+        """Dual simplex, likewise."""
+        self._clp.Clp_setMaximumSeconds(self._model, max(seconds, 0.0))
+        self._clp.Clp_dual(self._model, 0)
         return self._clp.Clp_status(self._model) == 0
 
     def solve_anew(self, seconds: float) -> bool:

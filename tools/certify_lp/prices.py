@@ -4,31 +4,33 @@ from __future__ import annotations
 
 from dataclasses import dataclass
 from fractions import Fraction
-from math import lcm
 from typing import Callable
 
 import numpy as np
 
-from .problem import Arcs, Pairs
+from .near import DENOMINATORS, near_fractions
 
 LARGEST = 2**43
 """The greatest length of a cell with capacity: distances over 511 of them are exact in floating point."""
 
-_DENOMINATORS = (1, 60, 1000, 10**6)
+_NOISE = 1e-8
 
 
 @dataclass(frozen=True)
 class Bound:
-    """Lengths of all cells, 0 where a cell has no capacity, with volume and weighted distance."""
+    """Lengths of all cells, 0 where a cell has no capacity, with what stands above and below in the bound.
+
+    That is the volume and the weighted distance; or, of a total, the volume with the excess, and the threshold.
+    """
 
     lengths: np.ndarray
-    volume: int
-    distance: int
+    above: int
+    below: int
 
     @property
     def value(self) -> Fraction:
         """The bound."""
-        return Fraction(self.volume, self.distance)
+        return Fraction(self.above, self.below)
 
 
 class Bounds:
@@ -51,19 +53,35 @@ class Bounds:
 
     def _try(self, lengths: np.ndarray) -> None:
         """Keeps the bound of whole lengths where it is the best."""
-        weighted = sum(amount * int(distance) for amount, distance in zip(self._amounts, self._distances(lengths)))
-        if not weighted:
-            return
         volume = sum(self._capacities[cell] * int(lengths[cell]) for cell in np.flatnonzero(lengths))
-        bound = Bound(lengths, volume, weighted)
-        if self.best is None or bound.volume * self.best.distance < self.best.volume * bound.distance:
-            self.best = bound
+        above, below = self._parts(volume, self._distances(lengths))
+        if below and (self.best is None or above * self.best.below < self.best.above * below):
+            self.best = Bound(lengths, above, below)
+
+    def _parts(self, volume: int, distances: np.ndarray) -> tuple[int, int]:
+        """What stands above and below in the bound; 0 below where there is none."""
+        return volume, sum(amount * int(distance) for amount, distance in zip(self._amounts, distances))
 
 
-def over_all_paths(pairs: Pairs, arcs: Arcs) -> Callable[[np.ndarray], np.ndarray]:
-    """The distances of pairs over all paths of a network."""
-    sources, row = np.unique(pairs.source, return_inverse=True)
-    return lambda lengths: arcs.distances(lengths, sources)[0][row, pairs.target]
+class TotalBounds(Bounds):
+    """The same for bounds of a total, each with the threshold that is best for its lengths. A pair without a way is not carried."""
+
+    def offer(self, prices: np.ndarray) -> Bound | None:
+        """The best bound so far; first that of no lengths, which is the sum of all amounts with a way."""
+        if self.best is None:
+            self._try(np.zeros(len(self._capacities), np.int64))
+        return super().offer(prices)
+
+    def _parts(self, volume: int, distances: np.ndarray) -> tuple[int, int]:
+        """Volume with excess, and the threshold: the first distance up to which amounts times distance outweigh the volume."""
+        rows = sorted((int(distance), amount) for distance, amount in zip(distances, self._amounts) if np.isfinite(distance))
+        threshold, weighted = 1, 0
+        for distance, amount in rows:
+            threshold = max(distance, 1)
+            weighted += distance * amount
+            if weighted >= volume:
+                break
+        return volume + sum(amount * max(0, threshold - distance) for distance, amount in rows), threshold
 
 
 def _candidates(prices: np.ndarray) -> list[np.ndarray]:
@@ -72,19 +90,6 @@ def _candidates(prices: np.ndarray) -> list[np.ndarray]:
     if not top > 0:
         return []
     ratios = prices / top
-    found = [whole for limit in _DENOMINATORS if (whole := _fractions(ratios, limit)) is not None]
-    return found + [np.rint(ratios * LARGEST).astype(np.int64)]
-
-
-def _fractions(ratios: np.ndarray, limit: int) -> np.ndarray | None:
-    """Ratios as whole numbers over one denominator, where each is near a fraction with a denominator up to a limit."""
-    values, where = np.unique(ratios, return_inverse=True)
-    near = [Fraction(float(value)).limit_denominator(limit) for value in values]
-    if max(abs(float(fraction) - value) for fraction, value in zip(near, values)) > 1e-8:
-        return None
-    denominator = 1
-    for fraction in near:
-        denominator = lcm(denominator, fraction.denominator)
-        if denominator > LARGEST:
-            return None
-    return np.array([int(fraction * denominator) for fraction in near], np.int64)[where]
+    found = [near_fractions(ratios, limit, _NOISE, LARGEST) for limit in DENOMINATORS]
+    whole = [np.array([int(value * common) for value in near], np.int64) for near, common in filter(None, found)]
+    return whole + [np.rint(ratios * LARGEST).astype(np.int64)]

@@ -3,6 +3,7 @@
 from __future__ import annotations
 
 from dataclasses import dataclass
+from typing import Sequence
 
 import numpy as np
 from scipy.sparse import csr_matrix
@@ -12,42 +13,47 @@ from mcf_texts import ScaledNetwork
 
 Walk = tuple[int, ...]
 
+UNLIMITED = -1
+"""The limit of a pair that has none."""
+
 
 @dataclass(frozen=True)
 class Pairs:
-    """All demands between two nodes as one; where links are undirected, also those of the opposite way.
+    """All demands between two nodes with one limit of cells as one; where links are undirected, also those of the opposite way.
 
     `of_commodity` is each commodity's pair, and `turned` says whether it goes from the pair's target to its source.
     """
 
     source: np.ndarray
     target: np.ndarray
+    limit: np.ndarray
     amount: np.ndarray
     of_commodity: np.ndarray
     turned: np.ndarray
 
 
-def pairs_of(scaled: ScaledNetwork) -> Pairs:
-    """The pairs of a network, in the order of their first commodity."""
-    number: dict[tuple[int, int], int] = {}
+def pairs_of(scaled: ScaledNetwork, limits: Sequence[int | None] | None = None) -> Pairs:
+    """The pairs of a network, in the order of their first commodity; `limits` are those of the commodities, none where not given."""
+    number: dict[tuple[int, int, int], int] = {}
     amounts: list[int] = []
     of_commodity, turned = [], []
     merge = scaled.links == "undirected"
-    for commodity in scaled.commodities:
-        ends = commodity.source, commodity.target
-        back = merge and ends not in number and ends[::-1] in number
-        pair = number.setdefault(ends[::-1] if back else ends, len(amounts))
+    for commodity, limit in zip(scaled.commodities, limits or [None] * len(scaled.commodities)):
+        most = UNLIMITED if limit is None else limit
+        there, back = (commodity.source, commodity.target, most), (commodity.target, commodity.source, most)
+        turn = merge and there not in number and back in number
+        pair = number.setdefault(back if turn else there, len(amounts))
         if pair == len(amounts):
             amounts.append(0)
         amounts[pair] += commodity.amount
         of_commodity.append(pair)
-        turned.append(back)
-    ends = np.array(list(number), np.int64).reshape(-1, 2)
-    return Pairs(ends[:, 0], ends[:, 1], np.array(amounts, np.int64), np.array(of_commodity), np.array(turned))
+        turned.append(turn)
+    table = np.array(list(number), np.int64).reshape(-1, 3)
+    return Pairs(*table.T, np.array(amounts, np.int64), np.array(of_commodity), np.array(turned))
 
 
 class Arcs:
-    """The ways over cells with capacity, and shortest paths over them."""
+    """The ways over cells with capacity, and shortest paths over them; `table` has the tail, head and cell of each."""
 
     def __init__(self, scaled: ScaledNetwork) -> None:
         """Arcs of a network; a cell that is used both ways has two."""
@@ -56,6 +62,7 @@ class Arcs:
         ways = sorted(way for way in ways if way[0] != way[1])
         table = np.array(ways, np.int64).reshape(-1, 3)
         self.nodes = len(scaled.network.nodes)
+        self.table = table
         self._cell = table[:, 2]
         ends = table[:, 0] * self.nodes + table[:, 1]
         self._ends, self._first = np.unique(ends, return_index=True)

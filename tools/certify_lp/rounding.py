@@ -5,6 +5,7 @@ from __future__ import annotations
 import time
 from dataclasses import dataclass
 from fractions import Fraction
+from typing import Iterator, TypeVar
 
 import numpy as np
 from scipy.sparse import csc_matrix, csr_matrix
@@ -21,7 +22,7 @@ _ZERO = 1e-9
 
 @dataclass
 class Whole:
-    """Whole weights of all paths for a number of phases, and the fraction that they carry, as phases times capacity over load."""
+    """Whole weights of all paths for a number of phases; times capacity over load they fit into the network."""
 
     phases: int
     weights: list[int]
@@ -29,9 +30,34 @@ class Whole:
     load: int
 
     @property
+    def carried(self) -> int:
+        """What is carried where the weights are; times the scale it is the fraction, or the total."""
+        return self.phases
+
+    @property
+    def units(self) -> int:
+        """The most weight for a unit of an amount."""
+        return self.phases
+
+    @property
     def lower(self) -> Fraction:
-        """The fraction that is carried."""
-        return Fraction(self.phases * self.capacity, self.load)
+        """The fraction that is carried, or the total."""
+        return Fraction(self.carried * self.capacity, self.load)
+
+
+AnyWhole = TypeVar("AnyWhole", bound=Whole)
+
+
+def best_of(tried: Iterator[AnyWhole], enough: Fraction, deadline: float) -> AnyWhole:
+    """Of weights that are tried one after the other, the first that carry most; no more are tried once enough is carried, or behind the
+    deadline."""
+    best = next(tried)
+    while best.lower < enough and time.monotonic() < deadline:
+        found = next(tried, None)
+        if found is None:
+            break
+        best = found if found.lower > best.lower else best
+    return best
 
 
 class Rounding:
@@ -55,15 +81,8 @@ class Rounding:
 
     def best(self, aim: Fraction, enough: Fraction, deadline: float) -> Whole:
         """The weights that carry most, of those that were tried until enough is carried or the deadline comes; none pass the aim."""
-        best: Whole | None = None
-        for phases in self._likely_phases(aim):
-            found = self._repaired(phases, self._rounded(phases), aim, deadline)
-            if best is None or found.lower > best.lower:
-                best = found
-            if best.lower >= enough or time.monotonic() >= deadline:
-                break
-        assert best is not None
-        return best
+        tried = (self._repaired(phases, self._rounded(phases), aim, deadline) for phases in self._likely_phases(aim))
+        return best_of(tried, enough, deadline)
 
     def _likely_phases(self, aim: Fraction) -> list[int]:
         """Numbers of phases from 32,768 on by what rounding costs, the cheapest first; multiples of the aim's parts in front."""

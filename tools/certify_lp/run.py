@@ -1,4 +1,4 @@
-"""A whole run: paths of a solve, the linear program, whole numbers, and the judgement of `mcf check`."""
+"""A whole run: paths of a solve, the linear program, whole numbers, and the judgement of `mcf check`, or that of the kind."""
 
 from __future__ import annotations
 
@@ -15,10 +15,11 @@ from mcf_texts import Certificate, Program, Routing, ScaledNetwork, TextError, s
 
 from .build import certificate_of, in_form, with_gap
 from .clp import load_clp
-from .path_lp import Optimum, PathProgram, complete
-from .prices import Bound, Bounds, over_all_paths
-from .problem import Arcs, pairs_of
-from .rounding import Rounding
+from .kinds import SOLVE, Kind
+from .path_lp import Optimum, PathProgram
+from .pool import complete
+from .prices import Bound, Bounds
+from .problem import Arcs
 from .start import Source, combined, first_certificate, given, lengths_of, longer_certificates, pool_of
 
 
@@ -32,11 +33,12 @@ class Request:
     gap: int | None
     seconds: float
     start: str | None
+    kind: Kind = SOLVE
 
 
 @dataclass(frozen=True)
 class Result:
-    """The certificate's text, its verdict, the line of `mcf check`, and why it is not the linear program's, where it is not."""
+    """The certificate's text, its verdict, the line of its judge, and why it is not the linear program's, where it is not."""
 
     text: str
     closed: bool
@@ -64,7 +66,7 @@ def certify(program: Program, request: Request) -> Result:
     try:
         made = _optimum(begun, request.gap, deadline)
         return _judged(program, request, combined([made, begun.first]), None)
-    except Exception as error:  # whatever fails there, a certificate of mcf solve is handed out, with the reason
+    except Exception as error:  # whatever fails there, a certificate of the kind's own command is handed out, with the reason
         trouble = str(error) or type(error).__name__
     rest = longer_certificates(begun.source, len(begun.scaled.commodities), deadline)
     return _judged(program, request, combined([begun.first, *rest]), trouble)
@@ -73,11 +75,12 @@ def certify(program: Program, request: Request) -> Result:
 def _begin(program: Program, request: Request, deadline: float) -> Begun:
     """The network and the start."""
     paths = given(program, request.net, request.start) if request.start else None
-    source = Source(program, request.net, *_options(request, paths))
+    source = Source(program, request.kind, request.net, *_options(request, paths))
     scaled = source.scaled()
-    with tqdm(desc="paths of a solve", disable=None, leave=False):
+    with tqdm(desc=f"paths of {request.kind.command}", disable=None, leave=False):
         half = deadline - request.seconds / 2
-        first = paths if isinstance(paths, Certificate) else first_certificate(source, len(scaled.commodities), half)
+        is_first = paths is not None and type(paths) is request.kind.certificate
+        first = paths if is_first else first_certificate(source, len(scaled.commodities), half)
     if paths is None:
         return Begun(source, scaled, first, first, False)
     return Begun(source, scaled, in_form(scaled, first, program.form), paths, True)
@@ -97,20 +100,21 @@ def _options(request: Request, paths: Routing | None) -> tuple[str, str]:
 def _optimum(begun: Begun, gap: int | None, deadline: float) -> Certificate:
     """The certificate of the linear program's answer."""
     library = load_clp()
-    scaled = begun.scaled
-    pairs, arcs = pairs_of(scaled), Arcs(scaled)
+    scaled, kind = begun.scaled, begun.source.kind
+    pairs, arcs = kind.pairs(scaled), Arcs(scaled)
+    search = kind.search(pairs, arcs)
     capacities = [cell.capacity for cell in scaled.cells]
     capacity = np.array(capacities, np.float64)
     pool = pool_of(scaled, pairs, begun.paths, begun.elsewhere)
-    complete(pool, arcs, pairs, 1 / np.maximum(capacity, 0.5))
+    complete(pool, search, 1 / np.maximum(capacity, 0.5), kind.each)
     left = deadline - time.monotonic()
-    optimum = _solved(PathProgram(library, pairs, arcs, capacity, pool), time.monotonic() + left * 0.6)
+    optimum = _solved(kind.program(library, pairs, search, capacity, pool), time.monotonic() + left * 0.6)
     amounts = [int(amount) for amount in pairs.amount]
-    bound = _bound(Bounds(amounts, capacities, over_all_paths(pairs, arcs)), optimum, begun)
+    bound = _bound(kind.bounds(amounts, capacities, search.distances), optimum, begun)
     used = len(optimum.flows)
     matrix = pool.cells_by_walks(len(capacities))[:, :used]
     with tqdm(desc="whole numbers", disable=None, leave=False):
-        rounding = Rounding(matrix, np.array(pool.pair[:used]), amounts, capacities, optimum.flows)
+        rounding = kind.rounding(matrix, np.array(pool.pair[:used]), amounts, capacities, optimum.flows)
         enough = bound.value if gap is None else bound.value / (1 + Fraction(gap, 10**6))
         whole = rounding.best(bound.value, enough, time.monotonic() + left * 0.2)
     return certificate_of(scaled, begun.first, pairs, arcs, pool, whole, bound)
@@ -122,7 +126,7 @@ def _solved(program: PathProgram, deadline: float) -> Optimum:
         def told(optimum: Optimum) -> None:
             """Shows a round."""
             bar.update()
-            bar.set_postfix(fraction=f"{1 / optimum.congestion:.6f}", bound=f"{optimum.bound:.6f}")
+            bar.set_postfix(carried=f"{optimum.carried:.6f}", bound=f"{optimum.bound:.6f}")
         return program.optimise(deadline, told)
 
 
@@ -135,13 +139,14 @@ def _bound(bounds: Bounds, optimum: Optimum, begun: Begun) -> Bound:
 
 
 def _judged(program: Program, request: Request, certificate: Certificate, trouble: str | None) -> Result:
-    """The certificate's text, once `mcf check` calls it valid."""
+    """The certificate's text, once the command that judges its kind calls it valid."""
     certificate = with_gap(certificate, request.gap)
     text = write_certificate(certificate)
-    with tempfile.TemporaryDirectory() as room, tqdm(desc="mcf check", disable=None, leave=False):
+    judge = request.kind.judge
+    with tempfile.TemporaryDirectory() as room, tqdm(desc=f"mcf {judge}", disable=None, leave=False):
         file = File(room, "cert")
         save_text(file, text)
-        answer = program.check(request.net, file)
+        answer = program.check(request.net, file, command=judge)
     if answer.status != 0 or not answer.line.startswith("valid "):
-        raise TextError(f"mcf check says {answer.line or answer.status} of the certificate")
+        raise TextError(f"mcf {judge} says {answer.line or answer.status} of the certificate")
     return Result(text, certificate.verdict == "closed", answer.line, trouble)

@@ -1,4 +1,4 @@
-"""Where the paths come from: certificates of `mcf solve`, or a certificate or routing from elsewhere."""
+"""Where the paths come from: certificates of `mcf solve`, `hops` or `throughput`, or a certificate or routing from elsewhere."""
 
 from __future__ import annotations
 
@@ -9,11 +9,12 @@ from pathlib import Path as File
 
 import numpy as np
 
-from mcf_texts import (Certificate, Program, Routing, ScaledNetwork, TextError, cells_of_path, load_text, nodes_of_walk, read_any,
-                       read_certificate, scale)
+from mcf_texts import (Certificate, Program, Routing, ScaledNetwork, TextError, cells_of_path, judge_of, load_text, nodes_of_walk,
+                       read_any, scale)
 
-from .path_lp import Pool
-from .problem import Pairs, Walk
+from .kinds import Kind
+from .pool import Pool
+from .problem import UNLIMITED, Pairs, Walk
 
 DEFAULT_STEP = 8192
 DEFAULT_PHASES = 1000
@@ -23,15 +24,16 @@ _HEAVIEST = 2
 
 @dataclass(frozen=True)
 class Source:
-    """The network file, the program, and the options with which links and modules are read."""
+    """The network file, the program, the kind of certificates, and the options with which links and modules are read."""
 
     program: Program
+    kind: Kind
     net: str
     links: str
     modules: str
 
     def scaled(self) -> ScaledNetwork:
-        """The network in whole units; TextError, with the line of `mcf solve`, where there is none."""
+        """The network in whole units; TextError, with the line of the command, where there is none."""
         network = self.program.network(self.net)
         try:
             return scale(network, self.links, self.modules)
@@ -40,10 +42,10 @@ class Source:
             raise
 
     def solve(self, phases: int, step: int, seconds: float | None) -> Certificate:
-        """A certificate of `mcf solve` with one worker, so that one input gives one text."""
-        words = ("--links", self.links, "--modules", self.modules, "--workers", "1", "--gap", "0", "--phases", str(phases),
+        """A certificate of the command with one worker, so that one input gives one text."""
+        words = (*self.kind.words, "--links", self.links, "--modules", self.modules, "--gap", "0", "--phases", str(phases),
                  "--step", str(step))
-        return read_certificate(self.program.solve(self.net, *words, seconds=seconds))
+        return self.kind.read(self.program.solve(self.net, *words, seconds=seconds, command=self.kind.command))
 
 
 def start_phases(commodities: int) -> int:
@@ -84,10 +86,14 @@ def longer_certificates(source: Source, commodities: int, deadline: float) -> li
 
 
 def given(program: Program, net: str, file: str) -> Certificate | Routing:
-    """A certificate or routing from elsewhere, which `mcf check` has to accept."""
+    """A certificate of any kind or a routing from elsewhere, which the command that judges its kind has to accept."""
+    command = "check"
     answer = program.check(net, file)
+    if answer.line.startswith("refused cert K1 "):
+        command = judge_of(load_text(File(file)))
+        answer = program.check(net, file, command=command)
     if answer.status != 0:
-        raise TextError(f"mcf check of {file}: {answer.line}")
+        raise TextError(f"mcf {command} of {file}: {answer.line}")
     return read_any(load_text(File(file)))
 
 
@@ -114,18 +120,19 @@ def simple(scaled: ScaledNetwork, start: int, cells: list[int]) -> list[int]:
 
 
 def pool_of(scaled: ScaledNetwork, pairs: Pairs, text: Routing, elsewhere: bool) -> Pool:
-    """The heaviest paths of each pair; those from elsewhere may be walks with round trips, which are left out."""
+    """The heaviest allowed paths of each pair; those from elsewhere may be walks with round trips, which are left out."""
     weights: list[dict[Walk, int]] = [{} for _ in pairs.amount]
     number_of = scaled.commodity_of
-    of_commodity, turned = pairs.of_commodity.tolist(), pairs.turned.tolist()
+    of_commodity, turned, limits = pairs.of_commodity.tolist(), pairs.turned.tolist(), pairs.limit.tolist()
     for path in text.paths:
         commodity = number_of[path.demand]
         cells = cells_of_path(scaled, text.form, path)
         if elsewhere:
             cells = simple(scaled, scaled.commodities[commodity].source, cells)
         walk = tuple(reversed(cells) if turned[commodity] else cells)
-        found = weights[of_commodity[commodity]]
-        found[walk] = found.get(walk, 0) + path.weight
+        pair = of_commodity[commodity]
+        if limits[pair] == UNLIMITED or len(walk) <= limits[pair]:
+            weights[pair][walk] = weights[pair].get(walk, 0) + path.weight
     pool = Pool(len(weights))
     for pair, found in enumerate(weights):
         for walk, _ in sorted(found.items(), key=lambda entry: (-entry[1], entry[0]))[:_HEAVIEST]:

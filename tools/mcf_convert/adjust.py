@@ -97,8 +97,9 @@ def require_fit(network: Network, linked: bool, limited: bool) -> None:
     _require_counts(network, linked, limited)
     for link in network.links if linked else []:
         if link.capacity is None:
-            lost = sum(1 for other in network.links if other.capacity is None)
-            raise Refused(f"link {link.name} has no capacity, and {lost - 1} others have none: --capacity-default X gives them X")
+            others = sum(1 for other in network.links if other.capacity is None) - 1
+            which, whom = (f", and {others} others have none", "them") if others else ("", "it")
+            raise Refused(f"link {link.name} has no capacity{which}: --capacity-default X gives {whom} X")
         for value in (link.capacity, *(size for size, _ in link.modules)):
             _require_number(value, f"link {link.name}")
     for matrix in network.matrices:

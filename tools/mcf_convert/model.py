@@ -81,6 +81,7 @@ class Source:
     one_way: bool = False
     by_number: bool = False
     native: bool = False
+    columns: tuple[str, ...] = ()
 
 
 @dataclass

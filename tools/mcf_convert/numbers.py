@@ -70,6 +70,15 @@ def rate(word: str, what: str, unit: Unit, comma: bool = False) -> Fraction:
     return Fraction(Decimal(fitting.group(1))) * own / unit.bits
 
 
+def is_rate(word: str, comma: bool = False) -> bool:
+    """Whether a word is a number, which may end with a unit of its own."""
+    try:
+        rate(word, "", Unit(Fraction(1), told=True), comma)
+    except Refused:
+        return False
+    return True
+
+
 def _hint(text: str) -> str:
     """What helps where a comma stands in a number."""
     return " (--decimal-comma reads 1,5 as 1.5)" if re.fullmatch(r"\d+,\d+", text) else ""

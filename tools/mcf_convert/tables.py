@@ -4,12 +4,12 @@ from __future__ import annotations
 
 import csv
 import io
-from dataclasses import dataclass
+from dataclasses import dataclass, replace
 from fractions import Fraction
 
 from .files import stem
 from .model import Demand, Link, Matrix, Network, Node, Notes, Refused, Source
-from .numbers import Form, number, plain, rate
+from .numbers import Form, is_rate, number, plain, rate
 
 ROLES = {
     "id": ("id", "link", "demand", "name", "label", "key", "edge", "link_id", "demand_id"),
@@ -67,16 +67,44 @@ def lines_of(path: str, text: str) -> list[tuple[int, list[str]]]:
         raise Refused(f"{path} line {reader.line_num}: {fault}") from None
 
 
+def columns_of(words: str) -> dict[str, str]:
+    """The columns that `--columns` names, by their roles."""
+    columns: dict[str, str] = {}
+    for pair in filter(None, words.split(",")):
+        role, _, name = pair.partition("=")
+        if role not in ROLES or not name:
+            raise Refused(f"--columns: {pair!r} is no ROLE=NAME; roles are {', '.join(ROLES)}")
+        columns[role] = name
+    return columns
+
+
+def require_columns(columns: dict[str, str], sources: list[Source]) -> None:
+    """Refuses a column that was named and that no table has."""
+    for name in columns.values():
+        if not any(name in source.columns for source in sources):
+            tables = "; ".join(f"{source.path} has {', '.join(source.columns)}" for source in sources if source.columns)
+            raise Refused(f"no table has a column {name!r}" + (f": {tables}" if tables else ""))
+
+
 def read(path: str, text: str, notes: Notes, form: Form) -> Source:
     """What a table has: links, nodes or demands, by its columns; a square of demands by its names."""
     rows = lines_of(path, text)
     if not rows:
         raise Refused(f"{path}: no rows")
     head = [word.strip() for word in rows[0][1]]
-    if not form.columns and _is_square(head, rows):
+    named = {role: name for role, name in form.columns.items() if name in head}
+    if not named and _is_square(head, rows):
         return _square(path, head, rows[1:], form)
-    place = _places(path, head, form.columns)
-    table = Table(path, place, rows[1:], form)
+    table = Table(path, _places(head, named), rows[1:], form)
+    if "id" not in named and _is_demand_the_id(head, table.place):
+        table.place = _places(head, named | {"amount": head[table.place["id"]]})
+        _tell_amounts(head, table, notes)
+    return replace(_read_by_columns(head, table, notes), columns=tuple(head))
+
+
+def _read_by_columns(head: list[str], table: Table, notes: Notes) -> Source:
+    """What a table has by the roles of its columns."""
+    path, place = table.path, table.place
     pairs = "source" in place and "target" in place
     if pairs and ("capacity" in place or "modules" in place):
         _tell_unread(path, head, place, LINK_ROLES, notes)
@@ -88,25 +116,48 @@ def read(path: str, text: str, notes: Notes, form: Form) -> Source:
         _tell_unread(path, head, place, ("node", "id", "x", "y"), notes)
         return _places_of_nodes(table)
     due = "source, target and capacity (links) or amount (demands), or node, x and y (places)"
-    raise Refused(f"{path}: columns {due} are due; it has {', '.join(head)} (--columns names them)")
+    lost = "".join(f", and no {name!r}" for name in table.form.columns.values() if name not in head)
+    raise Refused(f"{path}: columns {due} are due; it has {', '.join(head)}{lost} (--columns names them)")
 
 
-def _places(path: str, head: list[str], columns: dict[str, str]) -> dict[str, int]:
+def _places(head: list[str], columns: dict[str, str]) -> dict[str, int]:
     """The column of each role: the one that was named, or else one of a known name."""
     lower = [word.lower().replace(" ", "_").replace("-", "_") for word in head]
     place: dict[str, int] = {}
     for role, names in ROLES.items():
         if role in columns:
-            if columns[role] not in head:
-                raise Refused(f"{path}: no column {columns[role]!r}; it has {', '.join(head)}")
             place[role] = head.index(columns[role])
             continue
-        named = {head.index(name) for name in columns.values() if name in head}
+        named = {head.index(name) for name in columns.values()}
         found = [lower.index(name) for name in names if name in lower and lower.index(name) not in named]
         found = [at for at in found if at not in place.values()]
         if found:
             place[role] = found[0]
     return place
+
+
+def _is_demand_the_id(head: list[str], place: dict[str, int]) -> bool:
+    """Whether a table of demands has a column `demand` for their names, and none for their amounts."""
+    is_pairs = "source" in place and "target" in place and not {"capacity", "modules", "amount"} & place.keys()
+    return is_pairs and "id" in place and head[place["id"]].lower() == "demand"
+
+
+def _tell_amounts(head: list[str], table: Table, notes: Notes) -> None:
+    """Says that the column `demand` has the amounts; refuses it if a row has no number there, or another column could have them."""
+    demand = table.place["amount"]
+    others = [at for at, name in enumerate(head) if name and at not in table.place.values() and _has_numbers(table, at)]
+    if others or not _has_numbers(table, demand):
+        likely = head[others[0] if others else demand]
+        raise Refused(
+            f"{table.path}: no column is known to have the amounts; it has {', '.join(head)} "
+            f"(--columns amount=NAME says which, as amount={likely})"
+        )
+    notes.say("read", f"{table.path}: column {head[demand]} as the amounts, since it has numbers alone")
+
+
+def _has_numbers(table: Table, at: int) -> bool:
+    """Whether a column has a number in each row."""
+    return all(at < len(row) and is_rate(row[at], table.form.comma) for _, row in table.rows)
 
 
 def _tell_unread(path: str, head: list[str], place: dict[str, int], roles: tuple[str, ...], notes: Notes) -> None:

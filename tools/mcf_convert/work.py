@@ -60,7 +60,9 @@ def target_of(path: str) -> str:
 def convert(task: Task, notes: Notes) -> None:
     """Reads the files, and writes the one."""
     kind = task.written or target_of(task.target)
-    sources = _in_one_unit([read(path, task, notes) for path in [*task.base, *task.sources]], task, notes)
+    sources = [read(path, task, notes) for path in [*task.base, *task.sources]]
+    tables.require_columns(task.columns, sources)
+    sources = _in_one_unit(sources, task, notes)
     base, sources = sources[: len(task.base)], sources[len(task.base) :]
     many = kind == "list" or (kind == "demands" and all(not s.links for s in sources))
     network = assemble.together(sources, base, notes, many)

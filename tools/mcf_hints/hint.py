@@ -20,7 +20,7 @@ def hint(status: int, program: str, words: list[str], output: int) -> str | None
     try:
         request = read(words)
     except Misfit as misfit:
-        return _told("usage", str(misfit), WRONG) if status == 2 else None
+        return _told("usage", str(misfit), misfit.part or WRONG) if status == 2 else None
     if status == 2:
         return _told("usage", USAGE, WRONG)
     if status == 4:

@@ -27,6 +27,7 @@ def _row(line: str, sentence: str, part: int = 10, of: str = "") -> Row:
 
 _OTHER = "mostly since the network's file was changed after the certificate was made: make a new one"
 _EDITED = "mostly in a file that was edited by hand or cut off"
+_GREATER = " (if the work limit leaves few phases, a greater --step closes sooner)"
 
 TABLE = (
     _row("refused net N2 line N", "a word has more than 255 bytes, mostly in a file that is no text or has lost its blanks"),
@@ -154,19 +155,26 @@ TABLE = (
          "the capacities of the network count more units: round, or write all in a greater unit"),
     _row("refused list M8 line N", "no demand of the matrix is left, since each has amount 0 or ends in its own node; the line is that of its name"),
     _row("refused list TooLong", "the list is over its limit of bytes: cut it into several"),
-    _row("some matrix open", "the phases were spent before some matrix was closed; both fractions of each hold all the same", 5),
+    _row("some matrix open",
+         "for some matrix the phases were spent before both fractions came within the gap; both fractions of each hold all the same, and more "
+         f"--phases, another --step or a greater --gap may close it{_GREATER}; for one matrix alone, tighten its certificate, or take "
+         "tools/certify", 5),
     _row("best open",
          "both fractions hold, and no cut of this kind brings them within the gap: solve with another --step and tighten both, or "
          "ask tools/certify", 5),
     _row("verdict open",
-         "the phases were spent before both fractions came within the gap; both hold, and more --phases, a smaller --step or a "
-         "greater --gap may close it", 5),
+         "the phases were spent before both fractions came within the gap; both hold, and more --phases, another --step or a "
+         "greater --gap may close it, as tools/certify --kind hops does by a linear program", 8, "hops"),
+    _row("verdict open",
+         "the phases were spent before both fractions came within the gap; both hold, and tighten, more --phases, another --step or "
+         "a greater --gap may close it, as tools/certify does by a linear program", 5),
     _row("some link open",
          "without some link the phases were spent before both fractions came within the gap; all of them hold, and more --phases, "
-         "another --step or a greater --gap may close it", 4),
+         f"another --step or a greater --gap may close it{_GREATER}; for one link alone, solve the network without it and tighten the "
+         "certificate, or take tools/certify", 4),
     _row("total open",
-         "both totals hold; more --phases close the gap only where nearly all demand fits, and where it does not, the prices of a linear "
-         "program make a certificate for checkthroughput", 9),
+         "both totals hold; more --phases close the gap only where nearly all demand fits, and where it does not, tools/certify --kind "
+         "throughput does by a linear program", 9),
     _row("status 1", "a condition of the certificate fails; the line on standard output names the first one"),
     _row("status 3", "a file is refused; the line on standard output names the kind of the fault and its line"),
 )

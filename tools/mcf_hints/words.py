@@ -14,6 +14,7 @@ OPTIONS = ("--links", "--modules", "--gap", "--phases", "--workers", "--step")
 ONE_WORKER_OPTIONS = tuple(option for option in OPTIONS if option != "--workers")
 FILES = ("NET", "CERT", "SCRIPT")
 READ_ORDER = ("NET", "CERT", "CERT2", "LIST", "SCRIPT")
+HOP_OPTIONS = ("--hops", "--hop", "--hop-limit", "--max-hops", "--limit")
 DRAWN = {"SEED": (0, 2**64 - 1), "NODES": (2, 512), "LINKS": (2, 4096), "DEMANDS": (1, 32_768)}
 
 _NUMBER = re.compile(r"(?:[0-9]+\.?[0-9]*|\.[0-9]+)(?:[Ee][+-]?[0-9]{1,2})?")
@@ -72,7 +73,11 @@ class Request:
 
 
 class Misfit(Exception):
-    """The first word that does not fit, and why, as part of a sentence."""
+    """The first word that does not fit, and why, as part of a sentence; the part of the guide on it, if one is."""
+
+    def __init__(self, why: str, part: int | None = None):
+        super().__init__(why)
+        self.part = part
 
 
 def shown(word: str) -> str:
@@ -126,6 +131,9 @@ def _take_word(name: str, command: Command, found: dict[str, str], word: str) ->
 def _take_option(name: str, command: Command, seen: set[str], word: str, rest: Iterator[str]) -> None:
     """One more option, with its value."""
     option, equals, value = word.partition("=")
+    if option in HOP_OPTIONS:
+        raise Misfit(f"{shown(option)} is no option of {name}: the hop limit of a demand is the last word of its row in the network's file, "
+                     "and hops keeps it", 8)
     if option not in command.options:
         named = listed(tuple(other for other in COMMANDS if COMMANDS[other].options)).replace(" or ", " and ")
         none = _nearest(option, command.options) if command.options else f", which takes none; they are those of {named}"

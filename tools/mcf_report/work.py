@@ -11,7 +11,7 @@ from pathlib import Path
 from mcf_convert.files import contents
 from mcf_convert.model import Notes, Refused
 from mcf_convert.native import read_network
-from mcf_texts import Program, TextError, load_text, read_any, scale
+from mcf_texts import Program, TextError, judge_of, load_text, read_any, scale
 
 from .figures import Figures
 from .page import report_page, sides_of
@@ -33,9 +33,16 @@ def judged(program: Program, net: str, certificate: str) -> tuple[Figures, str]:
     """The figures of a certificate or routing that `mcf check` finds valid, and what it said."""
     answer = program.check(net, certificate)
     if answer.status != 0:
-        raise TextError(f"{certificate} on {net}: mcf check says: {answer.line or f'status {answer.status}'}")
+        said = answer.line or f"status {answer.status}"
+        raise TextError(f"{certificate} on {net}: mcf check says: {said}{_other_kind(certificate) if ' K1 ' in said else ''}")
     text = read_any(load_text(certificate))
     return Figures(scale(program.network(net), text.links, text.modules), text), answer.line
+
+
+def _other_kind(certificate: str) -> str:
+    """What a file is that is a certificate of another kind."""
+    judge = judge_of(load_text(certificate))
+    return "" if judge == "check" else f"; it is one for mcf {judge}, and only those of mcf solve and routings are shown"
 
 
 def write_report(program: Program, files: Files, title: str, words: argparse.Namespace) -> None:

@@ -8,23 +8,29 @@ In a notebook: put the folder `tools` on `sys.path`, then
     scaled = scale(network, certificate.links, certificate.modules)
     shares_of_bound(scaled, certificate)
 
+Certificates are of three kinds: `Certificate` of `solve`, `HopCertificate` of `hops` and `TotalCertificate` of `throughput`.
+`read_any` reads each of them and routings, and `write_certificate` writes each.
+
 All texts are strings with one character for each byte (latin-1), so any bytes may stand in names.
 """
 
-from .certificate import (Certificate, Length, Path, Potential, Routing, load_text, read_any, read_certificate, read_routing,
-                          save_text, write_certificate, write_routing)
+from .certificate import (Certificate, HopCertificate, Layer, Length, Path, Potential, Routing, TotalCertificate, judge_of, load_text,
+                          read_any, read_certificate, read_hops, read_routing, read_throughput, save_text, write_certificate,
+                          write_routing)
 from .errors import TextError
 from .network import MODULES, Demand, Link, Module, Network, Node, read_network, write_network
 from .numbers import decimal_of, fraction_of, millionths_of, rounded_down, rounded_up, whole_of
 from .program import Answer, Program, find_program
 from .scaled import LINK_MODES, Cell, Commodity, Counts, ScaledNetwork, scale
-from .values import (cells_of_path, lengths, loads, lower, nodes_of_walk, routed, shares_of_bound, true_gap, upper, utilisation,
+from .values import (cells_of_path, excess, lengths, loads, lower, nodes_of_walk, routed, shares_of_bound, true_gap, upper, utilisation,
                      volume, weighted_distance)
 
 __all__ = [
-    "Answer", "Cell", "Certificate", "Commodity", "Counts", "Demand", "LINK_MODES", "Length", "Link", "MODULES", "Module", "Network",
-    "Node", "Path", "Potential", "Program", "Routing", "ScaledNetwork", "TextError", "cells_of_path", "decimal_of", "find_program",
-    "fraction_of", "lengths", "load_text", "loads", "lower", "millionths_of", "nodes_of_walk", "read_any", "read_certificate",
-    "read_network", "read_routing", "rounded_down", "rounded_up", "routed", "save_text", "scale", "shares_of_bound", "true_gap",
-    "upper", "utilisation", "volume", "weighted_distance", "whole_of", "write_certificate", "write_network", "write_routing",
+    "Answer", "Cell", "Certificate", "Commodity", "Counts", "Demand", "HopCertificate", "LINK_MODES", "Layer", "Length", "Link",
+    "MODULES", "Module", "Network", "Node", "Path", "Potential", "Program", "Routing", "ScaledNetwork", "TextError",
+    "TotalCertificate", "cells_of_path", "decimal_of", "excess", "find_program", "fraction_of", "judge_of", "lengths",
+    "load_text", "loads", "lower", "millionths_of", "nodes_of_walk", "read_any", "read_certificate", "read_hops",
+    "read_network", "read_routing", "read_throughput", "rounded_down", "rounded_up", "routed", "save_text", "scale",
+    "shares_of_bound", "true_gap", "upper", "utilisation", "volume", "weighted_distance", "whole_of", "write_certificate",
+    "write_network", "write_routing",
 ]

@@ -1,10 +1,10 @@
-"""Certificates and routings of form 1 and form 2: read, and written byte for byte."""
+"""Certificates of all three kinds, and routings: read, and written byte for byte."""
 
 from __future__ import annotations
 
 from dataclasses import dataclass, field
 from pathlib import Path as File
-from typing import Callable, TypeVar
+from typing import Callable, ClassVar, TypeVar
 
 from .errors import TextError
 from .numbers import decimal_of, millionths_of, whole_of
@@ -40,9 +40,21 @@ class Potential:
     values: tuple[int, ...]
 
 
+@dataclass(frozen=True, slots=True)
+class Layer:
+    """A source's layer of an index: for each node, in their order, what no walk of at most so many cells goes below in length."""
+
+    node: str
+    index: int
+    values: tuple[int, ...]
+
+
 @dataclass(slots=True)
 class Routing:
     """A routing text; `form` is 1 or 2. The weights times `scale_capacity / scale_load` are what is routed, in units."""
+
+    header: ClassVar[str] = "mcf-routing"
+    judge: ClassVar[str] = "check"
 
     form: int
     links: str
@@ -57,6 +69,8 @@ class Routing:
 class Certificate(Routing):
     """A certificate; `lower` and `upper` are numerator and denominator as written, the rest of lines 6, 9 and 10 is in millionths."""
 
+    header: ClassVar[str] = "mcf-certificate"
+
     verdict: str = "open"
     counts: Counts = field(default_factory=lambda: Counts(0, 0, 0, 0, 0, 0, 0))
     gap: int = 0
@@ -66,6 +80,26 @@ class Certificate(Routing):
     upper_millionths: int = 0
     lengths: list[Length] = field(default_factory=list)
     potentials: list[Potential] = field(default_factory=list)
+
+
+@dataclass(slots=True)
+class HopCertificate(Certificate):
+    """A certificate with hop limits, `mcf-hops 1`. Its cells are named as in form 2, so `form` is 2."""
+
+    header: ClassVar[str] = "mcf-hops"
+    judge: ClassVar[str] = "checkhops"
+
+    layers: list[Layer] = field(default_factory=list)
+
+
+@dataclass(slots=True)
+class TotalCertificate(Certificate):
+    """A certificate of a total, `mcf-throughput 1`: `lower` and `upper` are totals in units. `form` is 2, as of a `HopCertificate`."""
+
+    header: ClassVar[str] = "mcf-throughput"
+    judge: ClassVar[str] = "checkthroughput"
+
+    threshold: int = 1
 
 
 def load_text(file: str | File) -> str:
@@ -84,56 +118,78 @@ def save_text(file: str | File, text: str) -> None:
         raise TextError(f"{file}: {error.strerror}") from error
 
 
+def judge_of(text: str) -> str:
+    """The command of `mcf` that judges a text, by the first word of its header; `check` where that is none of those known."""
+    kind = text[:text.find(" ")]
+    return next((known.judge for known in (HopCertificate, TotalCertificate) if known.header == kind), Certificate.judge)
+
+
 def read_any(text: str) -> Certificate | Routing:
-    """The certificate or the routing of a text."""
+    """The certificate, of any kind, or the routing of a text."""
+    reader = {HopCertificate.judge: read_hops, TotalCertificate.judge: read_throughput}.get(judge_of(text))
+    if reader is not None:
+        return reader(text)
     return read_routing(text) if text.startswith("mcf-routing ") else read_certificate(text)
 
 
 def read_certificate(text: str) -> Certificate:
     """The certificate of a text; names and numbers are not compared with those of any network, which `mcf check` does."""
     lines = _Lines(text)
-    form = lines.form("mcf-certificate")
-    verdict, = lines.words("verdict", 1, ("closed", "open"))
-    links, = lines.words("links", 1, _modes(form))
-    modules, = lines.words("modules", 1, ("none", "largest", "sum"))
-    counts = _counts(lines)
-    gap = lines.value(millionths_of, lines.words("gap", 1)[0])
-    phases, scale_capacity, scale_load = _scale(lines)
-    lower, lower_millionths = _fraction(lines, "lower")
-    upper, upper_millionths = _fraction(lines, "upper")
-    paths = lines.rows("path", _path)
-    lengths = lines.rows("length", lambda words: Length(words[0], whole_of(words[1])))
-    potentials = lines.rows("potential", lambda words: Potential(words[0], tuple(map(whole_of, words[1:]))))
-    lines.end()
-    return Certificate(form, links, modules, phases, scale_capacity, scale_load, paths, verdict, counts, gap, lower,
-                       lower_millionths, upper, upper_millionths, lengths, potentials)
+    certificate = Certificate(*_head(lines, Certificate))
+    _rows(lines, certificate)
+    lines.end("path, length and potential rows")
+    return certificate
+
+
+def read_hops(text: str) -> HopCertificate:
+    """The certificate with hop limits of a text, likewise."""
+    lines = _Lines(text)
+    certificate = HopCertificate(*_head(lines, HopCertificate))
+    _rows(lines, certificate)
+    certificate.layers = lines.rows("layer", lambda words: Layer(words[0], whole_of(words[1]), tuple(map(whole_of, words[2:]))))
+    lines.end("path, length, potential and layer rows")
+    return certificate
+
+
+def read_throughput(text: str) -> TotalCertificate:
+    """The certificate of a total of a text, likewise."""
+    lines = _Lines(text)
+    certificate = TotalCertificate(*_head(lines, TotalCertificate))
+    certificate.threshold = lines.value(whole_of, lines.words("threshold", 1)[0])
+    _rows(lines, certificate)
+    lines.end("path, length and potential rows")
+    return certificate
 
 
 def read_routing(text: str) -> Routing:
     """The routing of a text."""
     lines = _Lines(text)
-    form = lines.form("mcf-routing")
+    form = lines.form(Routing.header, (1, 2))
     links, = lines.words("links", 1, _modes(form))
     modules, = lines.words("modules", 1, ("none", "largest", "sum"))
     phases, scale_capacity, scale_load = _scale(lines)
     paths = lines.rows("path", _path)
-    lines.end()
+    lines.end("path rows")
     return Routing(form, links, modules, phases, scale_capacity, scale_load, paths)
 
 
 def write_certificate(certificate: Certificate) -> str:
-    """The text of a certificate, its rows in their order."""
+    """The text of a certificate of any kind, its rows in their order."""
     counts = " ".join(f"{name} {getattr(certificate.counts, name)}" for name in _COUNTS)
     lines = [
-        f"mcf-certificate {certificate.form}", f"verdict {certificate.verdict}", f"links {certificate.links}",
+        f"{certificate.header} {_written_form(certificate)}", f"verdict {certificate.verdict}", f"links {certificate.links}",
         f"modules {certificate.modules}", f"net {counts}", f"gap {decimal_of(certificate.gap)}",
         f"phases {certificate.phases}", f"scale {certificate.scale_capacity} {certificate.scale_load}",
         _fraction_line("lower", certificate.lower, certificate.lower_millionths),
         _fraction_line("upper", certificate.upper, certificate.upper_millionths),
     ]
+    if isinstance(certificate, TotalCertificate):
+        lines.append(f"threshold {certificate.threshold}")
     lines += _path_lines(certificate.paths)
     lines += [f"length {row.cell} {row.length}" for row in certificate.lengths]
     lines += [" ".join(["potential", row.node, *map(str, row.values)]) for row in certificate.potentials]
+    if isinstance(certificate, HopCertificate):
+        lines += [" ".join(["layer", row.node, str(row.index), *map(str, row.values)]) for row in certificate.layers]
     return "\n".join(lines) + "\nend\n"
 
 
@@ -144,6 +200,11 @@ def write_routing(routing: Routing) -> str:
     return "\n".join(lines + _path_lines(routing.paths)) + "\nend\n"
 
 
+def _written_form(certificate: Certificate) -> int:
+    """The number of line 1: that of the form of cell words, where the kind has several."""
+    return certificate.form if type(certificate) is Certificate else 1
+
+
 def _path_lines(paths: list[Path]) -> list[str]:
     """The lines of paths."""
     return [" ".join(["path", path.demand, str(path.weight), *path.cells]) for path in paths]
@@ -152,6 +213,25 @@ def _path_lines(paths: list[Path]) -> list[str]:
 def _fraction_line(keyword: str, fraction: tuple[int, int], millionths: int) -> str:
     """Line 9 or 10."""
     return f"{keyword} {fraction[0]}/{fraction[1]} {decimal_of(millionths)}"
+
+
+def _head(lines: _Lines, kind: type[Certificate]) -> tuple[object, ...]:
+    """Lines 1 to 10, as the fields of a certificate without rows."""
+    form = lines.form(kind.header, (1, 2)) if kind is Certificate else lines.form(kind.header, (1,)) + 1
+    verdict, = lines.words("verdict", 1, ("closed", "open"))
+    links, = lines.words("links", 1, _modes(form))
+    modules, = lines.words("modules", 1, ("none", "largest", "sum"))
+    counts = _counts(lines)
+    gap = lines.value(millionths_of, lines.words("gap", 1)[0])
+    scale = _scale(lines)
+    return form, links, modules, *scale, [], verdict, counts, gap, *_fraction(lines, "lower"), *_fraction(lines, "upper")
+
+
+def _rows(lines: _Lines, certificate: Certificate) -> None:
+    """Paths, lengths and potentials."""
+    certificate.paths = lines.rows("path", _path)
+    certificate.lengths = lines.rows("length", lambda words: Length(words[0], whole_of(words[1])))
+    certificate.potentials = lines.rows("potential", lambda words: Potential(words[0], tuple(map(whole_of, words[1:]))))
 
 
 def _modes(form: int) -> tuple[str, ...]:
@@ -216,12 +296,13 @@ class _Lines:
             raise self.error("the text is cut off")
         return self._lines[self._at - 1]
 
-    def form(self, kind: str) -> int:
-        """The form of line 1."""
+    def form(self, header: str, forms: tuple[int, ...]) -> int:
+        """The form of line 1, one of those that are known."""
+        known = {f"{header} {form}": form for form in forms}
         line = self._next()
-        if line not in (f"{kind} 1", f"{kind} 2"):
-            raise self.error(f"{kind} 1 or {kind} 2 is expected")
-        return int(line[-1])
+        if line not in known:
+            raise self.error(f"{' or '.join(known)} is expected")
+        return known[line]
 
     def words(self, keyword: str, count: int, allowed: tuple[str, ...] | None = None) -> list[str]:
         """The words of the next line behind its keyword, so many and from those that are allowed."""
@@ -242,7 +323,7 @@ class _Lines:
                 raise self.error(f"no row of kind {keyword}") from error
         return rows
 
-    def end(self) -> None:
-        """The last line."""
+    def end(self, rows: str) -> None:
+        """The last line, behind rows of these kinds."""
         if self._next() != "end" or self._at != len(self._lines):
-            raise self.error("path, length and potential rows, and end, are expected in this order")
+            raise self.error(f"{rows}, and end, are expected in this order")

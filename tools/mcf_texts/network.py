@@ -81,6 +81,11 @@ class Demand:
         """Routing unit times demand value, in the file's own unit."""
         return fraction_of(self.value) if self.unit == "1" else fraction_of(self.unit) * fraction_of(self.value)
 
+    @property
+    def hops(self) -> int | None:
+        """The longest path as a whole number, rounded down; None where it is `UNLIMITED`."""
+        return None if self.longest == "UNLIMITED" else int(fraction_of(self.longest))
+
 
 @dataclass(frozen=True, slots=True)
 class Network:

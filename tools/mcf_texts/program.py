@@ -59,13 +59,13 @@ class Program:
         """The rows of any network file, by `mcf print`."""
         return read_network(self.ask("print", _word(file)))
 
-    def solve(self, file: str | Path, *options: str, seconds: float | None = None) -> str:
-        """The certificate of a network file, closed or open."""
-        return self.ask("solve", *options, "--", str(file), statuses=(0, 1), seconds=seconds)
+    def solve(self, file: str | Path, *options: str, seconds: float | None = None, command: str = "solve") -> str:
+        """The certificate of a network file, closed or open; the command may also be `hops` or `throughput`."""
+        return self.ask(command, *options, "--", str(file), statuses=(0, 1), seconds=seconds)
 
-    def check(self, file: str | Path, certificate: str | Path, seconds: float | None = None) -> Answer:
-        """What `mcf check` says of a certificate or routing."""
-        return self.run("check", _word(file), _word(certificate), seconds=seconds)
+    def check(self, file: str | Path, certificate: str | Path, seconds: float | None = None, command: str = "check") -> Answer:
+        """What `mcf check` says of a certificate or routing; `checkhops` and `checkthroughput` judge the other kinds (`judge_of`)."""
+        return self.run(command, _word(file), _word(certificate), seconds=seconds)
 
     @cached_property
     def form(self) -> int:

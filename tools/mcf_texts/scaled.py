@@ -88,6 +88,12 @@ class ScaledNetwork:
         old, new = ({word: number for number, word in enumerate(words)} for words in self._words)
         return old, new
 
+    @cached_property
+    def limits(self) -> tuple[int | None, ...]:
+        """The limit of hops of each commodity, as `mcf hops` keeps it; None where there is none."""
+        whole = (self.network.demands[commodity.demand].hops for commodity in self.commodities)
+        return tuple(hops if hops is not None and hops < len(self.network.nodes) - 1 else None for hops in whole)
+
     def words(self, form: int) -> tuple[str, ...]:
         """The names of the cells in a certificate of form 1 or 2."""
         return self._words[self._form(form)]

@@ -4,7 +4,7 @@ from __future__ import annotations
 
 from fractions import Fraction
 
-from .certificate import Certificate, Path, Routing
+from .certificate import Certificate, HopCertificate, Path, Routing, TotalCertificate
 from .errors import TextError
 from .scaled import ScaledNetwork
 
@@ -59,8 +59,9 @@ def utilisation(scaled: ScaledNetwork, text: Routing) -> list[Fraction | None]:
 
 
 def lower(text: Routing) -> Fraction:
-    """The fraction of every demand that the paths carry: phases times the scale."""
-    return Fraction(text.phases * text.scale_capacity, text.scale_load)
+    """The fraction of every demand that the paths carry, phases times the scale; of a total, all weights times the scale."""
+    carried = sum(path.weight for path in text.paths) if isinstance(text, TotalCertificate) else text.phases
+    return Fraction(carried * text.scale_capacity, text.scale_load)
 
 
 def lengths(scaled: ScaledNetwork, certificate: Certificate) -> list[int]:
@@ -78,19 +79,37 @@ def volume(scaled: ScaledNetwork, certificate: Certificate) -> int:
 
 
 def weighted_distance(scaled: ScaledNetwork, certificate: Certificate) -> int:
-    """Amount times potential difference, 0 where it is negative, over all commodities: what is below in line 10."""
+    """Amount times distance, over all commodities: what is below in line 10. Without a limit of hops it is the potential difference."""
+    pairs = zip(scaled.commodities, _distances(scaled, certificate))
+    return sum(commodity.amount * max(0, distance) for commodity, distance in pairs)
+
+
+def excess(scaled: ScaledNetwork, certificate: TotalCertificate) -> int:
+    """Amount times what the threshold has above the potential difference, over all commodities: the rest of what is above in line 10."""
+    pairs = zip(scaled.commodities, _distances(scaled, certificate))
+    return sum(commodity.amount * max(0, certificate.threshold - distance) for commodity, distance in pairs)
+
+
+def _distances(scaled: ScaledNetwork, certificate: Certificate) -> list[int]:
+    """The potential difference of each commodity, or what its layers have, where the certificate keeps its limit of hops."""
+    limits = scaled.limits if isinstance(certificate, HopCertificate) else (None,) * len(scaled.commodities)
+    layers = {(row.node, row.index): row.values for row in certificate.layers} if isinstance(certificate, HopCertificate) else {}
     rows = {row.node: row.values for row in certificate.potentials}
-    total = 0
-    for commodity in scaled.commodities:
+    found = []
+    for commodity, limit in zip(scaled.commodities, limits):
         name = scaled.network.nodes[commodity.source].id
-        if name not in rows:
-            raise TextError(f"the certificate has no potentials of {name}")
-        total += commodity.amount * max(0, rows[name][commodity.target] - rows[name][commodity.source])
-    return total
+        try:
+            first, last = (rows[name],) * 2 if limit is None else (layers[name, 0], layers[name, limit])
+        except KeyError as error:
+            raise TextError(f"the certificate has no {'potentials' if limit is None else 'layers'} of {name}") from error
+        found.append(last[commodity.target] - first[commodity.source])
+    return found
 
 
 def upper(scaled: ScaledNetwork, certificate: Certificate) -> Fraction:
-    """The bound: no routing carries more than this fraction of every demand."""
+    """The bound: no routing of the kind carries more than this fraction of every demand, or than this total."""
+    if isinstance(certificate, TotalCertificate):
+        return Fraction(volume(scaled, certificate) + excess(scaled, certificate), certificate.threshold)
     return Fraction(volume(scaled, certificate), weighted_distance(scaled, certificate))
 
 

@@ -10,10 +10,12 @@ from tqdm import tqdm
 
 from certify_lp.build import shares_of_demands
 from certify_lp.clp import load_clp
-from certify_lp.path_lp import PathProgram, Pool
+from certify_lp.path_lp import FractionProgram
+from certify_lp.pool import Pool
 from certify_lp.prices import Bounds
 from certify_lp.problem import Arcs, Pairs, pairs_of
 from certify_lp.rounding import Rounding
+from certify_lp.search import AllPaths
 from mcf_texts import ScaledNetwork, TextError
 
 from .shortest import Walk, Ways
@@ -26,13 +28,13 @@ def split_over_few(scaled: ScaledNetwork, ways: Ways, count: int, deadline: floa
     pairs = pairs_of(scaled)
     pool = _pool(scaled, pairs, ways, count, notes)
     capacities = [cell.capacity for cell in scaled.cells]
-    program = PathProgram(library, pairs, Arcs(scaled), np.array(capacities, np.float64), pool)
+    program = FractionProgram(library, pairs, AllPaths(pairs, Arcs(scaled)), np.array(capacities, np.float64), pool)
     optimum = program.optimise(deadline, lambda found: None, grow=False)
     if not optimum.proved:
         notes.append("the time was too short for the best split over these paths")
     matrix = pool.cells_by_walks(len(capacities))
     amounts = [int(amount) for amount in pairs.amount]
-    aim = _aim(amounts, capacities, matrix.T.tocsr(), np.array(pool.pair), optimum.last_prices, optimum.congestion)
+    aim = _aim(amounts, capacities, matrix.T.tocsr(), np.array(pool.pair), optimum.last_prices, optimum.carried)
     rounding = Rounding(matrix, np.array(pool.pair), amounts, capacities, optimum.flows)
     whole = rounding.best(aim, aim, max(deadline, time.monotonic() + 1))
     if whole.lower < aim:
@@ -61,7 +63,7 @@ def _pool(scaled: ScaledNetwork, pairs: Pairs, ways: Ways, count: int, notes: li
     return pool
 
 
-def _aim(amounts: list[int], capacities: list[int], cells: object, pair: np.ndarray, prices: np.ndarray, congestion: float) -> Fraction:
+def _aim(amounts: list[int], capacities: list[int], cells: object, pair: np.ndarray, prices: np.ndarray, carried: float) -> Fraction:
     """What no split over these paths can pass: an exact bound of the prices, or the linear program's own number and a little more."""
     def shortest(lengths: np.ndarray) -> np.ndarray:
         """The least length of a path of each pair."""
@@ -70,4 +72,4 @@ def _aim(amounts: list[int], capacities: list[int], cells: object, pair: np.ndar
         return found
 
     bound = Bounds(amounts, capacities, shortest).offer(prices)
-    return bound.value if bound is not None else Fraction(1 / congestion) * Fraction(1_000_001, 1_000_000)
+    return bound.value if bound is not None else Fraction(carried) * Fraction(1_000_001, 1_000_000)

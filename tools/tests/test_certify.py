@@ -11,28 +11,20 @@ import pytest
 
 from certify_lp import clp, run
 from certify_lp.build import gap_of, in_form
-from certify_lp.path_lp import PathProgram, Pool, complete
-from certify_lp.prices import Bounds, over_all_paths
+from certify_lp.path_lp import FractionProgram
+from certify_lp.pool import Pool, complete
+from certify_lp.prices import Bounds
 from certify_lp.problem import Arcs, pairs_of
 from certify_lp.rounding import Rounding
-from certify_lp.run import Begun, Request, certify
+from certify_lp.run import certify
+from certify_lp.search import AllPaths
 from certify_lp.start import simple
-from mcf_texts import (Certificate, Demand, Link, Network, Node, Program, Routing, ScaledNetwork, TextError, load_text,
-                       read_certificate, save_text, scale, write_certificate, write_network)
+from certified import asked, bounds, command, unlimited
+from mcf_texts import (Certificate, Demand, Link, Network, Node, Program, TextError, load_text, read_certificate, save_text, scale,
+                       write_certificate, write_network)
 from networks import arc_optimum, near, odd_network
 
 SIX = ("abilene", "polska", "nobel-us", "geant", "germany50", "ta2")
-
-
-def asked(net: Path, **options: object) -> Request:
-    """A request with defaults."""
-    given: dict[str, object] = {"links": None, "modules": None, "gap": None, "seconds": 3600.0, "start": None}
-    return Request(str(net), **{**given, **options})  # type: ignore[arg-type]
-
-
-def bounds(certificate: Certificate) -> tuple[Fraction, Fraction]:
-    """Lower and upper."""
-    return Fraction(*certificate.lower), Fraction(*certificate.upper)
 
 
 def twice(root: Path, net: Path, text: str, room: Path) -> str:
@@ -40,12 +32,6 @@ def twice(root: Path, net: Path, text: str, room: Path) -> str:
     save_text(room / "cert", text)
     done = subprocess.run([str(root / "tools/check_twice"), str(net), str(room / "cert")], capture_output=True, text=True, check=False)
     return done.stdout.strip()
-
-
-def command(root: Path, program: Program, *words: str) -> subprocess.CompletedProcess[str]:
-    """A run of the tool itself."""
-    done = [str(root / "tools/certify"), "--mcf", program.path, *words]
-    return subprocess.run(done, capture_output=True, text=True, encoding="latin-1", check=False)
 
 
 def line_network(*capacities: str, amount: str = "1") -> Network:
@@ -190,12 +176,6 @@ def test_drawn_network_of_middle_size(program: Program, root: Path, tmp_path: Pa
         assert result.line == twice(root, net, result.text, tmp_path)
 
 
-def unlimited(scaled: ScaledNetwork, form: int) -> Begun:
-    """A start without any paths."""
-    routing = Routing(form, scaled.links, scaled.modules, 0, 0, 1)
-    return Begun(None, scaled, Certificate(form, scaled.links, scaled.modules, 0, 0, 1, counts=scaled.counts(0)), routing, True)  # type: ignore[arg-type]
-
-
 @pytest.mark.parametrize("seed", range(12))
 def test_bidirected_links_in_form_2(root: Path, tmp_path: Path, seed: int) -> None:
     network = odd_network(100 + seed)
@@ -233,7 +213,7 @@ def test_an_optimum_that_no_number_of_phases_meets() -> None:
 def test_bound_is_exact_for_prices_with_noise() -> None:
     scaled = scale(line_network("3", "5", "11"))
     pairs, arcs = pairs_of(scaled), Arcs(scaled)
-    found = Bounds([1], [3, 5, 11], over_all_paths(pairs, arcs)).offer(np.array([0.2500000001, 0.25, 0.2499999999]))
+    found = Bounds([1], [3, 5, 11], AllPaths(pairs, arcs).distances).offer(np.array([0.2500000001, 0.25, 0.2499999999]))
     assert found is not None and found.value == 19
 
 
@@ -251,11 +231,12 @@ def test_rounding_keeps_sums_and_repairs() -> None:
     pairs, arcs = pairs_of(scaled), Arcs(scaled)
     capacities = [7, 3, 2]
     pool = Pool(2)
-    complete(pool, arcs, pairs, np.array([1.0, 9.0, 9.0]))
+    search = AllPaths(pairs, arcs)
+    complete(pool, search, np.array([1.0, 9.0, 9.0]))
     library = clp.load_clp()
-    optimum = PathProgram(library, pairs, arcs, np.array(capacities, float), pool).optimise(np.inf, lambda found: None)
-    bound = Bounds([5, 1], capacities, over_all_paths(pairs, arcs)).offer(optimum.prices)
-    assert bound is not None and optimum.proved and near(bound.value, 1 / optimum.congestion)
+    optimum = FractionProgram(library, pairs, search, np.array(capacities, float), pool).optimise(np.inf, lambda found: None)
+    bound = Bounds([5, 1], capacities, search.distances).offer(optimum.prices)
+    assert bound is not None and optimum.proved and near(bound.value, optimum.carried)
     matrix = pool.cells_by_walks(3)
     whole = Rounding(matrix, np.array(pool.pair), [5, 1], capacities, optimum.flows).best(bound.value, bound.value, np.inf)
     sums = np.bincount(pool.pair, whole.weights)

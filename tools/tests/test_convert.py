@@ -122,6 +122,12 @@ def test_a_missing_capacity_is_refused_unless_one_is_given():
     assert line == "convert: link Chicago-None has no capacity, and 1 others have none: --capacity-default X gives them X"
 
 
+def test_one_missing_capacity_is_told_alone(tmp_path: Path):
+    (tmp_path / "t.csv").write_text("source,target,capacity\nA,B,3\nB,C,\n")
+    line = refusal(tmp_path / "t.csv", "-", "--to", "net")
+    assert line == "convert: link B-C has no capacity: --capacity-default X gives it X"
+
+
 def test_repetita_is_one_way_and_names_nodes_by_number():
     text, said = convert("small.graph", "small.0000.demands", "-", "--to", "net", "--merge", "--unit", "Mbit")
     assert rows(text, "NODES")[2] == "2_Washington_DC ( -77.03637 38.89511 )"
@@ -340,6 +346,87 @@ def test_columns_can_be_named(tmp_path: Path):
     (tmp_path / "t.csv").write_text("left;right;size\nA;B;3\n")
     text, _ = convert(tmp_path / "t.csv", "-", "--to", "net", "--columns", "source=left,target=right,capacity=size")
     assert rows(text, "LINKS") == ["A-B ( A B ) 3 0 0 0 ( )"]
+
+
+LINKS_CSV = "source,target,capacity\nA,B,3\nB,C,4\n"
+
+
+def test_columns_are_named_for_the_tables_that_have_them(tmp_path: Path):
+    (tmp_path / "links.csv").write_text(LINKS_CSV)
+    (tmp_path / "demands.csv").write_text("source,target,demand,Mbps\nA,C,d1,2\nB,C,d2,1.5\n")
+    (tmp_path / "square.csv").write_text("-,A,B,C\nA,0,7,0\nB,0,0,0\nC,0,0,0\n")
+    for words in (["links.csv", "demands.csv"], ["--net", "links.csv", "demands.csv", "--merge"]):
+        files = [tmp_path / word if word.endswith(".csv") else word for word in words]
+        text, said = convert(*files, "-", "--to", "demands", "--columns", "amount=Mbps")
+        assert [row.split(",")[1:5] for row in text.splitlines()[1:]] == [["d1", "A", "C", "2"], ["d2", "B", "C", "1.5"]]
+        assert not [line for line in said if "column" in line]
+    # (a square has no columns to be named, and is read beside a table whose columns are)
+    text, _ = convert(tmp_path / "links.csv", tmp_path / "square.csv", "-", "--to", "net", "--columns", "capacity=capacity")
+    assert rows(text, "DEMANDS") == ["A-B ( A B ) 1 7 UNLIMITED"]
+
+
+def test_columns_that_no_table_has_are_refused(tmp_path: Path):
+    (tmp_path / "links.csv").write_text(LINKS_CSV)
+    (tmp_path / "demands.csv").write_text("source,target,amount\nA,C,2\n")
+    (tmp_path / "odd.csv").write_text("left,right,size\nA,B,3\n")
+    both = [tmp_path / "links.csv", tmp_path / "demands.csv"]
+    assert refusal(*both, "-", "--to", "net", "--columns", "amount=Mbps") == (
+        f"convert: no table has a column 'Mbps': {both[0]} has source, target, capacity; {both[1]} has source, target, amount"
+    )
+    said = refusal(tmp_path / "odd.csv", "-", "--to", "net", "--columns", "source=left,target=rigth,capacity=size")
+    assert said.endswith("it has left, right, size, and no 'rigth' (--columns names them)")
+    assert refusal(EXAMPLES / "polska.net", "-", "--to", "net", "--columns", "amount=Mbps").endswith("no table has a column 'Mbps'")
+
+
+@pytest.mark.parametrize("words", ["Mbps=amount", "amount", "amount=", "=Mbps"])
+def test_columns_have_a_role_and_a_name(words: str):
+    assert f"--columns: '{words}' is no ROLE=NAME; roles are id, node, source" in refusal(
+        "links.csv", "-", "--to", "net", "--columns", words
+    )
+
+
+@pytest.mark.parametrize(
+    ("text", "demands"),
+    [
+        ("source,target,demand\nA,C,2\nB,C,0.5\n", ["A-C ( A C ) 1 2 UNLIMITED", "B-C ( B C ) 1 0.5 UNLIMITED"]),
+        ("name,from,to,Demand\n1,A,C,2e1\n", ["1 ( A C ) 1 20 UNLIMITED"]),
+        (",from,to,demand,owner\n0,A,C,3,east\n", ["A-C ( A C ) 1 3 UNLIMITED"]),
+    ],
+)
+def test_a_column_of_demands_that_has_numbers_alone_is_the_amount_and_said(tmp_path: Path, text: str, demands: list[str]):
+    (tmp_path / "links.csv").write_text(LINKS_CSV)
+    (tmp_path / "d.csv").write_text(text)
+    written, said = convert(tmp_path / "links.csv", tmp_path / "d.csv", "-", "--to", "net")
+    assert rows(written, "DEMANDS") == demands
+    name = "Demand" if "Demand" in text else "demand"
+    assert said[0] == f"read: {tmp_path / 'd.csv'}: column {name} as the amounts, since it has numbers alone"
+
+
+def test_a_column_of_demands_stays_the_name_beside_amounts(tmp_path: Path):
+    (tmp_path / "links.csv").write_text(LINKS_CSV)
+    (tmp_path / "d.csv").write_text("demand,source,target,value\n7,A,C,2\n")
+    written, said = convert(tmp_path / "links.csv", tmp_path / "d.csv", "-", "--to", "net")
+    assert rows(written, "DEMANDS") == ["7 ( A C ) 1 2 UNLIMITED"] and not said
+
+
+@pytest.mark.parametrize(
+    ("text", "likely"),
+    [
+        ("source,target,demand\nA,C,2\nB,C,n/a\n", "demand"),
+        ("source,target,demand\nA,C,2\nB,C\n", "demand"),
+        ('source,target,demand\nA,C,"1,5"\n', "demand"),
+        ("demand,source,target,Mbps\n1,A,C,2\n", "Mbps"),
+        ("demand,source,target,Mbps\nd1,A,C,2\n", "Mbps"),
+    ],
+)
+def test_amounts_are_not_guessed_where_two_columns_could_have_them_or_none(tmp_path: Path, text: str, likely: str):
+    (tmp_path / "d.csv").write_text(text)
+    said = refusal(tmp_path / "d.csv", "-", "--to", "demands")
+    assert "d.csv: no column is known to have the amounts; it has " in said
+    assert said.endswith(f"(--columns amount=NAME says which, as amount={likely})")
+    (tmp_path / "d.csv").write_text(text.replace("n/a", "1").replace("B,C\n", "B,C,1\n").replace('"1,5"', "1.5"))
+    written, _ = convert(tmp_path / "d.csv", "-", "--to", "demands", "--columns", f"amount={likely}")
+    assert written.splitlines()[1].split(",")[4] in ("2", "1.5")
 
 
 def test_a_demand_to_no_node_is_refused(tmp_path: Path):

@@ -8,6 +8,8 @@ from pathlib import Path
 
 import pytest
 
+from mcf_hints.words import COMMANDS as WORDS
+from mcf_hints.words import OPTIONS
 from mcf_texts import Program
 
 STARTER = '#!/bin/sh\nhere={root}\n. "$here/tools/mcf_hints/starter.sh"\nanswer_help "$@"\nprogram={program}\nrun_program "$@"\n'
@@ -31,7 +33,31 @@ def room(program: Program, root: Path, tmp_path: Path) -> Path:
     return tmp_path
 
 
-@pytest.mark.parametrize("document, least", [("README.md", 5), ("docs/guide.md", 25)])
+def pages(root: Path) -> list[Path]:
+    """All documents."""
+    return [root / "README.md", *sorted((root / "docs").rglob("*.md"))]
+
+
+COMMANDS = ("batch", "check", "checkhops", "checkthroughput", "gen", "hops", "print", "solve", "sweep", "sweepsolve", "throughput", "tighten",
+            "trial", "upgrade", "whatif")
+
+
+def test_each_command_has_a_page(root: Path) -> None:
+    assert sorted(page.stem for page in (root / "docs/formats").glob("*.md")) == sorted(["README", *COMMANDS])
+
+
+def test_the_manual_has_all_commands_and_options(root: Path) -> None:
+    text = (root / "docs/mcf.1").read_text()
+    synopsis, rest = text[text.index(".SH SYNOPSIS"):].split(".SH DESCRIPTION")
+    description, options = rest[:rest.index(".SH HELP")].split(".SH OPTIONS")
+    found = re.findall(r"^\.B mcf (\w+)\n\.I ([A-Z0-9 ]+)\n(?:\.RI \[ (\w+) \]\n)?", synopsis, re.M)
+    assert {name: (tuple(words.split()), (spare,) if spare else ()) for name, words, spare in found} == {
+        name: (command.words, command.spare) for name, command in WORDS.items()}
+    assert re.findall(r"^\.TP\n\.B (\w+)$", description, re.M) == list(dict.fromkeys(re.findall(r"^\.B mcf (\w+)$", synopsis, re.M)))
+    assert [option.replace("\\-", "-") for option in re.findall(r"^\.TP\n\.B[RI]+ (\S+)", options, re.M)] == list(OPTIONS)
+
+
+@pytest.mark.parametrize("document, least", [("README.md", 5), ("docs/guide.md", 25), *((f"docs/formats/{name}.md", 1) for name in COMMANDS)])
 def test_commands_give_what_is_shown(room: Path, root: Path, program: Program, monkeypatch: pytest.MonkeyPatch, document: str,
                                      least: int) -> None:
     monkeypatch.setenv("MCF", program.path)
@@ -49,13 +75,13 @@ def test_commands_give_what_is_shown(room: Path, root: Path, program: Program, m
 
 
 def test_links_of_the_documents_lead_somewhere(root: Path) -> None:
-    for document in [root / "README.md", *sorted((root / "docs").glob("*.md"))]:
+    for document in pages(root):
         for target in re.findall(r"\]\(([^)#:]+)(?:#[^)]*)?\)", document.read_text()):
             assert (document.parent / target).exists(), (document.name, target)
 
 
 def test_anchors_of_the_documents_are_there(root: Path) -> None:
-    for document in [root / "README.md", *sorted((root / "docs").glob("*.md"))]:
+    for document in pages(root):
         for target, anchor in re.findall(r"\]\(([^)#:]*)#([^)]+)\)", document.read_text()):
             other = document.parent / target if target else document
             titles = re.findall(r"^#+ (.+)$", other.read_text(), re.M)

@@ -122,6 +122,15 @@ def test_first_word_that_does_not_fit(line: str, said: str) -> None:
     assert told is not None and told.startswith(f"hint: usage: {said}") and told.endswith(" (docs/guide.md, part 10)")
 
 
+@pytest.mark.parametrize("line", ["solve n --hops 3", "solve --hops=3 n", "hops n --hops 3", "hops n --max-hops 3", "checkhops a b --hop 3",
+                                  "throughput n --hop-limit=3", "sweepsolve n --limit 3", "gen --hops 3"])
+def test_a_hop_limit_is_told_to_be_a_word_of_a_demand(line: str) -> None:
+    option = next(word for word in line.replace("=", " ").split() if word.startswith("--"))
+    told = hint(2, "/nothing", line.split(), 99)
+    assert told == (f"hint: usage: `{option}` is no option of {line.split()[0]}: the hop limit of a demand is the last word of its row in the "
+                    "network's file, and hops keeps it (docs/guide.md, part 8)")
+
+
 @pytest.mark.parametrize("line", FITS)
 def test_words_that_fit(line: str) -> None:
     assert read(line.split()).command == line.split()[0]
@@ -272,6 +281,9 @@ batch net list    | 3 | refused list M7 line 2  | 2^44
 batch net list    | 3 | refused list M8 line 2  | no demand of the matrix
 batch net list    | 3 | refused list TooLong     | limit of bytes
 batch net list    | 1 | matrix m1               | both fractions of each
+batch net list    | 1 | matrix m1               | more --phases, another --step or a greater --gap may close it
+batch net list    | 1 | matrix m1               | a greater --step closes sooner
+batch net list    | 1 | matrix m1               | tighten its certificate, or take tools/certify
 batch net list    | 3 | refused work 2129920    | demands of all matrices
 sweepsolve net    | 3 | refused work 2129920    | links times demands
 checkhops net limited  | 3 | refused net N11 line 7  | 64 or less
@@ -332,6 +344,8 @@ check net cert    | 1 | invalid C10             | verdict
 solve net         | 1 | mcf-certificate 2       | more --phases
 trial 1 2 2 1     | 1 | trial nodes             | more --phases
 sweepsolve net    | 1 | sweep L1 open           | without some link
+sweepsolve net    | 1 | sweep L1 open           | a greater --step closes sooner
+sweepsolve net    | 1 | sweep L1 open           | without it and tighten the certificate, or take tools/certify
 check net cert    | 3 | refused cert X9 line 1  | docs/formats.md tells
 check net cert    | 1 | something else          | names the first one
 check net cert    | 3 | something else          | names the kind

@@ -7,10 +7,11 @@ from pathlib import Path
 
 import pytest
 
-from mcf_texts import (Demand, Link, Module, Network, Node, Program, TextError, cells_of_path, decimal_of, find_program, fraction_of, load_text,
-                       loads, lower, millionths_of, nodes_of_walk, read_any, read_certificate, read_network, read_routing,
-                       rounded_down, rounded_up, routed, scale, shares_of_bound, true_gap, upper, utilisation, volume,
-                       weighted_distance, whole_of, write_certificate, write_network, write_routing)
+from mcf_texts import (Demand, HopCertificate, Layer, Link, Module, Network, Node, Program, TextError, TotalCertificate, cells_of_path,
+                       decimal_of, excess, find_program, fraction_of, judge_of, load_text, loads, lower, millionths_of, nodes_of_walk,
+                       read_any, read_certificate, read_hops, read_network, read_routing, read_throughput, rounded_down, rounded_up,
+                       routed, scale, shares_of_bound, true_gap, upper, utilisation, volume, weighted_distance, whole_of,
+                       write_certificate, write_network, write_routing)
 from mcf_texts.graph import graph_of
 
 HEAD = "?SNDlib native format; type: network; version: 1.0\n"
@@ -146,6 +147,55 @@ def test_certificate_of_form_2() -> None:
     assert shares_of_bound(scaled, certificate) == [Fraction(1, 2)] * 2
     assert utilisation(scaled, certificate) == [1, 1]
     assert scaled.counts(0) == certificate.counts
+
+
+def test_other_kinds_are_written_to_the_byte(root: Path) -> None:
+    limited, total = load_text(root / "examples/detours.hops"), load_text(root / "examples/in-a-row.throughput")
+    hops, throughput = read_hops(limited), read_throughput(total)
+    assert read_any(limited) == hops and read_any(total) == throughput
+    assert write_certificate(hops) == limited and write_certificate(throughput) == total
+    assert hops.layers[1] == Layer("A", 1, (0, 1, 1, 0, 1)) and throughput.threshold == 1 and hops.form == throughput.form == 2
+    assert [judge_of(text) for text in (limited, total, BIDIRECTED, "mcf-routing 2\n", "")] == ["checkhops", "checkthroughput"] + ["check"] * 3
+    assert (hops.judge, throughput.judge, read_any(BIDIRECTED).judge) == ("checkhops", "checkthroughput", "check")
+
+
+def test_values_of_other_kinds() -> None:
+    nodes, links = tuple(map(Node, "ABC")), (Link("AB", "A", "B", "10"), Link("BC", "B", "C", "10"))
+    rows = (Demand("AC", "A", "C", "1", "10", "1.9"), Demand("AB", "A", "B", "1", "10", "2"), Demand("BC", "B", "C", "1", "10", "1e9"))
+    scaled = scale(Network((*nodes, Node("D")), links, rows))
+    assert scaled.limits == (1, 2, None)
+    head = ("verdict open\nlinks undirected\nmodules largest\nnet nodes 4 cells 2 commodities 3 decimals 0 skipped 0 left 0 hops 3\n"
+            "gap 0.000000\nphases 1\nscale 2 1\nlower 6/1 6.000000\nupper 9/1 9.000000\n")
+    total = read_throughput(f"mcf-throughput 1\n{head}threshold 3\npath AB 1 =AB\npath BC 2 =BC\nlength =AB 2\nlength =BC 2\n"
+                            "potential A 0 2 4 9\npotential B 2 0 2 9\nend\n")
+    assert isinstance(total, TotalCertificate) and lower(total) == 6
+    assert (volume(scaled, total), excess(scaled, total), upper(scaled, total)) == (40, 20, 20)
+    hops = read_hops(f"mcf-hops 1\n{head}path AB 1 =AB\nlength =AB 2\nlength =BC 2\npotential B 2 0 2 9\n"
+                     "layer A 0 1 5 5 5\nlayer A 1 1 3 5 5\nlayer A 2 1 3 5 5\nend\n")
+    assert isinstance(hops, HopCertificate) and lower(hops) == 2
+    assert weighted_distance(scaled, hops) == 10 * 4 + 10 * 2 + 10 * 2 and upper(scaled, hops) == Fraction(40, 80)
+    del hops.layers[1]
+    with pytest.raises(TextError, match="no layers of A"):
+        upper(scaled, hops)
+
+
+@pytest.mark.parametrize("old,new", [
+    ("mcf-hops 1", "mcf-hops 2"), ("mcf-hops 1", "mcf-throughput 1"), ("mcf-throughput 1", "mcf-throughput 2"),
+    ("mcf-throughput 1", "mcf-hops 1"), ("threshold 1", "threshold"), ("threshold 1", "threshold 01"), ("threshold 1\n", ""),
+    ("layer A 1 0", "layer A x 0"), ("layer A 1 0", "layer A 1 -1"), ("layer A 0 0 1 1 1 1", "layer A"), ("layer A 0", "potential A"),
+    ("\nend\n", "\nlength =AB 1\nend\n"), ("\nend\n", "\n"),
+])
+def test_damaged_certificates_of_other_kinds_are_told(root: Path, old: str, new: str) -> None:
+    texts = [load_text(root / "examples" / name) for name in ("detours.hops", "in-a-row.throughput")]
+    for text in texts:
+        damaged = text.replace(old, new, 1)
+        if damaged == text:
+            continue
+        try:
+            assert write_certificate(read_any(damaged)) == damaged  # type: ignore[arg-type]
+            assert new == "potential A", "potentials may stand before layers"
+        except TextError as error:
+            assert str(error).startswith("line ") and "\n" not in str(error)
 
 
 @pytest.mark.parametrize("old,new", [

@@ -494,3 +494,11 @@ def test_a_routing_and_a_certificate_side_by_side(tmp_path: Path, program: Progr
     assert [line.split(":")[0] for line in out.splitlines()] == ["Before", "After"]
     text = (tmp_path / "x.html").read_text("utf-8")
     assert "Links before and after" in text and "<h3>Before</h3>" in text and "<h3>After</h3>" in text
+
+
+def test_certificates_of_other_kinds_are_one_line(program: Program):
+    for net, certificate, judge in (("detours", "detours.hops", "checkhops"), ("in-a-row", "in-a-row.throughput", "checkthroughput")):
+        words = [str(REPORT), str(EXAMPLES / f"{net}.net"), str(EXAMPLES / certificate), "--csv", "-", "--mcf", program.path]
+        done = subprocess.run(words, capture_output=True, text=True, check=False)
+        assert done.returncode == 2 and done.stdout == ""
+        assert done.stderr.count("\n") == 1 and f"it is one for mcf {judge}, and only those of mcf solve" in done.stderr

@@ -40,10 +40,16 @@ def run(words: list[str], hints: str, **how) -> subprocess.CompletedProcess:
     return subprocess.run(words, env={**os.environ, **HINTS[hints]}, capture_output=True, timeout=60, **how)
 
 
+def heed_signals() -> None:
+    """Lets the signals of a terminal end what is started, though the tests themselves run behind `nohup` or `&`."""
+    for number in (signal.SIGINT, signal.SIGHUP, signal.SIGQUIT):
+        signal.signal(number, signal.SIG_DFL)
+
+
 def begun(words: list[str], hints: str) -> subprocess.Popen:
     """A run that has written its first line."""
     run = subprocess.Popen(words, env={**os.environ, **HINTS[hints]}, stdout=subprocess.PIPE, stderr=subprocess.DEVNULL,
-                           start_new_session=True)
+                           start_new_session=True, preexec_fn=heed_signals)
     assert run.stdout is not None and run.stdout.readline() == b"begun\n"
     return run
 

@@ -19,10 +19,10 @@ use Rattle.flow_paths.specs.DualRows.{Potential, DualRows}
 use Rattle.flow_paths.specs.Certificate.{length_of, lengths_in, distance_of, distances_in, upper_of, DistanceDivides}
 use Rattle.cut_bound.specs.Cuts.{Side, cut_value, cut_dual}
 use Rattle.cut_bound.specs.Candidates.{candidates, fronts, is_crossed, node_sides, no_dual, rows_in, with_cuts, IsBestDual}
-use Rattle.flow_paths.specs.Least.{least_by}
-use Rattle.cut_bound.specs.Laws.{GoBothWays}
+use Rattle.flow_paths.specs.Least.{least_by, IsFirstLeast}
+use Rattle.cut_bound.specs.Laws.{GoBothWays, IsFirstCandidate}
 use Rattle.cut_bound.proofs.CutDuals.{cut-value, cut-potentials}
-use Rattle.cut_bound.proofs.Leasts.{least-below}
+use Rattle.cut_bound.proofs.Leasts.{least-below, least-first}
 
 -- what was found in a list has what all of the list has
 All-find : {X : Type 0} (P : X → Type 0) (p : X → Bool) (xs : List X) (x : X) → All P xs → find p xs ≡ Some x → P x
@@ -73,15 +73,29 @@ all-divide net both own sides n h =
 pub All-front : {X : Type 0} (P : X → Type 0) (xs ys : List X) → All P (xs ++ ys) → All P xs
 All-front P xs ys h = λ i d l. subst P (get_or_append_left xs ys d i l) (h i d (omega (arith, length-append xs ys)))
 
+positive : (m : ℕ) → m ≢ 0 → 1 ≤ m
+positive m h = omega arith
+
+-- the best dual is the first of the least of the candidates
+pub best-first : (net : Network) (both : Bool) (own : List DualRows) (best : DualRows) → IsNetwork net → 1 ≤ length own → All (λ d. DistanceDivides net d) own → IsBestDual net both own best
+    → IsFirstCandidate net both own best
+best-first net both own best n some h is =
+    let sides = flat_map (node_sides both) (range_with_len 0 net.nodes) ++ fronts (rows_in own) is.levels in
+    let divide : All (λ (d : DualRows). 1 ≤ (upper_of net d).den) own = All-weaker (λ (d : DualRows). DistanceDivides net d) (λ (d : DualRows). 1 ≤ (upper_of net d).den) (λ d e. positive (upper_of net d).den e.divides) own h in
+    let longer = length-append own (map (cut_dual net both) (filter (is_crossed net both) sides)) in
+    record {
+      levels = is.levels;
+      are_levels = is.are_levels;
+      first = subst (λ (d : DualRows). IsFirstLeast (upper_of net) (candidates net both own is.levels) d) (sym is.best_is)
+          (least-first (upper_of net) no_dual (candidates net both own is.levels) (omega arith) (all-divide net both own sides n divide));
+    }
+
 pub best-not-above : (net : Network) (both : Bool) (own : List DualRows) (best : DualRows) → IsNetwork net → All (λ d. DistanceDivides net d) own → IsBestDual net both own best
     → All (λ d. FractionLe (upper_of net best) (upper_of net d)) own
 best-not-above net both own best n h is =
-    let divide : All (λ (d : DualRows). 1 ≤ (upper_of net d).den) own = All-weaker (λ (d : DualRows). DistanceDivides net d) (λ (d : DualRows). 1 ≤ (upper_of net d).den) (λ d e. let some = e.divides in positive (upper_of net d).den some) own h in
+    let divide : All (λ (d : DualRows). 1 ≤ (upper_of net d).den) own = All-weaker (λ (d : DualRows). DistanceDivides net d) (λ (d : DualRows). 1 ≤ (upper_of net d).den) (λ d e. positive (upper_of net d).den e.divides) own h in
     subst (λ (b : DualRows). All (λ (d : DualRows). FractionLe (upper_of net b) (upper_of net d)) own) (sym is.best_is) (front divide is.levels)
   where
-    positive : (m : ℕ) → m ≢ 0 → 1 ≤ m
-    positive m h = omega arith
-
     front : All (λ (d : DualRows). 1 ≤ (upper_of net d).den) own → (levels : List (List ℕ)) → All (λ (d : DualRows). FractionLe (upper_of net (least_by (upper_of net) no_dual (candidates net both own levels))) (upper_of net d)) own
     front divide levels = All-front (λ (d : DualRows). FractionLe (upper_of net (least_by (upper_of net) no_dual (candidates net both own levels))) (upper_of net d)) own
         (map (cut_dual net both) (filter (is_crossed net both) (flat_map (node_sides both) (range_with_len 0 net.nodes) ++ fronts (rows_in own) levels)))

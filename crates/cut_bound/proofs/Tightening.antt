@@ -19,11 +19,11 @@ use Rattle.flow_paths.specs.Evaluation.{fraction_le}
 use Rattle.flow_paths.specs.Least.{least_by}
 use Rattle.cut_bound.specs.Cuts.{Side, cut_value, cut_dual, length_rows, leaves, side_lengths, side_potential, side_row}
 use Rattle.cut_bound.specs.Candidates.{fronts, is_crossed, node_sides, no_dual, rows_in, IsBestDual}
-use Rattle.cut_bound.specs.Laws.{GoBothWays, IsBetter}
+use Rattle.cut_bound.specs.Laws.{GoBothWays, IsBetter, IsFirstCandidate}
 use Rattle.cut_bound.specs.Search.{IsDualOf}
 use Rattle.cut_bound.specs.Tightened.{duals, greatest_routing, routings, HasFraction, IsCertificateOf, IsMadeOf, IsTightened}
 use Rattle.cut_bound.proofs.Leasts.{le-trans, least-one, test-gt, test-le}
-use Rattle.cut_bound.proofs.Bounding.{best-not-above}
+use Rattle.cut_bound.proofs.Bounding.{best-first, best-not-above}
 use Rattle.cut_bound.proofs.CutDuals.{cut-valid}
 use Rattle.cut_bound.proofs.Making.{range-below}
 
@@ -195,3 +195,10 @@ tightened-best net both first others best n go h t = record {
         let below = best-not-above net both (duals (first ∷ others)) t.dual n divide t.best_dual in
         unmapped (λ (d : DualRows). FractionLe (upper_of net best.dual) (upper_of net d)) (λ (p : Proof). p.dual) (first ∷ others)
         (subst (λ (b : DualRows). All (λ (d : DualRows). FractionLe (upper_of net b) (upper_of net d)) (duals (first ∷ others))) (sym t.made.dual) below)
+
+-- the dual of what is tightened is the first of the least of the candidates
+pub tightened-first : (net : Network) (both : Bool) (first : Proof) (others : List Proof) (best : Proof) → IsNetwork net → All (IsCertificateOf net) (first ∷ others) → IsTightened net both first others best
+    → IsFirstCandidate net both (duals (first ∷ others)) best.dual
+tightened-first net both first others best n h t =
+    let divide = All-map (λ (d : DualRows). DistanceDivides net d) (λ (p : Proof). p.dual) (first ∷ others) (All-weaker (IsCertificateOf net) (λ (p : Proof). DistanceDivides net p.dual) (λ p g. g.valid.distance) (first ∷ others) h) in
+    subst (λ (d : DualRows). IsFirstCandidate net both (duals (first ∷ others)) d) (sym t.made.dual) (best-first net both (duals (first ∷ others)) t.dual n (omega arith) divide t.best_dual)

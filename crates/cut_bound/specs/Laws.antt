@@ -1,5 +1,6 @@
 -- What a cut, and the best of several bounds, promise.
 use Rattle.std.specs.Prelude.{◌≡◌, ◌≢◌, ℕ, ◌*◌, ◌≤◌, Bool, true, IsTrue, List, [], ◌∷◌, All}
+use Rattle.std.specs.List.{AllZip}
 use Rattle.mcf_limits.specs.declared.TheConstants.{MAX_LENGTH}
 use Rattle.flow_model.specs.declared.net.Cell.{Cell}
 use Rattle.flow_model.specs.Network.{Network, IsNetwork}
@@ -9,8 +10,9 @@ use Rattle.flow_paths.specs.DualRows.{Length, Potential, DualRows}
 use Rattle.flow_paths.specs.declared.certificate.Proof.{Proof}
 use Rattle.flow_paths.specs.Certificate.{lower_of, upper_of, CellsHaveLengths, SourcesHaveRows, RowsArePotentials, DistanceDivides}
 use Rattle.cut_bound.specs.Cuts.{Side, cut_value, cut_dual}
-use Rattle.cut_bound.specs.Candidates.{IsBestDual}
-use Rattle.cut_bound.specs.Tightened.{IsCertificateOf, IsTightened}
+use Rattle.flow_paths.specs.Least.{IsFirstLeast}
+use Rattle.cut_bound.specs.Candidates.{candidates, rows_in, AreLevels, IsBestDual}
+use Rattle.cut_bound.specs.Tightened.{duals, IsCertificateOf, IsTightened}
 
 -- where cells are said to go both ways, all of them do
 abbrev pub GoBothWays : Network → Bool → Type 0
@@ -45,6 +47,13 @@ BestIsNotAbove = (net : Network) (both : Bool) (own : List DualRows) (best : Dua
     → All (λ d. DistanceDivides net d) own → IsBestDual net both own best
     → All (λ d. FractionLe (upper_of net best) (upper_of net d)) own
 
+-- The dual is the first of the least of the candidates: the duals that were there, the cuts round each node and the fronts of all
+-- rows. It is one of them, none is below it, and all before it are above it.
+pub record IsFirstCandidate (net : Network) (both : Bool) (own : List DualRows) (best : DualRows) : Type 0 where
+  pub levels : List (List ℕ)
+  pub are_levels : AllZip (λ (row : Potential) (ts : List ℕ). AreLevels row.values ts) (rows_in own) levels
+  pub first : IsFirstLeast (upper_of net) (candidates net both own levels) best
+
 -- the lower fraction of the first is not below that of the second, and its upper one not above
 pub record IsNoWorse (net : Network) (best p : Proof) : Type 0 where
   pub lower : FractionLe (lower_of p.routing) (lower_of best.routing)
@@ -59,6 +68,12 @@ abbrev pub TightenedIsBest : Type 0
 TightenedIsBest = (net : Network) (both : Bool) (first : Proof) (others : List Proof) (best : Proof) → IsNetwork net
     → GoBothWays net both → All (IsCertificateOf net) (first ∷ others) → IsTightened net both first others best
     → IsBetter net first others best
+
+-- its dual is the first of the least of the candidates that they give
+abbrev pub TightenedIsFirst : Type 0
+TightenedIsFirst = (net : Network) (both : Bool) (first : Proof) (others : List Proof) (best : Proof) → IsNetwork net
+    → All (IsCertificateOf net) (first ∷ others) → IsTightened net both first others best
+    → IsFirstCandidate net both (duals (first ∷ others)) best.dual
 
 -- there is one such certificate
 abbrev pub TightenedIsUnique : Type 0

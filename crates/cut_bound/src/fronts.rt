@@ -10,9 +10,9 @@ use crate::cuts::front_cuts;
 use crate::own::{rows_of, values_at};
 use flow_model::{Cell, Net};
 use flow_paths::Dual;
+use mcf_base::thread_count;
 use mcf_limits::{MAX_DEMANDS, MAX_WORKERS};
 use std::alloc::{AllocError, Global};
-use std::thread;
 use std::thread::Threads;
 
 /// A thread is started for no fewer steps than these, one for each cell and each demand of each row: they take some tenths of
@@ -84,22 +84,11 @@ fn fill_slots(
     }
 }
 
-/// In how many threads the slots are to be filled at most.
-fn thread_count(rt: &impl Threads) -> usize
-    ensures some { 1 ≤ result }
-    ensures few { result ≤ MAX_WORKERS }
-{
-    match thread::available_parallelism(rt) {
-        Ok(count) => count.get().min(MAX_WORKERS as usize),
-        Err(_) => 1,
-    }
-}
-
 /// How many of so many rows one thread is to take, where each takes so many steps.
 fn share_of(rt: &impl Threads, rows: usize, steps: usize) -> usize
     ensures { 1 ≤ result }
 {
-    let share = rows.div_ceil(thread_count(rt));
+    let share = rows.div_ceil(thread_count(rt, MAX_WORKERS));
     share.max(STEPS_OF_A_START / steps.max(1)).max(1)
 }
 

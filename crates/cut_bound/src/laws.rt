@@ -2,7 +2,7 @@
 
 ghost use Rattle.flow_paths.specs.DualRows.{DualRows};
 ghost use Rattle.cut_bound.specs.Least.{LeastIsFirst};
-ghost use Rattle.cut_bound.specs.Laws.{BestIsNotAbove, CutDualIsItsValue, CutDualsAreValid, CutsBoundRoutings, TightenedIsBest, TightenedIsSmall, TightenedIsUnique, TightenedStays};
+ghost use Rattle.cut_bound.specs.Laws.{BestIsNotAbove, CutDualIsItsValue, CutDualsAreValid, CutsBoundRoutings, TightenedIsBest, TightenedIsFirst, TightenedIsSmall, TightenedIsUnique, TightenedStays};
 
 /// The dual of a cut that some commodity crosses meets the conditions of a certificate on lengths and potentials.
 pub fn cut_duals_are_valid()
@@ -34,6 +34,12 @@ pub fn least_is_first()
 /// upper one not above.
 pub fn tightened_is_best()
     ensures { TightenedIsBest }
+{}
+
+/// Its dual is the first of the least of the candidates that they give: their own, the cuts round each node, and the fronts of
+/// their rows. It is one of them, none is below it, and all before it are above it.
+pub fn tightened_is_first()
+    ensures { TightenedIsFirst }
 {}
 
 /// Where the lengths and potentials of each certificate are within the limit of a text, those of what is tightened are: they are

@@ -11,13 +11,13 @@ use Rattle.flow_model.specs.Lengths.{AreLengths}
 use Rattle.flow_model.specs.Walk.{PassesOver}
 use Rattle.dijkstra_paths.specs.declared.search.Step.{Step}
 use Rattle.dijkstra_paths.specs.Heap.{AreInverse, SameOpen}
-use Rattle.dijkstra_paths.specs.Tree.{step_at, arc_at, ArcsDone, IsReached, IsTree, IsDone, AreUnderWay}
 use Rattle.mcf_limits.specs.declared.TheConstants.{MAX_LENGTH}
+use Rattle.dijkstra_paths.specs.Tree.{step_at, arc_at, ArcsDone, IsReached, IsTree, IsDone, AreUnderWay}
 
-at-same : (xs : List ℕ) (i k x : ℕ) → k ≡ i → i < length xs → get_or (set xs i x) k 0 ≡ x
+pub at-same : (xs : List ℕ) (i k x : ℕ) → k ≡ i → i < length xs → get_or (set xs i x) k 0 ≡ x
 at-same xs i k x e l = rw e (let l' : i < length xs = l in rw get_or-set_same refl)
 
-at-other : (xs : List ℕ) (i k x : ℕ) → k ≢ i → get_or (set xs i x) k 0 ≡ get_or xs k 0
+pub at-other : (xs : List ℕ) (i k x : ℕ) → k ≢ i → get_or (set xs i x) k 0 ≡ get_or xs k 0
 at-other xs i k x ne = rw get_or-set_other refl
 
 step-same : (steps : List Step) (i k : ℕ) (s : Step) → k ≡ i → i < length steps → step_at (set steps i s) k ≡ s

@@ -53,6 +53,13 @@ pub record AreUnderWay (cells : List Cell) (lengths : List ℕ) (from node : ℕ
   pub opened : (v : ℕ) → v < length dist → slice_index place v < count → slice_index dist v < MAX_LENGTH
   pub done : (u : ℕ) → u < length dist → u ≢ node → slice_index dist u < MAX_LENGTH → count ≤ slice_index place u → IsDone cells lengths dist u
 
+-- the nodes with places below the count are open, and each of them is reached
+pub record AreOpen (dist : List ℕ) (order place : List ℕ) (count : ℕ) : Type 0 where
+  pub inverse : AreInverse order place
+  pub nodes : length order ≡ length dist
+  pub few : count ≤ length dist
+  pub opened : (v : ℕ) → v < length dist → slice_index place v < count → slice_index dist v < MAX_LENGTH
+
 -- so it is of the slices of a front
 abbrev pub IsUnderWay : List Cell → List ℕ → ℕ → ℕ → FrontSlices → ℕ → Type 0
 IsUnderWay cells lengths from node front count =

@@ -1,9 +1,9 @@
 //! Arcs over positive cells, in one list by node.
 
-ghost use Rattle.std.specs.Prelude.{◌≡◌, ℕ, All, Contains, ◌++◌, ◌<◌, ◌≤◌, length, slice_range, OnOk, IfOk};
+ghost use Rattle.std.specs.Prelude.{◌≡◌, ℕ, All, Contains, ◌++◌, ◌<◌, ◌≤◌, length, slice_range, OnOk, IfOk, IsTrue};
 ghost use Rattle.std.specs.Option.{option_to_list};
 ghost use Rattle.flow_model.specs.Network.{IsNetwork};
-ghost use Rattle.flow_model.specs.Walk.{PassesOver};
+ghost use Rattle.flow_model.specs.Walk.{Goes, PassesOver};
 ghost use Rattle.dijkstra_paths.specs.Arcs.{arcs_over, arcs_from};
 
 use flow_model::{Cell, Net};
@@ -24,6 +24,7 @@ pub struct Arc {
 pub struct Graph {
     net: Snapshot<Net>,
     nodes: u16,
+    cells: Vec<Cell>,
     first: Vec<u32>,
     arcs: Vec<Arc>,
 }
@@ -38,7 +39,9 @@ impl Model for Graph {
 
     ghost view = { λ g. g.net.value };
 
-    ghost invariant = { λ g. IsNetwork g.net.value × (g.nodes ≡ g.net.value.nodes) × AreArcs g.net.value.cells g.net.value.nodes g.first.items g.arcs.items };
+    ghost invariant = { λ g. IsNetwork g.net.value × (g.nodes ≡ g.net.value.nodes) ×
+        AreArcs g.net.value.cells g.net.value.nodes g.first.items g.arcs.items ×
+        (g.cells.items ≡ g.net.value.cells) };
 }
 
 /// The arc over this cell from the node, if one may go over it from there.
@@ -60,6 +63,17 @@ fn arc_of(cell: &Cell, number: u16, from: u16) -> Option<Arc>
     } else {
         None
     }
+}
+
+/// Whether one may go over this cell from one node to the other.
+#[inline(always)]
+fn goes(cell: &Cell, from: u16, to: u16) -> bool
+    ensures { IsTrue result → (1 ≤ cell.now.cap) × Goes cell.now from to }
+{
+    // no branch on the way that is taken over a cell of both ways
+    let there = (cell.tail == from) & (cell.head == to);
+    let back = cell.both & (cell.head == from) & (cell.tail == to);
+    cell.cap > 0 && (there | back)
 }
 
 /// Appends the arcs from a node, in the order of cells.
@@ -100,6 +114,7 @@ impl Graph {
         Ok(Graph {
             net: Snapshot::of(net),
             nodes: net.nodes(),
+            cells: Vec::from_slice(alloc, cells)?,
             first,
             arcs,
         })
@@ -110,6 +125,26 @@ impl Graph {
         ensures net { IsNetwork self.now }
     {
         self.nodes
+    }
+
+    /// The cells of the network.
+    #[inline(always)]
+    pub(crate) fn cells(&self) -> &[Cell]
+        ensures value { result.now ≡ self.now.cells }
+        ensures net { IsNetwork self.now }
+    {
+        &self.cells
+    }
+
+    /// Whether this is a positive cell over which one may go from one node to the other.
+    #[inline(always)]
+    pub(crate) fn passes(&self, cell: u16, from: u16, to: u16) -> bool
+        ensures way { IsTrue result → PassesOver self.now.cells cell from to }
+        ensures net { IsNetwork self.now }
+    {
+        let cells = self.cells();
+        let at = cell as usize;
+        at < cells.len() && goes(&cells[at], from, to)
     }
 
     /// The node's part of the list.

@@ -2,11 +2,12 @@
 
 ghost use Rattle.std.specs.Prelude.{◌≡◌, ℕ, ◌<◌, ◌≤◌, length, slice_index, IfOk, drop};
 ghost use Rattle.dijkstra_paths.specs.Searched.{trail, Ends};
-ghost use Rattle.dijkstra_paths.specs.Tree.{IsFront};
+ghost use Rattle.dijkstra_paths.specs.Tree.{IsDone, IsFront, IsTree};
 ghost use Rattle.flow_model.specs.Lengths.{AreLengths};
 
-use crate::Graph;
-use crate::search::{Front, Step, search};
+use crate::search::{Front, Step, search, search_on};
+use crate::tree::{Room, numbers};
+use crate::{Graph, Tree};
 use mcf_limits::MAX_LENGTH;
 use std::alloc::{AllocError, Global};
 use std::marker::Model;
@@ -20,6 +21,8 @@ pub struct Scratch {
     from: u16,
     front: Front,
     path: Vec<u16>,
+    trees: Vec<Tree>,
+    room: Room,
 }
 
 impl Model for Scratch {
@@ -28,21 +31,14 @@ impl Model for Scratch {
 
     ghost Value = { Searched };
 
-    ghost view = { λ s. record { nodes = s.nodes; cells = s.cells; dists = map known s.front.dist.items; paths = paths_from s.front.steps.items s.from s.nodes 0 s.front.dist.items } };
+    ghost view = { λ s. record {
+      nodes = s.nodes;
+      cells = s.cells;
+      dists = map known s.front.dist.items;
+      paths = paths_from s.front.steps.items s.from s.nodes 0 s.front.dist.items;
+    } };
 
     ghost invariant = { λ s. IsReady s.nodes s.from s.front s.path.items };
-}
-
-/// The numbers below n in order.
-fn numbers(alloc: Global, n: u16) -> Result<Vec<u16>, AllocError>
-    ensures count { IfOk result (λ v. length v.items ≡ n) }
-    ensures each { IfOk result (λ v. (k : ℕ) → k < n → slice_index v.items k ≡ k) }
-{
-    let mut numbers = Vec::new(alloc);
-    for number in 0..n {
-        numbers.push(number)?;
-    }
-    Ok(numbers)
 }
 
 /// So many distances, of nodes that no walk reaches.
@@ -70,6 +66,76 @@ fn new_front(alloc: Global, nodes: u16) -> Result<Front, AllocError>
     })
 }
 
+/// A tree for each node as a source, none of them told yet.
+fn blank_trees(alloc: Global, nodes: u16) -> Result<Vec<Tree>, AllocError> {
+    let mut trees = Vec::with_capacity(alloc, nodes as usize)?;
+    for _ in 0..nodes {
+        trees.push(Tree::new(alloc, nodes)?)?;
+    }
+    Ok(trees)
+}
+
+/// Finds the least distances from a node, from its tree on where this is one from there.
+fn search_by(graph: &Graph, lengths: &[u64], from: u16, tree: &Tree, front: &mut Front)
+    requires lengths { AreLengths graph.now.cells lengths.now }
+    requires front { IsFront graph.now.nodes front.old }
+    requires from { from < graph.now.nodes }
+    ensures front { IsFront graph.now.nodes front.new }
+    ensures tree { IsTree graph.now.cells lengths.now from front.new.dist.items front.new.steps.items }
+    ensures done { (u : ℕ) → u < length front.new.dist.items → slice_index front.new.dist.items u < MAX_LENGTH
+        → IsDone graph.now.cells lengths.now front.new.dist.items u }
+{
+    match tree.earlier(from) {
+        Some(earlier) => search_on(graph, lengths, from, earlier, front),
+        None => search(graph, lengths, from, front),
+    }
+}
+
+/// The same, and the tree is then this search's.
+fn search_along(
+    graph: &Graph,
+    lengths: &[u64],
+    from: u16,
+    tree: &mut Tree,
+    room: &mut Room,
+    front: &mut Front,
+)
+    requires lengths { AreLengths graph.now.cells lengths.now }
+    requires front { IsFront graph.now.nodes front.old }
+    requires from { from < graph.now.nodes }
+    ensures front { IsFront graph.now.nodes front.new }
+    ensures tree { IsTree graph.now.cells lengths.now from front.new.dist.items front.new.steps.items }
+    ensures done { (u : ℕ) → u < length front.new.dist.items → slice_index front.new.dist.items u < MAX_LENGTH
+        → IsDone graph.now.cells lengths.now front.new.dist.items u }
+{
+    search_by(graph, lengths, from, tree, front);
+    tree.follow(from, front, room);
+}
+
+/// The same, along the node's own tree where there is one, and else from nothing.
+fn search_among(
+    graph: &Graph,
+    lengths: &[u64],
+    from: u16,
+    trees: &mut [Tree],
+    room: &mut Room,
+    front: &mut Front,
+)
+    requires lengths { AreLengths graph.now.cells lengths.now }
+    requires front { IsFront graph.now.nodes front.old }
+    requires from { from < graph.now.nodes }
+    ensures front { IsFront graph.now.nodes front.new }
+    ensures tree { IsTree graph.now.cells lengths.now from front.new.dist.items front.new.steps.items }
+    ensures done { (u : ℕ) → u < length front.new.dist.items → slice_index front.new.dist.items u < MAX_LENGTH
+        → IsDone graph.now.cells lengths.now front.new.dist.items u }
+{
+    if (from as usize) < trees.len() {
+        search_along(graph, lengths, from, &mut trees[from as usize], room, front);
+    } else {
+        search(graph, lengths, from, front);
+    }
+}
+
 impl Scratch {
     ghost use Rattle.std.specs.Prelude.{◌≡◌, ℕ, ◌<◌, ◌≤◌, None, length, IfOk, IfSome};
     ghost use Rattle.std.specs.Option.{option_map};
@@ -92,7 +158,21 @@ impl Scratch {
             from: 0,
             front: new_front(alloc, nodes)?,
             path: vec![in alloc; 0; n]?,
+            trees: Vec::new(alloc),
+            room: Room::new(alloc, nodes)?,
         })
+    }
+
+    /// The same, and a tree is kept for each node as a source, from search to search: so many nodes times as many
+    /// entries of 6 bytes. It changes no distance, and makes searches quick where few lengths have changed.
+    pub fn with_trees(alloc: Global, nodes: u16, cells: u16) -> Result<Self, AllocError>
+        ensures nodes { IfOk result (λ s. s.nodes ≡ nodes) }
+        ensures cells { IfOk result (λ s. s.cells ≡ cells) }
+        ensures blank { IfOk result (λ s. (v : ℕ) → (dist_at s v ≡ None) × (path_at s v ≡ None)) }
+    {
+        let mut scratch = Scratch::new(alloc, nodes, cells)?;
+        scratch.trees = blank_trees(alloc, nodes)?;
+        Ok(scratch)
     }
 
     /// Finds the least distances from a node.
@@ -110,7 +190,33 @@ impl Scratch {
     {
         let _nodes = graph.nodes();
         self.from = from;
-        search(graph, lengths, from, &mut self.front);
+        search_among(
+            graph,
+            lengths,
+            from,
+            &mut self.trees,
+            &mut self.room,
+            &mut self.front,
+        );
+    }
+
+    /// The same, where the tree of an earlier search from that node makes it quick. Nothing is asked of the tree: one of
+    /// another node, another graph or another number of nodes costs time alone. It is left as this search's.
+    pub fn search_from(&mut self, graph: &Graph, lengths: &[u64], from: u16, tree: &mut Tree)
+        requires lengths { AreLengths graph.now.cells lengths.now }
+        requires nodes { self.old.nodes ≡ graph.now.nodes }
+        requires from { from < self.old.nodes }
+        ensures nodes { self.new.nodes ≡ self.old.nodes }
+        ensures cells { self.new.cells ≡ self.old.cells }
+        ensures least { (v : ℕ) → v < self.new.nodes
+            → IsLeast graph.now.cells lengths.now from v (dist_at self.new v) }
+        ensures paths { (v : ℕ) → v < self.new.nodes
+            → IsPath graph.now.cells lengths.now self.new.nodes from v (dist_at self.new v) (path_at self.new v) }
+        ensures near { IsNear graph.now.cells lengths.now self.new }
+    {
+        let _nodes = graph.nodes();
+        self.from = from;
+        search_along(graph, lengths, from, tree, &mut self.room, &mut self.front);
     }
 
     /// The least distance of the node, if it was reached.

@@ -1,13 +1,15 @@
 //! The search: nodes are opened as they come nearer, and each goes on to the nodes after it.
 
-ghost use Rattle.std.specs.Prelude.{◌≡◌, ℕ, ◌+◌, ◌*◌, ◌^◌, ◌<◌, ◌≤◌, length, slice_index, slice_set};
+ghost use Rattle.std.specs.Prelude.{◌≡◌, ◌⊎◌, ℕ, ◌+◌, ◌*◌, ◌^◌, ◌<◌, ◌≤◌, All, false, IsTrue, length, slice_index, slice_set};
 ghost use Rattle.std.specs.List.{sum_by};
-ghost use Rattle.flow_model.specs.Walk.{PassesOver};
+ghost use Rattle.flow_model.specs.Walk.{Goes, PassesOver};
 ghost use Rattle.flow_model.specs.Lengths.{AreLengths};
-ghost use Rattle.dijkstra_paths.specs.Tree.{AreFront, AreSameSlices, IsFront, IsTree, IsDone, IsUnderWay};
+ghost use Rattle.dijkstra_paths.specs.Heap.{AreInverse};
+ghost use Rattle.dijkstra_paths.specs.Tree.{AreFront, AreOpen, AreSameSlices, IsFront, IsTree, IsDone, IsUnderWay};
 
 use crate::queue::{pop, put};
 use crate::{Arc, Graph};
+use flow_model::Cell;
 use mcf_limits::{MAX_LENGTH, MAX_NODES};
 
 /// The cell by which a node was reached, and the node before it.
@@ -15,6 +17,13 @@ use mcf_limits::{MAX_LENGTH, MAX_NODES};
 pub struct Step {
     pub cell: u16,
     pub from: u16,
+}
+
+/// A node, and the step by which an earlier search reached it.
+#[derive(Clone, Copy)]
+pub struct Kept {
+    pub node: u16,
+    pub step: Step,
 }
 
 /// What a search works in: the distance of each node and the step to it, and all nodes in an order whose front is a
@@ -125,12 +134,127 @@ fn clear(dist: &mut [u64])
     }
 }
 
-/// Finds the least distances from a node, in the slices of a front.
+/// Gives the node the distance over an earlier step to it, where that goes and is shorter than what is known.
 #[inline(always)]
-fn search_slices(graph: &Graph, lengths: &[u64], from: u16, front: &mut FrontSlices)
+fn keep_step(
+    graph: &Graph,
+    lengths: &[u64],
+    from: u16,
+    node: u16,
+    step: Step,
+    dist: &mut [u64],
+    steps: &mut [Step],
+)
     requires lengths { AreLengths graph.now.cells lengths.now }
-    requires front { AreFront graph.now.nodes front.old }
-    requires from { from < graph.now.nodes }
+    requires nodes { length dist.old ≡ graph.now.nodes }
+    requires tree { IsTree graph.now.cells lengths.now from dist.old steps.old }
+    ensures tree { IsTree graph.now.cells lengths.now from dist.new steps.new }
+    ensures nodes { length dist.new ≡ length dist.old }
+{
+    let _ = from;
+    if !graph.passes(step.cell, step.from, node) {
+        return;
+    }
+    let there = dist[step.from as usize] + lengths[step.cell as usize];
+    if there < dist[node as usize] {
+        dist[node as usize] = there;
+        steps[node as usize] = step;
+    }
+}
+
+/// Gives nodes the distances along an earlier tree, in its order: nodes before those that were reached from them.
+#[inline(always)]
+fn keep_steps(
+    graph: &Graph,
+    lengths: &[u64],
+    from: u16,
+    earlier: &[Kept],
+    dist: &mut [u64],
+    steps: &mut [Step],
+)
+    requires lengths { AreLengths graph.now.cells lengths.now }
+    requires nodes { length dist.old ≡ graph.now.nodes }
+    requires tree { IsTree graph.now.cells lengths.now from dist.old steps.old }
+    ensures tree { IsTree graph.now.cells lengths.now from dist.new steps.new }
+    ensures nodes { length dist.new ≡ length dist.old }
+{
+    for kept in earlier {
+        keep_step(graph, lengths, from, kept.node, kept.step, dist, steps);
+    }
+}
+
+/// Opens the node from which the way over the cell is shorter than what is known, if it is a positive cell with such a
+/// way, and gives the number of open nodes.
+#[inline(always)]
+fn open_over(
+    cell: &Cell,
+    long: u64,
+    dist: &[u64],
+    order: &mut [u16],
+    place: &mut [u16],
+    keys: &mut [u64],
+    count: usize,
+) -> usize
+    requires ends { (cell.now.tail < length dist.now) × (cell.now.head < length dist.now) }
+    requires long { 1 ≤ cell.now.cap → long ≤ 2 ^ 52 }
+    requires bound { (v : ℕ) → v < length dist.now → slice_index dist.now v ≤ MAX_LENGTH }
+    requires small { length dist.now ≤ MAX_NODES }
+    requires keys { length keys.old ≡ length dist.now }
+    requires state { AreOpen dist.now order.old place.old count }
+    ensures keys { length keys.new ≡ length dist.now }
+    ensures state { AreOpen dist.now order.new place.new result }
+    ensures stays { (v : ℕ) → v < length dist.now → slice_index place.old v < count → slice_index place.new v < result }
+    ensures way { (u x : ℕ) → 1 ≤ cell.now.cap → Goes cell.now u x
+        → (slice_index dist.now x ≤ slice_index dist.now u + long) ⊎ (slice_index place.new u < result) }
+{
+    if cell.cap == 0 {
+        return count;
+    }
+    let tail = dist[cell.tail as usize];
+    let head = dist[cell.head as usize];
+    if tail + long < head {
+        return put(order, place, keys, count, cell.tail, tail);
+    }
+    if cell.both && head + long < tail {
+        return put(order, place, keys, count, cell.head, head);
+    }
+    count
+}
+
+/// Opens each node from which a way on is shorter than what is known, and gives the number of open nodes.
+#[inline(always)]
+fn open_nodes(
+    graph: &Graph,
+    lengths: &[u64],
+    dist: &[u64],
+    order: &mut [u16],
+    place: &mut [u16],
+    keys: &mut [u64],
+) -> usize
+    requires lengths { AreLengths graph.now.cells lengths.now }
+    requires nodes { length dist.now ≡ graph.now.nodes }
+    requires bound { (v : ℕ) → v < length dist.now → slice_index dist.now v ≤ MAX_LENGTH }
+    requires orders { length order.old ≡ length dist.now }
+    requires keys { length keys.old ≡ length dist.now }
+    requires inverse { AreInverse order.old place.old }
+    ensures state { AreOpen dist.now order.new place.new result }
+    ensures done { (u : ℕ) → result ≤ slice_index place.new u → IsDone graph.now.cells lengths.now dist.now u }
+    ensures keys { length keys.new ≡ length dist.now }
+{
+    let mut count = 0;
+    for (number, cell) in graph.cells().iter().enumerate() {
+        count = open_over(cell, lengths[number], dist, order, place, keys, count);
+    }
+    count
+}
+
+/// Goes on from the open nodes until there are none.
+#[inline(always)]
+fn close_all(graph: &Graph, lengths: &[u64], from: u16, front: &mut FrontSlices, count: usize)
+    requires lengths { AreLengths graph.now.cells lengths.now }
+    requires nodes { length front.old.dist.now ≡ graph.now.nodes }
+    requires keys { length front.old.keys.now ≡ length front.old.dist.now }
+    requires state { IsUnderWay graph.now.cells lengths.now from (length front.old.dist.now) front.old count }
     ensures slices { AreSameSlices front.old front.new }
     ensures front { AreFront graph.now.nodes front.new }
     ensures tree { IsTree graph.now.cells lengths.now from front.new.dist.now front.new.steps.now }
@@ -138,17 +262,73 @@ fn search_slices(graph: &Graph, lengths: &[u64], from: u16, front: &mut FrontSli
         → IsDone graph.now.cells lengths.now front.new.dist.now u }
 {
     let _nodes = graph.nodes();
-    clear(front.dist);
-    front.dist[from as usize] = 0;
-    let mut count = put(front.order, front.place, front.keys, 0, from, 0);
+    let mut count = count;
     while count > 0 {
         let node = pop(front.order, front.place, front.keys, count);
         count = go_on(graph, lengths, from, node, front, count - 1);
     }
 }
 
+/// Puts all nodes but the first out of reach, and then at the distances along an earlier tree.
+#[inline(always)]
+fn begin(
+    graph: &Graph,
+    lengths: &[u64],
+    from: u16,
+    earlier: &[Kept],
+    dist: &mut [u64],
+    steps: &mut [Step],
+)
+    requires lengths { AreLengths graph.now.cells lengths.now }
+    requires nodes { length dist.old ≡ graph.now.nodes }
+    requires steps { length steps.old ≡ length dist.old }
+    requires from { from < graph.now.nodes }
+    ensures tree { IsTree graph.now.cells lengths.now from dist.new steps.new }
+    ensures nodes { length dist.new ≡ length dist.old }
+{
+    clear(dist);
+    dist[from as usize] = 0;
+    keep_steps(graph, lengths, from, earlier, dist, steps);
+}
+
 /// Finds the least distances from a node.
 pub fn search(graph: &Graph, lengths: &[u64], from: u16, front: &mut Front)
+    requires lengths { AreLengths graph.now.cells lengths.now }
+    requires front { IsFront graph.now.nodes front.old }
+    requires from { from < graph.now.nodes }
+    ensures front { IsFront graph.now.nodes front.new }
+    ensures tree { IsTree graph.now.cells lengths.now from front.new.dist.items front.new.steps.items }
+    ensures done { (u : ℕ) → u < length front.new.dist.items → slice_index front.new.dist.items u < MAX_LENGTH
+        → IsDone graph.now.cells lengths.now front.new.dist.items u }
+{
+    let _nodes = graph.nodes();
+    let dist = front.dist.as_mut_slice();
+    let steps = front.steps.as_mut_slice();
+    let order = front.order.as_mut_slice();
+    let place = front.place.as_mut_slice();
+    let keys = front.keys.as_mut_slice();
+    clear(dist);
+    dist[from as usize] = 0;
+    let count = put(order, place, keys, 0, from, 0);
+    let mut slices = FrontSlices {
+        dist,
+        steps,
+        order,
+        place,
+        keys,
+    };
+    close_all(graph, lengths, from, &mut slices, count);
+    // the lists are read after the borrow, which tells what it leaves in them
+    let _ = dist;
+    let _ = steps;
+    let _ = order;
+    let _ = place;
+    let _ = keys;
+}
+
+/// The same from an earlier tree on, which changes no distance: it makes the search quick where it is one from that node,
+/// and few nodes have moved since.
+pub fn search_on(graph: &Graph, lengths: &[u64], from: u16, earlier: &[Kept], front: &mut Front)
     requires lengths { AreLengths graph.now.cells lengths.now }
     requires front { IsFront graph.now.nodes front.old }
     requires from { from < graph.now.nodes }
@@ -162,6 +342,8 @@ pub fn search(graph: &Graph, lengths: &[u64], from: u16, front: &mut Front)
     let order = front.order.as_mut_slice();
     let place = front.place.as_mut_slice();
     let keys = front.keys.as_mut_slice();
+    begin(graph, lengths, from, earlier, dist, steps);
+    let count = open_nodes(graph, lengths, dist, order, place, keys);
     let mut slices = FrontSlices {
         dist,
         steps,
@@ -169,7 +351,7 @@ pub fn search(graph: &Graph, lengths: &[u64], from: u16, front: &mut Front)
         place,
         keys,
     };
-    search_slices(graph, lengths, from, &mut slices);
+    close_all(graph, lengths, from, &mut slices, count);
     // the lists are read after the borrow, which tells what it leaves in them
     let _ = dist;
     let _ = steps;

@@ -1,6 +1,7 @@
 -- A row for each source, on the way to a dual.
 use Rattle.std.specs.Prelude.{◌≡◌, ℕ, ◌<◌, ◌≤◌, List, Bool, false, IsTrue, All, length, map, slice_index, slice_index_or}
 use Rattle.flow_model.specs.Network.{Network}
+use Rattle.flow_model.specs.Groups.{group_sources}
 use Rattle.flow_paths.specs.DualRows.{Potential, DualRows}
 use Rattle.mcf_limits.specs.declared.TheConstants.{MAX_LENGTH}
 use Rattle.dual_bound.specs.declared.rows.Row.{Row}
@@ -30,11 +31,27 @@ pub record IsFilledWith (nodes : ℕ) (P : ℕ → ℕ → ℕ → Type 0) (row 
   pub small : All (λ x. x ≤ MAX_LENGTH) row.values.items
   pub each : (v : ℕ) → v < nodes → P row.source v (slice_index row.values.items v)
 
+-- a row of a source, with room for a number for each node
+pub record IsRoom (nodes : ℕ) (row : Row) : Type 0 where
+  pub source : row.source < nodes
+  pub count : length row.values.items ≡ nodes
+
+-- a row for each source of a commodity, in the order of nodes
+pub record AreRoom (net : Network) (rows : List Row) : Type 0 where
+  pub sources : sources_of rows ≡ group_sources net
+  pub each : All (IsRoom net.nodes) rows
+
 -- an empty row of a source
 pub record IsBlank (nodes : ℕ) (row : Row) : Type 0 where
   pub source : row.source < nodes
   pub count : length row.values.items ≡ nodes
   pub blank : row.is_filled ≡ false
+
+-- the row was made blank, and kept its source and its room
+pub record IsMadeBlank (old new : Row) : Type 0 where
+  pub source : new.source ≡ old.source
+  pub values : new.values ≡ old.values
+  pub blank : new.is_filled ≡ false
 
 -- the row of a source was filled with distances, or stayed as it was
 pub record Fills (net : Network) (lengths : List ℕ) (old new : Row) : Type 0 where

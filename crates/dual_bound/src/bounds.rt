@@ -1,16 +1,16 @@
 //! The bound of lengths, and the bound of a cut.
 
-ghost use Rattle.std.specs.Prelude.{◌≡◌, ℕ, ◌≤◌, IfOk, All, length};
+ghost use Rattle.std.specs.Prelude.{◌≡◌, ℕ, ◌≤◌, IfOk, OnOk, All, length};
 ghost use Rattle.flow_model.specs.Lengths.{AreLengths};
 ghost use Rattle.fixed_exp.specs.Far.{EmptyAreFar};
 ghost use Rattle.dijkstra_paths.specs.Reach.{IsFirstCut};
 ghost use Rattle.flow_paths.specs.Certificate.{upper_of};
 ghost use Rattle.dual_bound.specs.Bounds.{CanDivide, IsBoundOf, IsCutDual, IsCutPotential, IsDistance, ShowsBound, cut_lengths};
-ghost use Rattle.dual_bound.specs.Rows.{IsFilledWith, dual_of, sources_of};
+ghost use Rattle.dual_bound.specs.Rows.{AreRoom, IsFilledWith, IsRoom, dual_of, sources_of};
 ghost use Rattle.flow_model.specs.Groups.{group_sources};
 
 use crate::dual::{are_filled, assembled};
-use crate::rows::{Row, fill_all, mark_all, source_rows};
+use crate::rows::{Row, blank_all, fill_all, mark_all, source_rows};
 use crate::value::upper;
 use dijkstra_paths::Graph;
 use flow_model::{Cell, Net};
@@ -46,25 +46,26 @@ pub fn finished(
     Ok(Bounded { dual, value })
 }
 
-/// A row of distances for each source, in at most so many threads.
-fn distance_rows<R: Threads + Sync>(
+/// Fills rows anew with distances, in at most so many threads, each search from the tree of the one before. `Err` is for want
+/// of memory.
+fn refill<R: Threads + Sync>(
     rt: &R,
     alloc: Global,
-    net: &Net,
     graph: &Graph,
     lengths: &[u64],
+    rows: &mut [Row],
     threads: u16,
-) -> Result<Vec<Row>, AllocError>
-    requires graph { graph.now ≡ net.now }
-    requires lengths { AreLengths net.now.cells lengths.now }
-    ensures sources { IfOk result (λ rows. sources_of rows.items ≡ group_sources net.now) }
-    ensures filled { IfOk result (λ rows. All
-        (IsFilledWith net.now.nodes (IsDistance net.now.cells lengths.now)) rows.items) }
+) -> Result<(), AllocError>
+    requires lengths { AreLengths graph.now.cells lengths.now }
+    requires rows { All (IsRoom graph.now.nodes) rows.old }
+    ensures sources { sources_of rows.new ≡ sources_of rows.old }
+    ensures filled { OnOk result (All
+        (IsFilledWith graph.now.nodes (IsDistance graph.now.cells lengths.now)) rows.new) }
 {
-    let mut rows = source_rows(alloc, net)?;
-    fill_all(rt, alloc, graph, lengths, &mut rows, threads);
-    if are_filled(&rows) {
-        Ok(rows)
+    blank_all(rows);
+    fill_all(rt, alloc, graph, lengths, rows, threads);
+    if are_filled(rows) {
+        Ok(())
     } else {
         Err(AllocError)
     }
@@ -98,28 +99,33 @@ pub fn bound<R: Threads + Sync>(
     ensures shows { IfOk result (λ b. ShowsBound net.now lengths.now b.dual) }
     ensures value { IfOk result (λ b. b.value ≡ upper_of net.now b.dual) }
 {
-    bound_in(rt, alloc, net, graph, lengths, MAX_WORKERS)
+    let mut rows = source_rows(alloc, net)?;
+    bound_in(rt, alloc, net, graph, lengths, &mut rows, MAX_WORKERS)
 }
 
-/// As `bound`, in at most so many threads, its caller's among them: in 1 (and 0 stands for 1) it starts none of its own.
+/// As `bound`, in rows that are kept from one bound to the next, and in at most so many threads, its caller's among them: in 1
+/// (and 0 stands for 1) it starts none of its own. After an `Err` the rows are of no more use.
 pub fn bound_in<R: Threads + Sync>(
     rt: &R,
     alloc: Global,
     net: &Net,
     graph: &Graph,
     lengths: &[u64],
+    rows: &mut [Row],
     threads: u16,
 ) -> Result<Bounded, AllocError>
     requires graph { graph.now ≡ net.now }
     requires lengths { AreLengths net.now.cells lengths.now }
     requires empty { EmptyAreFar net.now.cells lengths.now }
+    requires rows { AreRoom net.now rows.old }
+    ensures rows { OnOk result (AreRoom net.now rows.new) }
     ensures dual { IfOk result (λ b. IsBoundOf net.now lengths.now b.dual) }
     ensures shows { IfOk result (λ b. ShowsBound net.now lengths.now b.dual) }
     ensures value { IfOk result (λ b. b.value ≡ upper_of net.now b.dual) }
 {
     let _cells = net.cells();
-    let rows = distance_rows(rt, alloc, net, graph, lengths, threads)?;
-    finished(alloc, net, lengths, &rows)
+    refill(rt, alloc, graph, lengths, rows, threads)?;
+    finished(alloc, net, lengths, rows)
 }
 
 /// The bound of a network with a first cut, 0: a cell without capacity has length 1 and every other 0; a node that a source

@@ -8,4 +8,4 @@ mod value;
 
 pub use bounds::{Bounded, bound, bound_in, cut_bound, finished};
 pub use dual::{are_filled, assembled};
-pub use rows::{Row, fill_rows, mark_all, source_rows};
+pub use rows::{Row, blank_row, fill_rows, mark_all, source_rows};

@@ -7,25 +7,40 @@ ghost use Rattle.flow_model.specs.Network.{IsNetwork};
 ghost use Rattle.flow_model.specs.Lengths.{AreLengths};
 ghost use Rattle.dijkstra_paths.specs.Searched.{dist_at};
 ghost use Rattle.flow_model.specs.Least.{far_or, IsLeast};
-ghost use Rattle.dual_bound.specs.Rows.{Fills, IsBlank, IsFilledWith, mark_at, sources_of};
+ghost use Rattle.dual_bound.specs.Rows.{Fills, IsBlank, IsFilledWith, IsMadeBlank, mark_at, sources_of};
 ghost use Rattle.dual_bound.specs.Bounds.{IsCutPotential, IsDistance};
 
-use dijkstra_paths::{Graph, Scratch};
+use dijkstra_paths::{Graph, Scratch, Tree};
 use flow_model::{Commodity, Net};
 use mcf_limits::{MAX_LENGTH, MAX_NODES};
 use std::alloc::{AllocError, Global};
-use std::thread;
 use std::thread::Threads;
 
 /// From this product of rows and cells on the searches take longer than the start of a few threads.
 const WORK_OF_A_START: usize = 1 << 15;
 
-/// A source with a number for each node: a distance or a mark, of at most 2^62. A row that is not filled is blank.
+/// A source with a number for each node: a distance or a mark, of at most 2^62. A row that is not filled is blank. The tree is
+/// what the last search for its distances left, where the next one begins.
 #[derive(Drop)]
 pub struct Row {
     pub source: u16,
     pub is_filled: bool,
     pub values: Vec<u64>,
+    pub tree: Tree,
+}
+
+/// A blank row of the source, over so many nodes.
+pub fn blank_row(alloc: Global, source: u16, nodes: u16) -> Result<Row, AllocError>
+    requires { source < nodes }
+    ensures source { IfOk result (λ row. row.source ≡ source) }
+    ensures blank { IfOk result (IsBlank nodes) }
+{
+    Ok(Row {
+        source,
+        is_filled: false,
+        values: vec![in alloc; 0; nodes as usize]?,
+        tree: Tree::new(alloc, nodes)?,
+    })
 }
 
 /// Which nodes are the source of a commodity.
@@ -62,12 +77,24 @@ fn append_row(
     if !is_source {
         return Ok(());
     }
-    rows.push(Row {
-        source,
-        is_filled: false,
-        values: vec![in alloc; 0; nodes as usize]?,
-    })?;
+    rows.push(blank_row(alloc, source, nodes)?)?;
     Ok(())
+}
+
+fn make_blank(row: &mut Row)
+    ensures { IsMadeBlank row.old row.new }
+{
+    row.is_filled = false;
+}
+
+/// Makes the rows blank, and keeps their trees.
+pub fn blank_all(rows: &mut [Row])
+    ensures { (k : ℕ) (d : _) → k < length rows.old
+        → IsMadeBlank (slice_index_or rows.old k d) (slice_index_or rows.new k d) }
+{
+    for row in rows.iter_mut() {
+        make_blank(row);
+    }
 }
 
 /// A blank row for each node that is the source of a commodity, in the order of nodes.
@@ -104,7 +131,7 @@ fn fill_row(scratch: &mut Scratch, graph: &Graph, lengths: &[u64], row: &mut Row
     ensures row { Fills graph.now lengths.now row.old row.new }
 {
     let _nodes = graph.nodes();
-    scratch.search(graph, lengths, row.source);
+    scratch.search_from(graph, lengths, row.source, &mut row.tree);
     put_distances(scratch, &mut row.values);
     row.is_filled = true;
 }
@@ -136,10 +163,7 @@ fn thread_count(rt: &impl Threads, cells: usize, rows: usize, most: u16) -> usiz
     if most <= 1 || rows.saturating_mul(cells) < WORK_OF_A_START {
         return 1;
     }
-    match thread::available_parallelism(rt) {
-        Ok(count) => count.get().min(most as usize),
-        Err(_) => 1,
-    }
+    mcf_base::thread_count(rt, most)
 }
 
 /// Fills each row with the distances from its source, in several threads where that pays, but in at most so many, its

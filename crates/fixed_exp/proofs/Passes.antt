@@ -6,6 +6,7 @@ use Rattle.std.specs.Prelude.{slice_get, Some}
 use Rattle.std.proofs.lemmas.List.{ext_get_or}
 use Rattle.std.proofs.lemmas.Bool.{eq-eqb, ne_eqb, cases_eq}
 use Rattle.std.proofs.lemmas.Option.{slice_get_within, get_or_from_slice_get}
+use Rattle.flow_model.specs.Walk.{times}
 use Rattle.flow_model.specs.Powers.{weight_of}
 use Rattle.fixed_exp.proofs.PowerTable.{weight_small}
 use Rattle.flow_model.specs.declared.net.Cell.{Cell}
@@ -185,3 +186,25 @@ greatest_kept s (cell ∷ cells) (x ∷ loads) (y ∷ kept) e f h =
     let first : y ≡ min (exponent s cell x) (2 ^ 64 - 1) = h 0 (omega arith) in
     let rest : greatest kept ≡ min (greatest_exponent s cells loads) (2 ^ 64 - 1) = greatest_kept s cells loads kept (omega arith) (omega arith) (λ k l. h (suc k) (omega arith)) in
     omega (arith, first, rest)
+
+-- the greatest after one number rose
+pub greatest_set : (xs : List ℕ) (i x : ℕ) → i < length xs → get_or xs i 0 ≤ x → greatest (set xs i x) ≡ max x (greatest xs)
+greatest_set [] i x l le = absurd (omega arith)
+greatest_set (y ∷ ys) zero x l le =
+    let head : y ≤ x = le in
+    omega (arith, head)
+greatest_set (y ∷ ys) (suc i) x l le =
+    let rest : greatest (set ys i x) ≡ max x (greatest ys) = greatest_set ys i x (omega arith) le in
+    omega (arith, rest)
+
+-- a place that is none of these stands not once among them
+pub not_once : (places : List ℕ) (k : ℕ) → IsNotIn (length places) places 0 k → times k places ≡ 0
+not_once [] k none = refl
+not_once (x ∷ places) k none =
+    let other : x ≢ k = none.each 0 (omega arith) (omega arith) in
+    let rest : times k places ≡ 0 = not_once places k (record { each = λ j le lt. none.each (suc j) (omega arith) (omega arith) }) in
+    rw (ne_eqb x k other) rest
+
+-- at every place it is right, once all places are
+pub same_put : (places into loads : List ℕ) → length into ≡ length loads → ((k : ℕ) → k < length loads → IsNotIn (length places) places (length places) k → get_or into k 0 ≡ get_or loads k 0) → into ≡ loads
+same_put places into loads size h = ext_get_or 0 into loads size (λ k l. h k (omega arith) (record { each = λ j le lt. absurd (omega arith) }))

@@ -1,5 +1,5 @@
 -- What a table of lengths keeps.
-use Rattle.std.proofs.Common.{◌≡◌, ℕ, ◌<◌, ◌≤◌, List, length, get_or, sym, ap, subst, ◌∙◌}
+use Rattle.std.proofs.Common.{◌≡◌, ℕ, ◌-◌, ◌^◌, ◌<◌, ◌≤◌, min, List, length, get_or, sym, ap, subst, ◌∙◌}
 use Rattle.std.specs.Prelude.{All}
 use Rattle.flow_model.specs.declared.net.Cell.{Cell}
 use Rattle.flow_model.specs.declared.setting.Setting.{Setting}
@@ -7,10 +7,10 @@ use Rattle.flow_model.specs.Network.{Network, IsNetwork}
 use Rattle.flow_model.specs.Lengths.{AreLengths, IsSetting, exponent, greatest_exponent, least_capacity, length_at, lengths_at, lengths_of}
 use Rattle.mcf_limits.specs.declared.TheConstants.{MAX_LENGTH}
 use Rattle.fixed_exp.specs.Far.{EmptyAreFar}
-use Rattle.fixed_exp.specs.Kept.{cell_at, AreRates, AreRated, KeepsExponent}
+use Rattle.fixed_exp.specs.Kept.{cell_at, greatest, AreRates, AreRated, KeepsExponent}
 use Rattle.fixed_exp.specs.declared.rates.Rate.{Rate}
 use Rattle.fixed_exp.specs.LoadedNetwork.{IsLengthTable}
-use Rattle.fixed_exp.proofs.Passes.{get_or-lengths_at, lengths-fit, empty-far, least_bounds, greatest_bounds}
+use Rattle.fixed_exp.proofs.Passes.{get_or-lengths_at, greatest_kept, lengths-fit, empty-far, least_bounds, greatest_bounds}
 
 -- the length of each cell
 pub ready-at : (net : Network) (s : Setting) (loads kept ready : List ℕ) (top least : ℕ) (rates : List Rate) (places : ℕ) → IsLengthTable net s loads kept ready top least rates places
@@ -19,6 +19,10 @@ ready-at net s loads kept ready top least rates places t k l =
     ap (λ (xs : List ℕ). get_or xs k 0) t.lengths ∙ (get_or-lengths_at s (greatest_exponent s net.cells loads) (least_capacity net.cells) net.cells loads k t.count l
     ∙ (ap (λ (n : ℕ). length_at s n (least_capacity net.cells) (cell_at net.cells k) (get_or loads k 0)) (sym t.top)
     ∙ ap (λ (n : ℕ). length_at s top n (cell_at net.cells k) (get_or loads k 0)) (sym t.least)))
+
+-- the greatest exponent as far as it fits
+pub top-kept : (net : Network) (s : Setting) (loads kept ready : List ℕ) (top least : ℕ) (rates : List Rate) (places : ℕ) → IsLengthTable net s loads kept ready top least rates places → greatest kept ≡ min top (2 ^ 64 - 1)
+top-kept net s loads kept ready top least rates places t = greatest_kept s net.cells loads kept t.count t.exponents t.each ∙ ap (λ (n : ℕ). min n (2 ^ 64 - 1)) (sym t.top)
 
 -- the table of other loads
 pub table-of : (net : Network) (s : Setting) (loads kept ready : List ℕ) (top least : ℕ) (rates : List Rate) (places : ℕ) → IsNetwork net → IsSetting s → length loads ≡ length net.cells → All (λ x. x ≤ MAX_LENGTH) loads

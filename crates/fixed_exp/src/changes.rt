@@ -1,4 +1,4 @@
-//! The places at which loads differ from those of before.
+//! The places at which loads differ from those of before, looked for or given.
 
 ghost use Rattle.std.specs.Prelude.{◌≡◌, ℕ, ◌<◌, ◌≤◌, length, slice_index};
 ghost use Rattle.fixed_exp.specs.Changes.{AreBelow, AreSameBut};
@@ -21,4 +21,17 @@ pub fn changed_places(old: &[u64], loads: &[u64], places: &mut [u16]) -> usize
         count += usize::from(loads[i] != old[i]);
     }
     count
+}
+
+/// Takes the loads at these places, where all others are as they were.
+pub fn copy_at(loads: &[u64], places: &[u16], into: &mut [u64])
+    requires into { length into.old ≡ length loads.now }
+    requires below { AreBelow (length loads.now) (length places.now) places.now }
+    requires same { AreSameBut (length places.now) places.now (length loads.now) into.old loads.now }
+    ensures { into.new ≡ loads.now }
+{
+    for j in 0..places.len() {
+        let i = places[j] as usize;
+        into[i] = loads[i];
+    }
 }

@@ -1,6 +1,6 @@
 //! Exponents and lengths that follow the loads: what did not change is not computed again.
 
-ghost use Rattle.std.specs.Prelude.{◌≡◌, ℕ, ◌-◌, ◌^◌, ◌<◌, ◌≤◌, min, length, slice_index, All};
+ghost use Rattle.std.specs.Prelude.{◌≡◌, ℕ, ◌-◌, ◌^◌, ◌<◌, ◌≤◌, false, min, length, slice_index, All, IfSome};
 ghost use Rattle.flow_model.specs.Lengths.{exponent, length_at, greatest_exponent, lengths_at};
 ghost use Rattle.fixed_exp.specs.Changes.{AreBelow, IsNotIn};
 ghost use Rattle.fixed_exp.specs.Kept.{AreRated, KeepsExponent, cell_at, greatest, length_from};
@@ -17,8 +17,23 @@ pub struct Changed<'a> {
     pub count: usize,
 }
 
-/// Puts the exponents of the cells at the changed places in their place, as far as they fit.
-fn put_exponents(rated: &Rated<'_>, loads: &[u64], changed: &Changed<'_>, kept: &mut [u64])
+/// Whether a number fell, or one did before.
+#[inline(always)]
+fn falls_too(falls: bool, old: u64, new: u64) -> bool
+    ensures { result ≡ false → (falls ≡ false) × (old ≤ new) }
+{
+    falls | (new < old)
+}
+
+/// Puts the exponents of the cells at the changed places in their place, as far as they fit, and gives the greatest of
+/// all, where the greatest was this one and none fell.
+fn put_exponents(
+    rated: &Rated<'_>,
+    loads: &[u64],
+    changed: &Changed<'_>,
+    kept: &mut [u64],
+    before: u64,
+) -> Option<u64>
     requires rated { AreRated rated.now.cells.now rated.now.least rated.now.rates.now }
     requires loads { length loads.now ≡ length rated.now.cells.now }
     requires small { All (λ x. x ≤ MAX_LENGTH) loads.now }
@@ -28,16 +43,24 @@ fn put_exponents(rated: &Rated<'_>, loads: &[u64], changed: &Changed<'_>, kept: 
     requires kept { (k : ℕ) → k < length rated.now.cells.now
         → IsNotIn changed.now.count changed.now.places.now 0 k
         → KeepsExponent rated.now.scale.now.setting rated.now.cells.now loads.now kept.old k }
-    ensures { (k : ℕ) → k < length rated.now.cells.now
+    requires before { greatest kept.old ≡ before }
+    ensures kept { (k : ℕ) → k < length rated.now.cells.now
         → KeepsExponent rated.now.scale.now.setting rated.now.cells.now loads.now kept.new k }
+    ensures greatest { IfSome result (λ top. greatest kept.new ≡ top) }
 {
+    let mut top = before;
+    let mut falls = false;
     for j in 0..changed.count {
         let i = changed.places[j] as usize;
         let exponent = rated
             .scale
-            .exponent_by_rate(&rated.cells[i], loads[i], rated.rates[i].exponent);
-        kept[i] = exponent.min(u128::from(u64::MAX)) as u64;
+            .exponent_by_rate(&rated.cells[i], loads[i], rated.rates[i].exponent)
+            .min(u128::from(u64::MAX)) as u64;
+        falls = falls_too(falls, kept[i], exponent);
+        top = exponent.max(top);
+        kept[i] = exponent;
     }
+    if falls { None } else { Some(top) }
 }
 
 /// The greatest number, or 0 where there is none.
@@ -51,10 +74,22 @@ fn greatest_of(numbers: &[u64]) -> u64
     top
 }
 
+/// The greatest of the numbers, looked for only where it is not known.
+fn top_of(numbers: &[u64], known: Option<u64>) -> u64
+    requires { IfSome known (λ top. greatest numbers.now ≡ top) }
+    ensures { result ≡ greatest numbers.now }
+{
+    match known {
+        Some(top) => top,
+        None => greatest_of(numbers),
+    }
+}
+
 /// Puts the exponents of the cells at the changed places in the place of those of before, as far as they fit, and gives
-/// the greatest exponent of all cells.
+/// the greatest exponent of all cells, which was this one. The other cells are gone over only where an exponent fell.
 fn follow_exponents(
     rated: &Rated<'_>,
+    before: u128,
     loads: &[u64],
     changed: &Changed<'_>,
     kept: &mut [u64],
@@ -68,13 +103,15 @@ fn follow_exponents(
     requires kept { (k : ℕ) → k < length rated.now.cells.now
         → IsNotIn changed.now.count changed.now.places.now 0 k
         → KeepsExponent rated.now.scale.now.setting rated.now.cells.now loads.now kept.old k }
+    requires before { greatest kept.old ≡ min before (2 ^ 64 - 1) }
     ensures greatest { result
         ≡ greatest_exponent rated.now.scale.now.setting rated.now.cells.now loads.now }
     ensures kept { (k : ℕ) → k < length rated.now.cells.now
         → KeepsExponent rated.now.scale.now.setting rated.now.cells.now loads.now kept.new k }
 {
-    put_exponents(rated, loads, changed, kept);
-    let top = greatest_of(kept);
+    let most = before.min(u128::from(u64::MAX)) as u64;
+    let known = put_exponents(rated, loads, changed, kept, most);
+    let top = top_of(kept, known);
     if top < u64::MAX {
         return u128::from(top);
     }
@@ -216,6 +253,7 @@ impl Powers {
             → IsNotIn changed.now.count changed.now.places.now 0 k
             → slice_index into.old k ≡ length_at rated.now.scale.now.setting before rated.now.least
             (cell_at rated.now.cells.now k) (slice_index loads.now k) }
+        requires before { greatest kept.old ≡ min before (2 ^ 64 - 1) }
         ensures greatest { result
             ≡ greatest_exponent rated.now.scale.now.setting rated.now.cells.now loads.now }
         ensures kept { (k : ℕ) → k < length rated.now.cells.now
@@ -223,7 +261,7 @@ impl Powers {
         ensures lengths { into.new
             ≡ lengths_at rated.now.scale.now.setting result rated.now.least rated.now.cells.now loads.now }
     {
-        let top = follow_exponents(rated, loads, changed, kept);
+        let top = follow_exponents(rated, before, loads, changed, kept);
         let stands = top == before;
         if stands {
             self.put_changed_lengths(rated, top, loads, changed, kept, into);

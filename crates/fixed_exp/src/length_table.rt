@@ -2,10 +2,11 @@
 
 ghost use Rattle.std.specs.Prelude.{◌≡◌, ℕ, ◌<◌, ◌≤◌, length, slice_index, All, IfOk};
 ghost use Rattle.flow_model.specs.Lengths.{AreLengths, IsSetting, lengths_of};
+ghost use Rattle.flow_model.specs.Walk.{times};
 ghost use Rattle.fixed_exp.specs.Far.{EmptyAreFar};
 ghost use Rattle.fixed_exp.specs.Kept.{AreRates, cell_at};
 
-use crate::changes::changed_places;
+use crate::changes::{changed_places, copy_at};
 use crate::follow::Changed;
 use crate::lengths::least_of;
 use crate::powers::Powers;
@@ -41,7 +42,8 @@ impl Model for LengthTable {
 
     ghost view = { λ t. record { net = t.net.value; setting = t.scale.setting; loads = t.loads.items } };
 
-    ghost invariant = { λ t. IsLengthTable t.net.value t.scale.setting t.loads.items t.exponents.items t.lengths.items t.top t.least t.rates.items (length t.places.items) };
+    ghost invariant = { λ t. IsLengthTable t.net.value t.scale.setting t.loads.items t.exponents.items
+        t.lengths.items t.top t.least t.rates.items (length t.places.items) };
 }
 
 /// Puts each cell's rate in its place.
@@ -132,6 +134,41 @@ impl LengthTable {
         );
         self.top = top;
         self.loads.as_mut_slice().copy_from_slice(loads);
+    }
+
+    /// Takes other loads, one for each cell, which are as before at every cell that does not stand among these. It takes no
+    /// memory, and costs what these cells are, and more only where the greatest exponent moved or one of them fell.
+    pub fn update_at(&mut self, powers: &Powers, net: &Net, loads: &[u64], cells: &[u16])
+        requires net { net.now ≡ self.old.net }
+        requires loads { length loads.now ≡ length net.now.cells }
+        requires small { All (λ x. x ≤ MAX_LENGTH) loads.now }
+        requires within { All (λ c. c < length net.now.cells) cells.now }
+        requires same { (c : ℕ) → c < length net.now.cells → times c cells.now ≡ 0
+            → slice_index self.old.loads c ≡ slice_index loads.now c }
+        ensures net { self.new.net ≡ self.old.net }
+        ensures setting { self.new.setting ≡ self.old.setting }
+        ensures loads { self.new.loads ≡ loads.now }
+    {
+        let rated = Rated {
+            scale: &self.scale,
+            least: self.least,
+            cells: net.cells(),
+            rates: &self.rates,
+        };
+        let changed = Changed {
+            places: cells,
+            count: cells.len(),
+        };
+        let top = powers.follow(
+            &rated,
+            self.top,
+            loads,
+            &changed,
+            &mut self.exponents,
+            &mut self.lengths,
+        );
+        self.top = top;
+        copy_at(loads, cells, &mut self.loads);
     }
 
     /// The length of each cell under the loads: at least 1 and at most 2^52, and 2^62 for a cell without capacity.

@@ -32,7 +32,10 @@ impl Model for Dual {
 
     ghost use Rattle.flow_paths.specs.DualViews.{lengths_of_rows, potentials_of_rows, AreWithinLimits};
 
-    ghost view = { λ d. record { lengths = lengths_of_rows d.lengths.items; potentials = potentials_of_rows d.potentials.items } };
+    ghost view = { λ d. record {
+      lengths = lengths_of_rows d.lengths.items;
+      potentials = potentials_of_rows d.potentials.items;
+    } };
 
     ghost invariant = { λ d. AreWithinLimits d.lengths.items d.potentials.items };
 }

@@ -1,8 +1,6 @@
 -- What is reached with the first phase, and with one phase more.
 use Rattle.std.proofs.Common.{◌≡◌, ◌≢◌, ℕ, zero, suc, ◌+◌, ◌*◌, ◌<◌, ◌≤◌, Bool, true, false, nat_eq, cond, List, [], ◌∷◌, ◌++◌, length, get_or, take, refl, sym, ap, ◌∙◌, subst, arith, ne_eqb}
 use Rattle.std.specs.Prelude.{All, map}
-use Rattle.std.specs.declared.vec.Vec.{Vec}
-use Rattle.std.specs.declared.alloc.Global.{Global}
 use Rattle.std.proofs.Math.Seq.{take-length}
 use Rattle.std.proofs.lemmas.List.{length-append}
 use Rattle.std.proofs.lemmas.List.Elements.{All-append, All-cons, All-nil}
@@ -25,8 +23,9 @@ use Rattle.solver_run.specs.declared.options.SolveOptions.{SolveOptions}
 use Rattle.solver_run.specs.History.{routed_in, loads_after, fill_after, lower_after, first_setting, later_setting, setting_after, AreRoutedBy}
 use Rattle.solver_run.specs.Run.{no_dual, least_dual, IsClosedAfter, ArePhases}
 use Rattle.flow_solver.specs.declared.search.Search.{Search}
+use Rattle.flow_solver.specs.declared.search.BoundRoom.{BoundRoom}
 use Rattle.flow_solver.specs.declared.reached.Reached.{Reached}
-use Rattle.flow_solver.specs.Search.{phases_in, phase_count, IsSearch, HasRouted}
+use Rattle.flow_solver.specs.Search.{phases_in, phase_count, IsBoundRoom, IsSearch, HasRouted}
 use Rattle.flow_solver.specs.Reached.{AllDivide, IsReached, IsMet}
 use Rattle.flow_solver.proofs.Nexts.{phases-more, next-of, no-phases, reference-kept, fill-kept}
 use Rattle.flow_solver.proofs.Routing.{count-of, loads-size}
@@ -204,19 +203,19 @@ next-reached net o r new f later kept is unmet after h same fits bound shows val
           (of-both (λ (b : Bounded). (lengths : List ℕ) × ShowsBound net lengths b.dual) (fraction_le r.kept.value later.value) r.kept later is.shows shows);
     }
 
--- the room for lengths has no bearing
-pub other-lengths : (net : Network) (s : Search) (v : Vec ℕ Global) → length v.items ≡ length net.cells → IsSearch net s → IsSearch net (record { loads = s.loads; lengths = v; hands = s.hands; history = s.history })
-other-lengths net s v size is = record {
+-- the room for bounds has no bearing
+pub other-room : (net : Network) (s : Search) (room : BoundRoom) → IsBoundRoom net room → IsSearch net s → IsSearch net (record { loads = s.loads; room = room; hands = s.hands; history = s.history })
+other-room net s room fits is = record {
   loads = is.loads;
   small = is.small;
-  lengths = size;
+  room = fits;
   hands = is.hands;
   commodities = is.commodities;
   rows = is.rows;
 }
 
-pub routed-other : (net : Network) (setting : Setting) (old s : Search) (v : Vec ℕ Global) → HasRouted net setting old s → HasRouted net setting old (record { loads = s.loads; lengths = v; hands = s.hands; history = s.history })
-routed-other net setting old s v r = record {
+pub routed-other : (net : Network) (setting : Setting) (old s : Search) (room : BoundRoom) → HasRouted net setting old s → HasRouted net setting old (record { loads = s.loads; room = room; hands = s.hands; history = s.history })
+routed-other net setting old s room r = record {
   entries = r.entries;
   phases = r.phases;
   hands = r.hands;

@@ -20,7 +20,7 @@ use Rattle.solver_run.specs.Paths.{IsPathOf, HavePaths}
 use Rattle.solver_run.specs.History.{routed_in, loads_after}
 use Rattle.solver_run.proofs.Paths.{phase-paths}
 use Rattle.flow_solver.specs.declared.search.Search.{Search}
-use Rattle.flow_solver.specs.Search.{AreIdle, phases_in, phase_count, IsSearch, HasRouted}
+use Rattle.flow_solver.specs.Search.{AreIdle, IsBoundRoom, phases_in, phase_count, IsSearch, HasRouted}
 use Rattle.flow_solver.proofs.Loads.{loads-more, loads-small, once, phase-adds, phase-loads, total-amounts, room-above}
 
 -- hands
@@ -116,9 +116,9 @@ some-load net (e ∷ es) base loads n have count sums = by_path e.path refl
         (c, inside, omega arith)
 
 pub search-more : (net : Network) (setting : Setting) (old new : Search) (hands : List Hand) → IsNetwork net → IsSearch net old → (p : IsRoutedPhase net setting old.loads.items new.loads.items hands)
-    → length new.loads.items ≡ length net.cells → phases_in new ≡ phases_in old ++ p.entries ∷ [] → length new.lengths.items ≡ length net.cells → AreIdle net.nodes new.hands.items
+    → length new.loads.items ≡ length net.cells → phases_in new ≡ phases_in old ++ p.entries ∷ [] → IsBoundRoom net new.room → AreIdle net.nodes new.hands.items
     → new.history.commodities ≡ length net.commodities → AreRowsFor net new.history.history new.history.rows → IsSearch net new
-search-more net setting old new hands n is p size phases lengths idle commodities rows =
+search-more net setting old new hands n is p size phases room idle commodities rows =
     let before = count-of old in
     let after = count-of new in
     let longer = ap (λ (xs : List (List Routed)). length xs) phases in
@@ -133,7 +133,7 @@ search-more net setting old new hands n is p size phases lengths idle commoditie
       small = subst (λ (i : ℕ). All (λ (x : ℕ). x ≤ i * MAX_TOTAL) new.loads.items) (sym count)
           (loads-small old.loads.items new.loads.items (load_of (amounts_along 0 net.commodities p.entries)) (phase_count old) MAX_TOTAL (omega arith) (λ c l. p.sums c (omega arith))
           (λ c. (let few = phase-adds net.commodities p.entries 0 c (λ k r at. once c r.path (have k r at).different) in omega arith)) is.small);
-      lengths = lengths;
+      room = room;
       hands = idle;
       commodities = commodities;
       rows = rows;

@@ -7,7 +7,9 @@ use Rattle.phase_engine.specs.declared.hand.Hand.{Hand}
 use Rattle.flow_solver.specs.Rows.{phases_kept, AreRowsFor}
 use Rattle.solver_run.specs.History.{loads_after}
 use Rattle.mcf_limits.specs.declared.TheConstants.{MAX_TOTAL, MAX_WORKERS}
+use Rattle.dual_bound.specs.Rows.{AreRoom}
 use Rattle.flow_solver.specs.declared.search.Search.{Search}
+use Rattle.flow_solver.specs.declared.search.BoundRoom.{BoundRoom}
 
 -- hand k between two phases: its number, no turn, and a scratch for so many nodes
 abbrev pub IsIdle : ℕ → ℕ → Hand → Type 0
@@ -27,11 +29,16 @@ phases_in s = phases_kept s.history
 abbrev pub phase_count : Search → ℕ
 phase_count s = length s.history.history
 
--- the loads are those after the phases that are kept, with room for a length a cell, and rows and entries belong together
+-- room for a length a cell, and for a row a source
+pub record IsBoundRoom (net : Network) (room : BoundRoom) : Type 0 where
+  pub lengths : length room.lengths.items ≡ length net.cells
+  pub rows : AreRoom net room.rows.items
+
+-- the loads are those after the phases that are kept, with room for bounds, and rows and entries belong together
 pub record IsSearch (net : Network) (s : Search) : Type 0 where
   pub loads : s.loads.items ≡ loads_after net (phases_in s) (phase_count s)
   pub small : All (λ (x : ℕ). x ≤ phase_count s * MAX_TOTAL) s.loads.items
-  pub lengths : length s.lengths.items ≡ length net.cells
+  pub room : IsBoundRoom net s.room
   pub hands : AreIdle net.nodes s.hands.items
   pub commodities : s.history.commodities ≡ length net.commodities
   pub rows : AreRowsFor net s.history.history s.history.rows

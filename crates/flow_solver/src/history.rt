@@ -179,6 +179,3 @@ impl PathHistory {
         Ok(OrderedHistory { paths, entries })
     }
 }
-
-#[cfg(test)]
-mod tests;

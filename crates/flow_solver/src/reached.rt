@@ -91,7 +91,7 @@ pub fn first<G: Gate, R: Threads + Sync>(
         on,
         &later,
         &search.loads,
-        &mut search.lengths,
+        &mut search.room,
         threads,
     )?;
     Ok(Reached {
@@ -136,7 +136,7 @@ pub fn next<G: Gate, R: Threads + Sync>(
         on,
         &setting,
         &search.loads,
-        &mut search.lengths,
+        &mut search.room,
         threads,
     )?;
     Ok(Reached {

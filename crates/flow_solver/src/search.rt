@@ -8,12 +8,12 @@ ghost use Rattle.dual_bound.specs.Bounds.{IsBoundOf, ShowsBound};
 ghost use Rattle.flow_core.specs.Core.{IsStart};
 ghost use Rattle.phase_engine.specs.Hands.{IsFresh, AreSameWorkers};
 ghost use Rattle.phase_engine.specs.Routing.{IsRoutedPhase};
-ghost use Rattle.flow_solver.specs.Search.{HasRouted, IsSearch, phase_count};
+ghost use Rattle.flow_solver.specs.Search.{HasRouted, IsBoundRoom, IsSearch, phase_count};
 
 use crate::PathHistory;
 use crate::hands::{forget_all, new_hands};
 use crate::prepared::Prepared;
-use dual_bound::{Bounded, bound_in};
+use dual_bound::{Bounded, Row, bound_in, source_rows};
 use flow_model::{Net, Setting};
 use load_table::Loads;
 use mcf_base::Gate;
@@ -22,11 +22,18 @@ use phase_engine::{Hand, PhaseInput, phase};
 use std::alloc::{AllocError, Global};
 use std::thread::Threads;
 
-/// What some phases have made: the load of each cell, and who routed what. The lengths are room for those of a bound.
+/// Room for bounds, from one to the next: a length for each cell, and a row for each source.
+#[derive(Drop)]
+pub struct BoundRoom {
+    pub lengths: Vec<u64>,
+    pub rows: Vec<Row>,
+}
+
+/// What some phases have made: the load of each cell, and who routed what; and room for bounds.
 #[derive(Drop)]
 pub struct Search {
     pub loads: Vec<u64>,
-    pub lengths: Vec<u64>,
+    pub room: BoundRoom,
     pub hands: Vec<Hand>,
     pub history: PathHistory,
 }
@@ -50,7 +57,10 @@ pub fn new_search(alloc: Global, net: &Net, workers: u16) -> Result<Search, Allo
     let cells = net.cells().len();
     Ok(Search {
         loads: zeros(alloc, cells)?,
-        lengths: zeros(alloc, cells)?,
+        room: BoundRoom {
+            lengths: zeros(alloc, cells)?,
+            rows: source_rows(alloc, net)?,
+        },
         hands: new_hands(alloc, net, workers)?,
         history: PathHistory::new(alloc, net),
     })
@@ -134,19 +144,21 @@ pub fn bound_of<R: Threads + Sync>(
     on: &Prepared<'_>,
     setting: &Setting,
     loads: &[u64],
-    lengths: &mut [u64],
+    room: &mut BoundRoom,
     threads: u16,
 ) -> Result<Bounded, AllocError>
     requires setting { IsSetting setting.now }
     requires loads { length loads.now ≡ length on.now.net.now.cells }
     requires small { All (λ x. x ≤ MAX_LENGTH) loads.now }
-    requires lengths { length lengths.old ≡ length on.now.net.now.cells }
+    requires room { IsBoundRoom on.now.net.now room.old }
+    ensures room { OnOk result (IsBoundRoom on.now.net.now room.new) }
     ensures dual { IfOk result (λ b. IsBoundOf on.now.net.now
         (lengths_of on.now.net.now setting.now loads.now) b.dual) }
     ensures shows { IfOk result (λ b. ShowsBound on.now.net.now
         (lengths_of on.now.net.now setting.now loads.now) b.dual) }
     ensures value { IfOk result (λ b. b.value ≡ upper_of on.now.net.now b.dual) }
 {
+    let BoundRoom { lengths, rows } = room;
     on.powers.lengths(on.net, setting, loads, lengths);
-    bound_in(rt, alloc, on.net, on.graph, lengths, threads)
+    bound_in(rt, alloc, on.net, on.graph, lengths, rows, threads)
 }

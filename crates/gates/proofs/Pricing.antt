@@ -78,7 +78,7 @@ least-more net lengths n None None before here = λ k other lt p. elim (cases_lt
     at_end : (k n : ℕ) → k < n + 1 → n ≤ k → k ≡ n
     at_end k n a b = omega arith
 least-more net lengths n None (Some b) before here = (
-  (n, here.0),
+  (n, omega arith, here.0),
   λ k other lt p. elim (cases_lt k n) [
     | inl less ↦ absurd (before k other less p)
     | inr more ↦ here.1 other (subst (λ (j : ℕ). IsPrice net lengths j other) (at_end k n lt more) p)
@@ -88,7 +88,7 @@ least-more net lengths n None (Some b) before here = (
     at_end : (k n : ℕ) → k < n + 1 → n ≤ k → k ≡ n
     at_end k n a b = omega arith
 least-more net lengths n (Some a) None before here = (
-  before.0,
+  (before.0.0, omega (arith, before.0.1), before.0.2),
   λ k other lt p. elim (cases_lt k n) [
     | inl less ↦ before.1 k other less p
     | inr more ↦ absurd (here other (subst (λ (j : ℕ). IsPrice net lengths j other) (at_end k n lt more) p))
@@ -108,13 +108,13 @@ least-more net lengths n (Some a) (Some b) before here = (
     at_end : (k n : ℕ) → k < n + 1 → n ≤ k → k ≡ n
     at_end k n a b = omega arith
 
-    either : (a < b) ⊎ (b ≤ a) → (k : ℕ) × IsPrice net lengths k (min a b)
-    either (inl l) = let is : a ≡ min a b = omega arith in (before.0.0, subst (λ (x : ℕ). IsPrice net lengths before.0.0 x) is before.0.1)
-    either (inr l) = let is : b ≡ min a b = omega arith in (n, subst (λ (x : ℕ). IsPrice net lengths n x) is here.0)
+    either : (a < b) ⊎ (b ≤ a) → (k : ℕ) × (k < n + 1) × IsPrice net lengths k (min a b)
+    either (inl l) = let is : a ≡ min a b = omega arith in (before.0.0, omega (arith, before.0.1), subst (λ (x : ℕ). IsPrice net lengths before.0.0 x) is before.0.2)
+    either (inr l) = let is : b ≡ min a b = omega arith in (n, omega arith, subst (λ (x : ℕ). IsPrice net lengths n x) is here.0)
 
 pub least-done : (net : Network) (lengths : List ℕ) (n : ℕ) (best : Option ℕ) → length net.commodities ≤ n → IsLeastBelow net lengths n best → IsLeastIfAny net lengths best
 least-done net lengths n None all is = λ k other p. is k other (let inside = slice_get_within net.commodities k p.commodity p.at in omega arith) p
 least-done net lengths n (Some a) all is = record {
-  some = is.0;
+  some = (is.0.0, is.0.2);
   least = λ k other p. is.1 k other (let inside = slice_get_within net.commodities k p.commodity p.at in omega arith) p;
 }

@@ -19,7 +19,7 @@ IsPriceOf net lengths k price = MatchOption price
 abbrev pub IsLeastBelow : Network → List ℕ → ℕ → Option ℕ → Type 0
 IsLeastBelow net lengths n least = MatchOption least
     ((k other : ℕ) → k < n → IsPrice net lengths k other → ⊥)
-    (λ p. ((k : ℕ) × IsPrice net lengths k p) × ((k other : ℕ) → k < n → IsPrice net lengths k other → p ≤ other))
+    (λ p. ((k : ℕ) × (k < n) × IsPrice net lengths k p) × ((k other : ℕ) → k < n → IsPrice net lengths k other → p ≤ other))
 
 -- the least price of all; none where no commodity has a walk
 abbrev pub IsLeastIfAny : Network → List ℕ → Option ℕ → Type 0

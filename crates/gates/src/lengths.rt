@@ -1,7 +1,8 @@
 //! Lengths of cells and gates together.
 
-ghost use Rattle.std.specs.Prelude.{◌≡◌, ℕ, ◌++◌, ◌+◌, ◌-◌, ◌*◌, ◌/◌, ◌^◌, ◌<◌, ◌≤◌, max, min, length, All};
+ghost use Rattle.std.specs.Prelude.{◌≡◌, ℕ, ◌++◌, ◌+◌, ◌-◌, ◌*◌, ◌/◌, ◌^◌, ◌<◌, ◌≤◌, max, min, length, slice_index, All};
 ghost use Rattle.flow_model.specs.Lengths.{AreLengths, IsSetting, exponent, length_at, greatest_exponent, least_capacity, lengths_at, lengths_of};
+ghost use Rattle.flow_model.specs.Walk.{times};
 ghost use Rattle.fixed_exp.specs.Far.{EmptyAreFar};
 ghost use Rattle.fixed_exp.specs.Kept.{cell_at};
 ghost use Rattle.gates.specs.Gates.{gated};
@@ -97,6 +98,64 @@ pub fn put_lengths(powers: &Powers, under: &Under, cells: &[Cell], loads: &[u64]
 {
     for (i, slot) in into.iter_mut().enumerate() {
         *slot = length_of(powers, under, &cells[i], loads[i]);
+    }
+}
+
+/// Puts the length of each of these cells at the places in its place, where every other length stands there.
+fn put_lengths_at(
+    powers: &Powers,
+    under: &Under,
+    cells: &[Cell],
+    loads: &[u64],
+    places: &[u16],
+    into: &mut [u64],
+)
+    requires setting { IsSetting under.now.setting }
+    requires caps { All (λ cell. cell.cap ≤ MAX_UNITS) cells.now }
+    requires loads { length loads.now ≡ length cells.now }
+    requires small { All (λ x. x ≤ MAX_LENGTH) loads.now }
+    requires into { length into.old ≡ length cells.now }
+    requires least { under.now.least ≤ least_capacity cells.now }
+    requires top { greatest_exponent under.now.setting cells.now loads.now ≤ under.now.top }
+    requires within { All (λ c. c < length cells.now) places.now }
+    requires stands { (c : ℕ) → c < length cells.now → times c places.now ≡ 0 → slice_index into.old c
+        ≡ length_at under.now.setting under.now.top under.now.least (cell_at cells.now c) (slice_index loads.now c) }
+    ensures { into.new ≡ lengths_at under.now.setting under.now.top under.now.least cells.now loads.now }
+{
+    for j in 0..places.len() {
+        let i = places[j] as usize;
+        into[i] = length_of(powers, under, &cells[i], loads[i]);
+    }
+}
+
+/// Puts the length of each of these cells in its place, where those of loads stand there that differ at these places
+/// alone, under this greatest exponent. Where the greatest is still this one, no other cell is gone over.
+pub fn follow_lengths(
+    powers: &Powers,
+    under: &Under,
+    before: u128,
+    cells: &[Cell],
+    loads: &[u64],
+    places: &[u16],
+    into: &mut [u64],
+)
+    requires setting { IsSetting under.now.setting }
+    requires caps { All (λ cell. cell.cap ≤ MAX_UNITS) cells.now }
+    requires loads { length loads.now ≡ length cells.now }
+    requires small { All (λ x. x ≤ MAX_LENGTH) loads.now }
+    requires into { length into.old ≡ length cells.now }
+    requires least { under.now.least ≤ least_capacity cells.now }
+    requires top { greatest_exponent under.now.setting cells.now loads.now ≤ under.now.top }
+    requires within { All (λ c. c < length cells.now) places.now }
+    requires stands { (c : ℕ) → c < length cells.now → times c places.now ≡ 0 → slice_index into.old c
+        ≡ length_at under.now.setting before under.now.least (cell_at cells.now c) (slice_index loads.now c) }
+    ensures { into.new ≡ lengths_at under.now.setting under.now.top under.now.least cells.now loads.now }
+{
+    let stands = under.top == before;
+    if stands {
+        put_lengths_at(powers, under, cells, loads, places, into);
+    } else {
+        put_lengths(powers, under, cells, loads, into);
     }
 }
 

@@ -8,6 +8,7 @@ mod prices;
 
 pub use gate_cells::gates;
 pub use lengths::{
-    Gated, Under, exponent, gated_lengths, greatest_of, least_of, length_of, put_lengths,
+    Gated, Under, exponent, follow_lengths, gated_lengths, greatest_of, least_of, length_of,
+    put_lengths,
 };
 pub use prices::least_price;

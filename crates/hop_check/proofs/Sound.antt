@@ -10,8 +10,8 @@ use Rattle.flow_model.specs.declared.net.Commodity.{Commodity}
 use Rattle.flow_model.specs.Network.{Network, IsNetwork, IsCommodity}
 use Rattle.flow_model.specs.Walk.{IsWalk}
 use Rattle.flow_model.specs.Routing.{Row}
-use Rattle.flow_model.specs.Bound.{walk_length, IsBelowItsRows}
-use Rattle.flow_model.proofs.Duality.{duality_of_rows, no_commodity}
+use Rattle.flow_model.specs.Bound.{volume, weighted_distance, walk_length, IsBelowItsRows}
+use Rattle.flow_model.proofs.Duality.{duality_of_rows, no_commodity, potential_bounds}
 use Rattle.flow_paths.specs.Certificate.{length_of, lengths_in, distance_of, distances_in}
 use Rattle.cert_check.proofs.Sound.{valid_is_feasible, distances_below}
 use Rattle.hop_paths.specs.Allowed.{limit_at, IsWithin, IsHopFeasible}
@@ -19,6 +19,7 @@ use Rattle.hop_paths.proofs.Layered.{layers_bound}
 use Rattle.hop_check.specs.declared.hop_proof.HopProof.{HopProof}
 use Rattle.hop_check.specs.Layers.{HopDual, dual_of, layer_in, hop_distance, hop_distances, hop_upper_of}
 use Rattle.hop_check.specs.Conditions.{RowsBound, IsBelowWalksWithin, IsValidHops, IsHopCertified}
+use Rattle.hop_check.specs.Laws.{IsGiven, AreGiven}
 
 positive : (n : ℕ) → n ≢ 0 → 1 ≤ n
 positive n h = omega arith
@@ -55,10 +56,41 @@ hops_below net limits h fits bound k commodity walk at w within =
     rw (hop_distance_at net limits (dual_of h) k commodity at) (below_limit net limits h k commodity walk (limit_at limits k) fits bound at refl w within)
 
 -- the bound holds of the rows of every routing within the limits
-rows_below : (net : Network) (limits : List (Option ℕ)) (lengths distances : List ℕ) (rows : List Row) (a q : ℕ) → IsBelowWalksWithin net limits lengths distances → IsHopFeasible net limits rows a q → IsBelowItsRows lengths distances rows
+pub rows_below : (net : Network) (limits : List (Option ℕ)) (lengths distances : List ℕ) (rows : List Row) (a q : ℕ) → IsBelowWalksWithin net limits lengths distances → IsHopFeasible net limits rows a q → IsBelowItsRows lengths distances rows
 rows_below net limits lengths distances rows a q below f = λ i d lt.
     let j = f.feasible.walks i d lt in
     below (get_or rows i d).commodity j.0 (get_or rows i d).walk j.1 j.2 (f.within i d lt)
+
+-- distances that no walk within its limit is shorter than bound every routing within the limits
+pub distances_bound : (net : Network) (limits : List (Option ℕ)) (lengths distances : List ℕ) (rows : List Row) (a q : ℕ)
+    → length lengths ≡ length net.cells → IsBelowWalksWithin net limits lengths distances → IsHopFeasible net limits rows a q
+    → a * weighted_distance net.commodities distances ≤ q * volume net.cells lengths
+distances_bound net limits lengths distances rows a q len below f = duality_of_rows net rows a q lengths distances len (rows_below net limits lengths distances rows a q below f) f.feasible
+
+-- a distance that is given by layers or by a potential is below every walk within the limit
+given_below : (net : Network) (lengths : List ℕ) (layers : ℕ → ℕ → List ℕ) (potentials : ℕ → List ℕ) (commodity : Commodity) (distance : ℕ) (walk : List ℕ) (limit : Option ℕ)
+    → IsCommodity net.nodes commodity → IsGiven net lengths layers potentials commodity distance limit
+    → IsWalk net.cells commodity.from commodity.to walk → IsWithin limit walk → distance ≤ walk_length lengths walk
+given_below net lengths layers potentials commodity distance walk None named is w within =
+    let bound = potential_bounds net.cells lengths (potentials commodity.from) walk commodity.from commodity.to is.0 w in
+    omega (arith, is.1, bound)
+given_below net lengths layers potentials commodity distance walk (Some n) named is w within =
+    let bound = layers_bound net lengths (layers commodity.from) n commodity.from commodity.to walk is.0 named.to w within in
+    omega (arith, is.1, bound)
+
+given_below_walks : (net : Network) (limits : List (Option ℕ)) (lengths distances : List ℕ) (layers : ℕ → ℕ → List ℕ) (potentials : ℕ → List ℕ)
+    → IsNetwork net → AreGiven net limits lengths layers potentials distances → IsBelowWalksWithin net limits lengths distances
+given_below_walks net limits lengths distances layers potentials fits each k commodity walk at w within =
+    let inside = slice_get_within net.commodities k commodity at in
+    let named : IsCommodity net.nodes commodity = subst (λ (x : Commodity). IsCommodity net.nodes x) (get_or_from_slice_get net.commodities k commodity no_commodity at) (fits.commodities k no_commodity inside) in
+    given_below net lengths layers potentials commodity (get_or distances k 0) walk (limit_at limits k) named (each k commodity at) w within
+
+-- so they bound every routing within the limits
+pub layers_bound_rows : (net : Network) (limits : List (Option ℕ)) (lengths distances : List ℕ) (layers : ℕ → ℕ → List ℕ) (potentials : ℕ → List ℕ) (rows : List Row) (a q : ℕ)
+    → IsNetwork net → length lengths ≡ length net.cells → AreGiven net limits lengths layers potentials distances
+    → IsHopFeasible net limits rows a q → a * weighted_distance net.commodities distances ≤ q * volume net.cells lengths
+layers_bound_rows net limits lengths distances layers potentials rows a q fits len each f =
+    distances_bound net limits lengths distances rows a q len (given_below_walks net limits lengths distances layers potentials fits each) f
 
 pub hops_certify : (net : Network) (limits : List (Option ℕ)) (h : HopProof) → IsNetwork net → IsValidHops net limits h → IsHopCertified net limits h
 hops_certify net limits h fits v =

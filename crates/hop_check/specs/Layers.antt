@@ -17,6 +17,10 @@ pub record HopDual : Type 0 where
   pub dual : DualRows
   pub layers : List Layer
 
+-- these together
+abbrev pub hop_dual : DualRows → List Layer → HopDual
+hop_dual dual layers = record { dual = dual; layers = layers }
+
 -- what bounds in a certificate
 abbrev pub dual_of : HopProof → HopDual
 dual_of h = record { dual = h.proof.dual; layers = h.layers }

@@ -4,7 +4,7 @@ ghost use Rattle.std.specs.Prelude.{◌≡◌, ℕ, ◌-◌, ◌^◌, ◌<◌, �
 ghost use Rattle.flow_model.specs.declared.net.Commodity.{Commodity as CommodityIs};
 ghost use Rattle.flow_model.specs.Bound.{weighted_distance};
 ghost use Rattle.hop_paths.specs.Allowed.{limit_at};
-ghost use Rattle.hop_check.specs.Layers.{hop_distance, hop_distances};
+ghost use Rattle.hop_check.specs.Layers.{hop_distance, hop_distances, hop_dual};
 ghost use Rattle.hop_check.specs.Tables.{HasPlaces};
 
 use crate::layers::Layers;
@@ -35,8 +35,8 @@ fn distance(
     places: &[usize],
 ) -> u64
     requires ends { (k.from < net.now.nodes) × (k.to < net.now.nodes) }
-    requires placed { HasPlaces net.now.nodes (record { dual = dual.now; layers = layers.now }) rows.now places.now limit k }
-    ensures value { result ≡ hop_distance (record { dual = dual.now; layers = layers.now }) limit k }
+    requires placed { HasPlaces net.now.nodes (hop_dual dual.now layers.now) rows.now places.now limit k }
+    ensures value { result ≡ hop_distance (hop_dual dual.now layers.now) limit k }
     ensures limit { result ≤ MAX_LENGTH }
 {
     match limit {
@@ -63,9 +63,9 @@ pub fn weighted(
 ) -> u128
     requires count { length limits.now ≡ length net.now.commodities }
     requires placed { (k : ℕ) (commodity : CommodityIs) → slice_get net.now.commodities k ≡ Some commodity
-        → HasPlaces net.now.nodes (record { dual = dual.now; layers = layers.now }) rows.now places.now (limit_at limits.now k) commodity }
+        → HasPlaces net.now.nodes (hop_dual dual.now layers.now) rows.now places.now (limit_at limits.now k) commodity }
     ensures value { result ≡ weighted_distance net.now.commodities
-        (hop_distances net.now limits.now (record { dual = dual.now; layers = layers.now })) }
+        (hop_distances net.now limits.now (hop_dual dual.now layers.now)) }
     ensures limit { result ≤ 2 ^ 108 }
 {
     let mut total = 0u128;

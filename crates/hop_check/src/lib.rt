@@ -18,7 +18,7 @@ mod within;
 pub use asked::{layer_counts, unlimited_counts};
 pub use check::check_hops;
 pub use hop_proof::HopProof;
-pub use laws::valid_hops_certify;
+pub use laws::{distances_bound_within, layers_bound_routings, valid_hops_certify};
 pub use layers::Layers;
 pub use limits::hop_limits;
 pub use rows::hop_weighted_distance;

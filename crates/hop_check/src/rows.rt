@@ -4,7 +4,7 @@ ghost use Rattle.std.specs.Prelude.{◌≡◌, ℕ, ◌^◌, ◌<◌, ◌≤◌,
 ghost use Rattle.flow_model.specs.Bound.{weighted_distance};
 ghost use Rattle.flow_paths.specs.Certificate.{IsPotentialOf, lengths_in};
 ghost use Rattle.hop_paths.specs.Allowed.{AreLimits, has_layer};
-ghost use Rattle.hop_check.specs.Layers.{hop_distances};
+ghost use Rattle.hop_check.specs.Layers.{hop_distances, hop_dual};
 ghost use Rattle.hop_check.specs.Conditions.{IsLayerOf, IsHopProofOf, RowsAreAsked, RowsBound};
 ghost use Rattle.hop_check.specs.Tables.{AreCounts, IsPlaced, ArePlaces, PotentialsAreAsked, LayersAreAsked, LayersBound};
 
@@ -122,7 +122,7 @@ pub fn bottom(
     requires placed { (v i : ℕ) → v < net.now.nodes → IsTrue (has_layer net.now limits.now v i)
         → IsPlaced net.now.nodes layers.now places.now v i }
     ensures value { IfOk result (λ n. n ≡ weighted_distance net.now.commodities
-        (hop_distances net.now limits.now (record { dual = dual.now; layers = layers.now }))) }
+        (hop_distances net.now limits.now (hop_dual dual.now layers.now))) }
     ensures limit { IfOk result (λ n. n ≤ 2 ^ 108) }
 {
     let rows = row_places(alloc, net.nodes() as usize, dual)?;
@@ -144,7 +144,7 @@ pub fn hop_weighted_distance(
     requires asked { PotentialsAreAsked net.now limits.now dual.now.potentials }
     requires asked_layers { LayersAreAsked net.now limits.now layers.now }
     ensures value { IfOk result (λ n. n ≡ weighted_distance net.now.commodities
-        (hop_distances net.now limits.now (record { dual = dual.now; layers = layers.now }))) }
+        (hop_distances net.now limits.now (hop_dual dual.now layers.now))) }
     ensures limit { IfOk result (λ n. n ≤ 2 ^ 108) }
 {
     let places = layer_places(alloc, net.nodes(), layers)?;

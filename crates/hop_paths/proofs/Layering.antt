@@ -182,3 +182,18 @@ settled-searched cells lengths from nodes dist steps (suc i) s u c x lu lx none 
     let same : suc i * nodes ≡ i * nodes + nodes = suc-mul i nodes in
     let settled : IsSettled cells lengths nodes dist steps (suc i * nodes) = subst (λ (b : ℕ). IsSettled cells lengths nodes dist steps b) (sym same) (settled-behind cells lengths nodes dist steps (i * nodes) (s.each i (omega arith))) in
     settled u c x lu lx none near p
+
+-- behind a layer in which no node came nearer stands the same
+pub behind-still : (cells : List Cell) (lengths : List ℕ) (nodes : ℕ) (old new : List ℕ) (steps_old steps_new : List (Option HopStep)) (base : ℕ) → IsSettled cells lengths nodes old steps_old base → IsBegun nodes new steps_new base
+    → IsSameBelow (base + nodes) old new steps_old steps_new → ((v : ℕ) → v < nodes → step_at steps_new (base + v) ≡ None) → IsBehind cells lengths nodes new steps_new base
+behind-still cells lengths nodes old new steps_old steps_new base settled begun front still = record {
+  next = record {
+    falls = λ v l. omega (arith, begun.same v l);
+    by = λ v l. subst (λ (o : Option HopStep). MatchOption o (get_or new (base + nodes + v) 0 ≡ get_or new (base + v) 0) (IsOver cells lengths nodes new base v)) (sym (begun.none v l)) (begun.same v l);
+  };
+  all = λ u l near c x lx passes.
+      let here : get_or new (base + u) 0 ≡ get_or old (base + u) 0 = front.dist (base + u) (omega arith) in
+      let there : get_or new (base + x) 0 ≡ get_or old (base + x) 0 = front.dist (base + x) (omega arith) in
+      let none : step_at steps_old (base + u) ≡ None = sym (front.steps (base + u) (omega arith)) ∙ still u l in
+      omega (arith, here, there, begun.same x lx, settled u c x l lx none (omega (arith, here, near)) passes);
+}

@@ -13,10 +13,11 @@ abbrev pub hop_trail : List (Option HopStep) → ℕ → ℕ → ℕ → List �
 hop_trail steps nodes zero v = []
 hop_trail steps nodes (suc i) v = option_map_or (λ s. hop_trail steps nodes i s.from ++ s.cell ∷ []) (step_at steps (suc i * nodes + v)) (hop_trail steps nodes i v)
 
--- the number of nodes, the greatest layer, and each node's distance in each layer, layer after layer, with the steps that lead there
+-- the number of nodes, the greatest layer, how many layers the last search made, and each node's distance in each layer, layer after layer, with the steps that lead there
 pub record HopSearched : Type 0 where
   pub nodes : ℕ
   pub layers : ℕ
+  pub made : ℕ
   pub dists : List (Option ℕ)
   pub steps : List (Option HopStep)
 
@@ -32,9 +33,10 @@ layer_path s i v = option_map (λ _. hop_trail s.steps s.nodes i v) (layer_dist 
 abbrev pub IsShortPath : List Cell → List ℕ → ℕ → ℕ → ℕ → ℕ → List ℕ → Type 0
 IsShortPath cells lengths u v i d walk = IsShortWalk cells u v i walk × (walk_length lengths walk ≡ d)
 
--- a number and a step for each node and layer, within the limit of layers, and room for a path
-pub record IsHopReady (nodes layers : ℕ) (dist : List ℕ) (steps : List (Option HopStep)) (path : List ℕ) : Type 0 where
+-- a number and a step for each node and layer, within the limit of layers, of which so many are made, and room for a path
+pub record IsHopReady (nodes layers made : ℕ) (dist : List ℕ) (steps : List (Option HopStep)) (path : List ℕ) : Type 0 where
   pub small : layers ≤ MAX_HOPS
+  pub made_few : made ≤ layers + 1
   pub count : length dist ≡ (layers + 1) * nodes
   pub beside : length steps ≡ length dist
   pub room : length path ≡ layers

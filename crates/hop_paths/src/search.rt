@@ -1,10 +1,10 @@
 //! The search by layers: layer i has the least lengths of walks of at most i cells, and the last step of one that
 //! is new in it. The layers stand one after the other in one list, each with a number for each node.
 
-ghost use Rattle.std.specs.Prelude.{◌≡◌, ℕ, ◌+◌, ◌*◌, ◌<◌, ◌≤◌, length, slice_index};
+ghost use Rattle.std.specs.Prelude.{◌≡◌, ℕ, ◌+◌, ◌*◌, ◌<◌, ◌≤◌, false, length, slice_index};
 ghost use Rattle.flow_model.specs.Lengths.{AreLengths};
 ghost use Rattle.flow_model.specs.Walk.{PassesOver};
-ghost use Rattle.hop_paths.specs.Searching.{IsNext, IsSettled, IsGoneOn, IsSameBelow, IsBegun, IsBehind, IsSearched};
+ghost use Rattle.hop_paths.specs.Searching.{step_at, IsNext, IsSettled, IsGoneOn, IsSameBelow, IsBegun, IsBehind, IsSearched};
 
 use dijkstra_paths::{Arc, Graph};
 use mcf_limits::MAX_LENGTH;
@@ -85,20 +85,32 @@ fn go_on(
     }
 }
 
-/// Begins the layer behind as the layer at that base.
-fn begin(dist: &mut [u64], steps: &mut [Option<HopStep>], base: usize, nodes: usize)
+/// Whether a node has a step, or one had before.
+#[inline(always)]
+fn nearer_too(nearer: bool, step: Option<HopStep>) -> bool
+    ensures { result ≡ false → (nearer ≡ false) × (step ≡ None) }
+{
+    nearer | step.is_some()
+}
+
+/// Begins the layer behind as the layer at that base, and says whether some node came nearer in the layer at that base.
+fn begin(dist: &mut [u64], steps: &mut [Option<HopStep>], base: usize, nodes: usize) -> bool
     requires size { base + 2 * nodes ≤ length dist.old }
     requires room { length steps.old ≡ length dist.old }
     ensures begun { IsBegun nodes dist.new steps.new base }
     ensures front { IsSameBelow (base + nodes) dist.old dist.new steps.old steps.new }
+    ensures still { result ≡ false → (v : ℕ) → v < nodes → step_at steps.new (base + v) ≡ None }
 {
+    let mut nearer = false;
     for v in 0..nodes {
         dist[base + nodes + v] = dist[base + v];
+        nearer = nearer_too(nearer, steps[base + v]);
         steps[base + nodes + v] = None;
     }
+    nearer
 }
 
-/// Makes the layer behind the one at that base.
+/// Makes the layer behind the one at that base. Where no node came nearer in that one, the two are the same.
 fn rise(
     graph: &Graph,
     lengths: &[u64],
@@ -113,7 +125,9 @@ fn rise(
     ensures behind { IsBehind graph.now.cells lengths.now graph.now.nodes dist.new steps.new base }
     ensures front { IsSameBelow (base + graph.now.nodes) dist.old dist.new steps.old steps.new }
 {
-    begin(dist, steps, base, graph.nodes() as usize);
+    if !begin(dist, steps, base, graph.nodes() as usize) {
+        return;
+    }
     for node in 0..graph.nodes() {
         go_on(graph, lengths, dist, steps, base, node);
     }

@@ -1,6 +1,6 @@
 -- What a search has found is a least of the allowed walks.
-use Rattle.std.proofs.Common.{◌≡◌, ℕ, ◌≤◌, List, Option, Some, None, refl, sym, subst, ◌∙◌, arith}
-use Rattle.std.specs.Prelude.{slice_get, IfSome, IsSomeAnd}
+use Rattle.std.proofs.Common.{◌≡◌, ℕ, ◌≤◌, List, length, Option, Some, None, refl, sym, subst, ◌∙◌, arith}
+use Rattle.std.specs.Prelude.{slice_get, IfSome, IsSomeAnd, MatchOption}
 use Rattle.std.proofs.lemmas.Option.{same_Some}
 use Rattle.flow_model.specs.declared.net.Commodity.{Commodity}
 use Rattle.flow_model.specs.Network.{Network}
@@ -40,6 +40,16 @@ plain-finds net limits lengths nodes k commodity (Some d) None at long free leas
 plain-finds net limits lengths nodes k commodity (Some d) (Some walk) at long free least path =
     let below : (other : List ℕ) → PositiveWalk net.cells commodity.from commodity.to other → walk_length lengths walk ≤ walk_length lengths other = λ other w. omega (arith, path.1, least.1 other w) in
     found-by net limits lengths k commodity walk at long path.0 (within-none (limit_at limits k) walk free) (λ other a. below other (allowed-walk net limits k commodity other at a)) (λ other w few. below other w)
+
+-- a least of all walks that is within the limit
+pub short-finds : (net : Network) (limits : List (Option ℕ)) (lengths : List ℕ) (nodes k n : ℕ) (commodity : Commodity) (d : Option ℕ) (p : Option (List ℕ)) → slice_get net.commodities k ≡ Some commodity → AreLengths net.cells lengths → limit_at limits k ≡ Some n
+    → IsLeast net.cells lengths commodity.from commodity.to d → IsPath net.cells lengths nodes commodity.from commodity.to d p → MatchOption p (Unit {0}) (λ walk. length walk ≤ n) → Finds net limits lengths k p
+short-finds net limits lengths nodes k n commodity None p at long is least path short =
+    subst (Finds net limits lengths k) (sym path) (λ walk a. least walk (allowed-walk net limits k commodity walk at a))
+short-finds net limits lengths nodes k n commodity (Some d) None at long is least path short = absurd path
+short-finds net limits lengths nodes k n commodity (Some d) (Some walk) at long is least path short =
+    let below : (other : List ℕ) → PositiveWalk net.cells commodity.from commodity.to other → walk_length lengths walk ≤ walk_length lengths other = λ other w. omega (arith, path.1, least.1 other w) in
+    found-by net limits lengths k commodity walk at long path.0 (subst (λ (o : Option ℕ). IsWithin o walk) (sym is) short) (λ other a. below other (allowed-walk net limits k commodity other at a)) (λ other w few. below other w)
 
 -- an allowed walk of a limited commodity is short
 short-walk : (net : Network) (limits : List (Option ℕ)) (k n : ℕ) (commodity : Commodity) (walk : List ℕ) → slice_get net.commodities k ≡ Some commodity → limit_at limits k ≡ Some n → IsAllowed net limits k walk

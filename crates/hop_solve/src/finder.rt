@@ -37,7 +37,7 @@ pub fn new_finder(alloc: Global, on: &Given<'_>) -> Result<Finder, AllocError>
     let nodes = on.net.nodes();
     let layers = last_layer(on.counts);
     Ok(Finder {
-        plain: Scratch::new(alloc, nodes, on.net.cells().len() as u16)?,
+        plain: Scratch::with_trees(alloc, nodes, on.net.cells().len() as u16)?,
         layered: HopScratch::new(alloc, nodes, layers)?,
         values: vec![in alloc; 0; nodes as usize]?,
     })

@@ -1,6 +1,6 @@
 //! The layers that are asked for, by searches.
 
-ghost use Rattle.std.specs.Prelude.{◌≡◌, ℕ, ◌+◌, ◌<◌, ◌≤◌, ◌++◌, [], All, IfOk, IfSome, OnOk, List, length, map, slice_index};
+ghost use Rattle.std.specs.Prelude.{◌≡◌, ℕ, ◌+◌, ◌<◌, ◌≤◌, ◌++◌, [], All, IfOk, OnOk, List, length, map, slice_index};
 ghost use Rattle.mcf_limits.specs.declared.TheConstants.{MAX_LENGTH as MOST};
 ghost use Rattle.flow_model.specs.Lengths.{AreLengths};
 ghost use Rattle.hop_paths.specs.Searched.{layer_dist};
@@ -8,13 +8,13 @@ ghost use Rattle.hop_paths.specs.Allowed.{IsShortWalk, IsLeastOf};
 ghost use Rattle.hop_check.specs.LayerRows.{Layer};
 ghost use Rattle.hop_solve.specs.Run.{layers_asked, IsLayerWith};
 ghost use Rattle.hop_solve.specs.Turns.{IsFinder};
+ghost use Rattle.hop_solve.specs.declared.layering.Numbers.TheVariants.{Marks};
 ghost use Rattle.hop_solve.specs.Numbers.{number_of, IsNumber, IsSearchedNumber, AddsLayers, first_layers, asked_of};
 
 use crate::finder::Finder;
 use crate::given::Given;
 use hop_check::Layers;
 use hop_paths::HopScratch;
-use mcf_limits::MAX_LENGTH;
 use std::alloc::{AllocError, Global};
 
 /// What layers have for each node: its distance, or a mark of whether it has one.
@@ -24,23 +24,24 @@ pub enum Numbers {
     Marks,
 }
 
-/// The number of a node with this distance: the distance, or 2^62 where there is none; as a mark 0, or 1 where there is
-/// none.
-#[inline(always)]
-fn number(kind: Numbers, distance: Option<u64>) -> u64
-    requires limit { IfSome distance (λ d. d < MOST) }
-    ensures value { result ≡ number_of kind distance }
-    ensures limit { result ≤ MOST }
+/// Puts a mark for each node in its place: 0 where it has a distance in that layer, else 1.
+fn put_marks(layered: &HopScratch, index: u8, values: &mut [u64])
+    requires index { index < layered.now.made }
+    requires nodes { length values.old ≡ layered.now.nodes }
+    requires few { layered.now.nodes ≤ 512 }
+    ensures len { length values.new ≡ length values.old }
+    ensures each { (v : ℕ) → v < layered.now.nodes
+        → slice_index values.new v ≡ number_of Marks (layer_dist layered.now index v) }
+    ensures limit { All (λ n. n ≤ MOST) values.new }
 {
-    match kind {
-        Numbers::Lengths => distance.unwrap_or(MAX_LENGTH),
-        Numbers::Marks => u64::from(distance.is_none()),
+    for v in 0..values.len() {
+        values[v] = u64::from(layered.dist(index, v as u16).is_none());
     }
 }
 
 /// Puts each node's number in that layer in its place.
 fn put_numbers(layered: &HopScratch, index: u8, kind: Numbers, values: &mut [u64])
-    requires index { index ≤ layered.now.layers }
+    requires index { index < layered.now.made }
     requires nodes { length values.old ≡ layered.now.nodes }
     requires few { layered.now.nodes ≤ 512 }
     ensures len { length values.new ≡ length values.old }
@@ -48,8 +49,9 @@ fn put_numbers(layered: &HopScratch, index: u8, kind: Numbers, values: &mut [u64
         → slice_index values.new v ≡ number_of kind (layer_dist layered.now index v) }
     ensures limit { All (λ n. n ≤ MOST) values.new }
 {
-    for v in 0..values.len() {
-        values[v] = number(kind, layered.dist(index, v as u16));
+    match kind {
+        Numbers::Lengths => layered.put_layer(index, values),
+        Numbers::Marks => put_marks(layered, index, values),
     }
 }
 
@@ -64,7 +66,7 @@ fn push_layers(
 ) -> Result<(), AllocError>
     requires nodes { length finder.old.values.items ≡ finder.old.layered.nodes }
     requires few { finder.old.layered.nodes ≤ 512 }
-    requires count { count ≤ finder.old.layered.layers + 1 }
+    requires count { count ≤ finder.old.layered.made }
     ensures values { length finder.new.values.items ≡ length finder.old.values.items }
     ensures plain { finder.new.plain ≡ finder.old.plain }
     ensures layered { finder.new.layered ≡ finder.old.layered }

@@ -14,6 +14,3 @@ mod unlimited;
 
 pub use laws::hop_runs_are_valid;
 pub use solving::solve_hops;
-
-#[cfg(test)]
-mod tests;

@@ -1,6 +1,6 @@
 //! Turns: each commodity in its turn goes along a least of its allowed walks, whole.
 
-ghost use Rattle.std.specs.Prelude.{◌≡◌, ℕ, ◌+◌, ◌*◌, ◌<◌, ◌≤◌, ◌++◌, [], ◌∷◌, true, false, IsTrue, IfOk, OnOk, All, List, Option, length, map, slice_get, slice_index, Some};
+ghost use Rattle.std.specs.Prelude.{◌≡◌, ℕ, ◌+◌, ◌*◌, ◌<◌, ◌≤◌, ◌++◌, [], ◌∷◌, true, false, IsTrue, IfOk, OnOk, All, List, Option, MatchOption, length, map, slice_get, slice_index, Some};
 ghost use Rattle.std.specs.Option.{option_map};
 ghost use Rattle.mcf_limits.specs.declared.TheConstants.{MAX_LENGTH as MOST};
 ghost use Rattle.flow_model.specs.Walk.{times};
@@ -73,7 +73,9 @@ fn route(
 {
     routed.tally.add(k, path, amount)?;
     add_along(&mut routed.loads, path, amount);
-    routed.table.update(on.powers, on.net, &routed.loads);
+    routed
+        .table
+        .update_at(on.powers, on.net, &routed.loads, path);
     Ok(())
 }
 
@@ -131,8 +133,19 @@ fn free_turn(
     turn_along(on, routed, k, found, commodity.amount)
 }
 
-/// The turn of a commodity of this limit: whether it has an allowed walk.
-fn limited_turn(
+/// Whether the path has at most so many cells, where there is one.
+fn is_short(found: Option<&[u16]>, limit: u8) -> bool
+    ensures { IsTrue result → MatchOption (option_map (λ path. path.now) found.entry) (Unit {0})
+        (λ walk. length walk ≤ limit) }
+{
+    match found {
+        Some(path) => path.len() <= usize::from(limit),
+        None => true,
+    }
+}
+
+/// The turn of a commodity of this limit, by layers: whether it has an allowed walk.
+fn layered_turn(
     on: &Given<'_>,
     routed: &mut Routed,
     layered: &mut HopScratch,
@@ -160,6 +173,42 @@ fn limited_turn(
     turn_along(on, routed, k, found, commodity.amount)
 }
 
+/// The turn of a commodity of this limit: whether it has an allowed walk. A least of all walks that has no more cells than
+/// the limit is a least of those within it, so layers are searched only where the limit binds.
+fn limited_turn(
+    on: &Given<'_>,
+    routed: &mut Routed,
+    plain: &mut Scratch,
+    layered: &mut HopScratch,
+    k: u32,
+    limit: u8,
+) -> Result<bool, AllocError>
+    requires k { k < length on.now.net.now.commodities }
+    requires limited { limit_at on.now.limits.now k ≡ Some limit }
+    requires plain { plain.old.nodes ≡ on.now.net.now.nodes }
+    requires nodes { layered.old.nodes ≡ on.now.net.now.nodes }
+    requires layers { limit ≤ layered.old.layers }
+    requires room { HasRoom on.now.net.now 1 (amount_at on.now.net.now.commodities k) routed.old }
+    ensures plain { plain.new.nodes ≡ plain.old.nodes }
+    ensures nodes { layered.new.nodes ≡ layered.old.nodes }
+    ensures layers { layered.new.layers ≡ layered.old.layers }
+    ensures turned { IfOk result (λ yes. IsTrue yes → (before : List Row)
+        → IsRouted on.now.net.now before routed.old
+        → HasTurned on.now.net.now on.now.limits.now before k routed.old routed.new) }
+    ensures net { routed.new.table.net ≡ routed.old.table.net }
+    ensures setting { routed.new.table.setting ≡ routed.old.table.setting }
+    ensures cut { IfOk result (λ yes. yes ≡ false → (walk : List ℕ)
+        → IsAllowed on.now.net.now on.now.limits.now k walk → ⊥) }
+{
+    let commodity = on.net.commodities()[k as usize];
+    plain.search(on.graph, routed.table.lengths(), commodity.from);
+    let found = plain.path_to(commodity.to);
+    if is_short(found, limit) {
+        return turn_along(on, routed, k, found, commodity.amount);
+    }
+    layered_turn(on, routed, layered, k, limit)
+}
+
 /// The turn of a commodity: whether it has an allowed walk.
 fn turn(
     on: &Given<'_>,
@@ -181,7 +230,7 @@ fn turn(
 {
     let _nodes = on.net.nodes();
     match on.limits[k as usize] {
-        Some(limit) => limited_turn(on, routed, &mut finder.layered, k, limit),
+        Some(limit) => limited_turn(on, routed, &mut finder.plain, &mut finder.layered, k, limit),
         None => free_turn(on, routed, &mut finder.plain, k),
     }
 }

@@ -8,7 +8,7 @@ ghost use Rattle.dual_bound.specs.Rows.{IsBlank, IsFilledWith, sources_of};
 ghost use Rattle.hop_paths.specs.Allowed.{is_unlimited};
 
 use crate::given::Given;
-use dual_bound::{Row, are_filled, fill_rows, mark_all};
+use dual_bound::{Row, are_filled, blank_row, fill_rows, mark_all};
 use std::alloc::{AllocError, Global};
 
 /// Appends a blank row, if the node is asked for one.
@@ -28,11 +28,7 @@ fn append_row(
     if mark == 0 {
         return Ok(());
     }
-    rows.push(Row {
-        source,
-        is_filled: false,
-        values: vec![in alloc; 0; nodes as usize]?,
-    })?;
+    rows.push(blank_row(alloc, source, nodes)?)?;
     Ok(())
 }
 

@@ -23,7 +23,12 @@ impl Model for Origin {
 
     ghost Value = { Terms };
 
-    ghost view = { λ o. record { net = o.net.value; setting = o.setting; base = drop 1 o.words.value.items; workers = o.workers } };
+    ghost view = { λ o. record {
+      net = o.net.value;
+      setting = o.setting;
+      base = drop 1 o.words.value.items;
+      workers = o.workers;
+    } };
 }
 
 /// A worker's number and what it did. No value of it is made.

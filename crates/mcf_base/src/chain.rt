@@ -1,6 +1,6 @@
 //! A chain of joins: each starts a thread for one chunk and goes on to the next.
 
-ghost use Rattle.std.specs.Prelude.{◌≡◌, ℕ, ◌+◌, ◌^◌, ◌<◌, ◌≤◌, length};
+ghost use Rattle.std.specs.Prelude.{◌≡◌, ℕ, max, ◌+◌, ◌^◌, ◌<◌, ◌≤◌, length};
 ghost use Rattle.std.specs.Thread.{IsSync};
 ghost use denote.Param.Send.{IsSend};
 ghost use Rattle.std.specs.Fork.{AcceptsAt, ChangesAt, AcceptsChunksMut, ChangesChunks, AllInChunks};
@@ -9,6 +9,17 @@ ghost use Rattle.mcf_base.specs.Chain.{AreAccepted};
 
 use std::thread;
 use std::thread::Threads;
+
+/// In how many threads work is to be shared out: as many as there are processors, but at most so many. None stands for one.
+pub fn thread_count(rt: &impl Threads, most: u16) -> usize
+    ensures some { 1 ≤ result }
+    ensures few { result ≤ max most 1 }
+{
+    match thread::available_parallelism(rt) {
+        Ok(count) => count.get().min(most as usize).max(1),
+        Err(_) => 1,
+    }
+}
 
 /// Calls `work(start, chunk)` at each chunk that `items.chunks_mut(size)` has: the last one in the caller's thread, and
 /// each other in a thread of its own, where one can be made.

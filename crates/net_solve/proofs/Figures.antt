@@ -27,7 +27,7 @@ pub record AreSmall (dual : DualRows) : Type 0 where
 
 -- ---- what is looked up in rows
 
-found-small : {X : Type 0} (p : X → Bool) (g : X → ℕ) (m : ℕ) (rows : List X) → All (λ x. g x ≤ m) rows → option_map_or g (find p rows) 0 ≤ m
+pub found-small : {X : Type 0} (p : X → Bool) (g : X → ℕ) (m : ℕ) (rows : List X) → All (λ x. g x ≤ m) rows → option_map_or g (find p rows) 0 ≤ m
 found-small p g m [] h = omega arith
 found-small p g m (x ∷ rows) h = go (p x) (found-small p g m rows (All-tail (λ y. g y ≤ m) x rows h))
   where
@@ -35,10 +35,10 @@ found-small p g m (x ∷ rows) h = go (p x) (found-small p g m rows (All-tail (�
     go true rest = All-head (λ y. g y ≤ m) x rows h
     go false rest = rest
 
-lengths-small : (net : Network) (dual : DualRows) → AreSmall dual → All (λ n. n ≤ MAX_LENGTH) (lengths_in net dual)
-lengths-small net dual small = All-map (λ n. n ≤ MAX_LENGTH) (length_of dual.lengths) (range_with_len 0 (length net.cells)) (λ i d l. found-small (λ (r : Length). eqb r.cell (get_or (range_with_len 0 (length net.cells)) i d)) (λ (r : Length). r.value) MAX_LENGTH dual.lengths small.lengths)
+pub lengths-small : (net : Network) (dual : DualRows) → All (λ (r : Length). r.value ≤ MAX_LENGTH) dual.lengths → All (λ n. n ≤ MAX_LENGTH) (lengths_in net dual)
+lengths-small net dual small = All-map (λ n. n ≤ MAX_LENGTH) (length_of dual.lengths) (range_with_len 0 (length net.cells)) (λ i d l. found-small (λ (r : Length). eqb r.cell (get_or (range_with_len 0 (length net.cells)) i d)) (λ (r : Length). r.value) MAX_LENGTH dual.lengths small)
 
-value-small : (values : List ℕ) (i : ℕ) → All (λ p. p ≤ MAX_LENGTH) values → get_or values i 0 ≤ MAX_LENGTH
+pub value-small : (values : List ℕ) (i : ℕ) → All (λ p. p ≤ MAX_LENGTH) values → get_or values i 0 ≤ MAX_LENGTH
 value-small [] i h = omega arith
 value-small (x ∷ values) zero h = All-head (λ p. p ≤ MAX_LENGTH) x values h
 value-small (x ∷ values) (suc i) h = value-small values i (All-tail (λ p. p ≤ MAX_LENGTH) x values h)
@@ -51,7 +51,7 @@ distances-small net dual small = All-map (λ n. n ≤ MAX_LENGTH) (distance_of d
 
 -- ---- sums
 
-weighted-small : {X : Type 0} (f : X → ℕ) (m : ℕ) (xs : List X) (ys : List ℕ) → All (λ y. y ≤ m) ys → weighted_sum f xs ys ≤ sum_by f xs * m
+pub weighted-small : {X : Type 0} (f : X → ℕ) (m : ℕ) (xs : List X) (ys : List ℕ) → All (λ y. y ≤ m) ys → weighted_sum f xs ys ≤ sum_by f xs * m
 weighted-small f m [] ys h = omega arith
 weighted-small f m (x ∷ xs) [] h = omega arith
 weighted-small f m (x ∷ xs) (y ∷ ys) h =
@@ -60,7 +60,7 @@ weighted-small f m (x ∷ xs) (y ∷ ys) h =
     let whole : sum_by f (x ∷ xs) * m ≡ (f x + sum_by f xs) * m = ap (λ n. n * m) (sum_by-cons f x xs) in
     omega arith
 
-capacities-small : (net : Network) → IsNetwork net → sum_by (λ (cell : Cell). cell.cap) net.cells ≤ MAX_CELLS * MAX_UNITS
+pub capacities-small : (net : Network) → IsNetwork net → sum_by (λ (cell : Cell). cell.cap) net.cells ≤ MAX_CELLS * MAX_UNITS
 capacities-small net n =
     let sum = sum_by-le (λ (cell : Cell). cell.cap) MAX_UNITS net.cells (All-weaker (IsCell net.nodes) (λ (cell : Cell). cell.cap ≤ MAX_UNITS) (λ cell h. h.cap) net.cells n.cells) in
     let most : length net.cells * MAX_UNITS ≤ MAX_CELLS * MAX_UNITS = mul-le-mul_right MAX_UNITS n.cell_count in
@@ -69,7 +69,7 @@ capacities-small net n =
 -- the volume is at most 2 ^ 119, the weighted distance at most 2 ^ 108
 upper-parts : (net : Network) (dual : DualRows) → IsNetwork net → AreSmall dual → ((upper_of net dual).num ≤ MAX_PART) × ((upper_of net dual).den ≤ MAX_PART)
 upper-parts net dual n small =
-    let num = weighted-small (λ (cell : Cell). cell.cap) MAX_LENGTH net.cells (lengths_in net dual) (lengths-small net dual small) in
+    let num = weighted-small (λ (cell : Cell). cell.cap) MAX_LENGTH net.cells (lengths_in net dual) (lengths-small net dual small.lengths) in
     let den = weighted-small (λ (k : Commodity). k.amount) MAX_LENGTH net.commodities (distances_in net dual) (distances-small net dual small) in
     let caps : sum_by (λ (cell : Cell). cell.cap) net.cells * MAX_LENGTH ≤ MAX_CELLS * MAX_UNITS * MAX_LENGTH = mul-le-mul_right MAX_LENGTH (capacities-small net n) in
     let amounts : sum_by (λ (k : Commodity). k.amount) net.commodities * MAX_LENGTH ≤ MAX_TOTAL * MAX_LENGTH = mul-le-mul_right MAX_LENGTH n.total in
@@ -78,10 +78,10 @@ upper-parts net dual n small =
 -- ---- whole numbers
 
 -- what is printed, whole and millionths, is no more than the numerator
-down-small : (w m : ℕ) (f : Fraction) → w * 1000000 + m ≡ millionths_down f → w ≤ f.num
+pub down-small : (w m : ℕ) (f : Fraction) → w * 1000000 + m ≡ millionths_down f → w ≤ f.num
 down-small w m f e = omega (arith, div-le_self (f.num * 1000000) f.den)
 
-up-small : (w m : ℕ) (f : Fraction) → w * 1000000 + m ≡ millionths_up f → 1 ≤ f.den → w ≤ f.num
+pub up-small : (w m : ℕ) (f : Fraction) → w * 1000000 + m ≡ millionths_up f → 1 ≤ f.den → w ≤ f.num
 up-small w m f e positive = omega (arith, up f.num f.den positive)
   where
     up : (n d : ℕ) → 1 ≤ d → (n * 1000000 + (d - 1)) / d ≤ n * 1000000 + 1

@@ -3,6 +3,7 @@ use Rattle.std.specs.Prelude.{◌≡◌, ℕ, ◌*◌, ◌/◌, ◌<◌, ◌≤�
 use Rattle.mcf_limits.specs.declared.TheConstants.{DEFAULT_PHASES, DEFAULT_WORKERS, FEW_COMMODITIES, MAX_GAP, MAX_PHASES, MAX_STEP, MAX_WORK, MAX_WORKERS}
 use Rattle.flow_model.specs.Network.{Network}
 use Rattle.solver_run.specs.declared.options.SolveOptions.{SolveOptions}
+use Rattle.route_tally.specs.declared.options.RunOptions.{RunOptions}
 use Rattle.net_solve.specs.declared.asked.Asked.{Asked}
 
 -- within the limits
@@ -30,6 +31,10 @@ workers_of net None = if nat_lt (length net.commodities) FEW_COMMODITIES then 1 
 -- the options of a solve of the network
 abbrev pub options_for : Network → Asked → SolveOptions
 options_for net a = record { gap = a.gap; phases = budget_of net a.phases; workers = workers_of net a.workers; step = a.step }
+
+-- the options of a run on the network that routes one commodity after the other
+abbrev pub turn_options_for : Network → Asked → RunOptions
+turn_options_for net a = record { gap = a.gap; phases = budget_of net a.phases; step = a.step }
 
 -- a budget was given, and commodities times phases, which is n, is over the most work
 abbrev pub IsTooMuch : Network → Asked → ℕ → Type 0

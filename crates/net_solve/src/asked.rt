@@ -1,13 +1,15 @@
 //! What is asked of a solve.
 
-ghost use Rattle.std.specs.Prelude.{◌≡◌, ◌≤◌, ℕ, length, IfOk, IfErr, IfSome, OnOk};
-ghost use Rattle.mcf_limits.specs.declared.TheConstants.{MAX_WORKERS};
+ghost use Rattle.std.specs.Prelude.{◌≡◌, ◌≤◌, ◌*◌, ℕ, length, IfOk, IfErr, IfSome, OnOk};
+ghost use Rattle.mcf_limits.specs.declared.TheConstants.{MAX_PHASES, MAX_WORKERS, MAX_WORK as MOST_WORK};
 ghost use Rattle.flow_model.specs.Network.{Network};
 ghost use Rattle.solver_run.specs.Options.{AreOptions};
-ghost use Rattle.net_solve.specs.Asked.{IsAsked, default_budget, options_for, workers_of, IsTooMuch};
+ghost use Rattle.route_tally.specs.Asked.{AreRunOptions};
+ghost use Rattle.net_solve.specs.Asked.{IsAsked, budget_of, default_budget, options_for, turn_options_for, workers_of, IsTooMuch};
 
 use flow_model::Net;
 use mcf_limits::{DEFAULT_PHASES, DEFAULT_WORKERS, FEW_COMMODITIES, MAX_WORK};
+use route_tally::RunOptions;
 use solver_run::SolveOptions;
 
 /// The gap in millionths, the phase budget if one was given, the number of workers if one was given, and the step of the
@@ -42,12 +44,15 @@ fn workers_for(commodities: u64, asked: Option<u16>) -> u16
     }
 }
 
-/// The options of a solve, or how many commodities times phases there would be, where that is too much.
-pub fn options_of(net: &Net, asked: &Asked) -> Result<SolveOptions, u64>
+// The phase budget, or how many commodities times phases there would be, where that is too much.
+fn budget(net: &Net, asked: &Asked) -> Result<u32, u64>
     requires { IsAsked asked.now }
-    ensures options { IfOk result (λ o. (o ≡ options_for net.now asked.now) × AreOptions net.now o) }
+    ensures value { IfOk result (λ p. p ≡ budget_of net.now asked.now.phases) }
+    ensures some { IfOk result (λ p. 1 ≤ p) }
+    ensures limit { IfOk result (λ p. p ≤ MAX_PHASES) }
+    ensures allowed { IfOk result (λ p. length net.now.commodities * p ≤ MOST_WORK) }
     ensures work { IfErr result (IsTooMuch net.now asked.now) }
-    ensures within { OnOk result (¬ ((n : ℕ) × IsTooMuch net.now asked.now n)) }
+    ensures within { OnOk result ((work : ℕ) → ¬ (IsTooMuch net.now asked.now work)) }
 {
     let commodities = net.commodities().len() as u64;
     let phases = match asked.phases {
@@ -58,10 +63,38 @@ pub fn options_of(net: &Net, asked: &Asked) -> Result<SolveOptions, u64>
     if work > MAX_WORK {
         return Err(work);
     }
+    Ok(phases)
+}
+
+/// The options of a solve, or how many commodities times phases there would be, where that is too much.
+pub fn options_of(net: &Net, asked: &Asked) -> Result<SolveOptions, u64>
+    requires { IsAsked asked.now }
+    ensures options { IfOk result (λ o. (o ≡ options_for net.now asked.now) × AreOptions net.now o) }
+    ensures work { IfErr result (IsTooMuch net.now asked.now) }
+    ensures within { OnOk result (¬ ((n : ℕ) × IsTooMuch net.now asked.now n)) }
+{
+    let phases = budget(net, asked)?;
     Ok(SolveOptions {
         gap: asked.gap,
         phases,
-        workers: workers_for(commodities, asked.workers),
+        workers: workers_for(net.commodities().len() as u64, asked.workers),
+        step: asked.step,
+    })
+}
+
+/// The options of a run that routes one commodity after the other, or how many commodities times phases there would be, where
+/// a budget was given and that is too much. Workers have no bearing on one.
+pub fn turn_options(net: &Net, asked: &Asked) -> Result<RunOptions, u64>
+    requires { IsAsked asked.now }
+    ensures options { IfOk result (λ o. o ≡ turn_options_for net.now asked.now) }
+    ensures limits { IfOk result (AreRunOptions (length net.now.commodities)) }
+    ensures work { IfErr result (IsTooMuch net.now asked.now) }
+    ensures within { OnOk result ((work : ℕ) → ¬ (IsTooMuch net.now asked.now work)) }
+{
+    let phases = budget(net, asked)?;
+    Ok(RunOptions {
+        gap: asked.gap,
+        phases,
         step: asked.step,
     })
 }

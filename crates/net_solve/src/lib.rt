@@ -9,7 +9,7 @@ mod solving;
 mod tally;
 mod text_laws;
 
-pub use asked::Asked;
+pub use asked::{Asked, turn_options};
 pub use laws::{carried_is_of_phases, routes_are_of_phases, solves_check};
 pub use solving::{Solving, solve_rows};
 pub use tally::{carried_amount, route_count, total_amount};

@@ -27,7 +27,11 @@ impl Model for RouteBuffer {
 
     ghost Value = { RouteRoom };
 
-    ghost view = { λ b. record { routes = map (route_of b.cells.items) b.spans.items; paths = vec_capacity b.spans - vec_len b.spans; cells = vec_capacity b.cells - vec_len b.cells } };
+    ghost view = { λ b. record {
+      routes = map (route_of b.cells.items) b.spans.items;
+      paths = vec_capacity b.spans - vec_len b.spans;
+      cells = vec_capacity b.cells - vec_len b.cells;
+    } };
 
     ghost invariant = { λ b. AreSpans b.cells.items b.spans.items };
 }

@@ -11,6 +11,7 @@ pub mod Networks
 pub mod OneKind
 pub mod OneScript
 pub mod Reasons
+pub mod Seconds
 pub mod Short
 pub mod ShortPapers
 pub mod Steps

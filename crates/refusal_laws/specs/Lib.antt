@@ -9,3 +9,4 @@ pub mod Papers
 pub mod Routings
 pub mod ScriptKinds
 pub mod Scripts
+pub mod Seconds

@@ -10,7 +10,7 @@ mod scripts;
 pub use papers::{
     certified_refusals, head_kinds_say_why, heads_stop_there, judged_kinds_say_why,
     judged_texts_stop_there, line_kinds_say_why, paper_kinds_say_why, paper_refusals_are_one,
-    papers_stop_there,
+    papers_stop_there, second_refusals,
 };
 pub use scripts::{
     script_faults_are_one, script_kinds_say_why, script_reasons_refuse, script_texts_stop_there,

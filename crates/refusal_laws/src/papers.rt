@@ -27,6 +27,7 @@ ghost use Rattle.refusal_laws.specs.PaperKinds.{IsRefusedFor};
 ghost use Rattle.refusal_laws.specs.HeadKinds.{IsHeadRefusedFor};
 ghost use Rattle.refusal_laws.specs.JudgedKinds.{IsJudgedFor};
 ghost use Rattle.refusal_laws.specs.Routings.{SaysRouting};
+ghost use Rattle.refusal_laws.specs.Seconds.{SecondsAreRefused};
 ghost use Rattle.refusal_laws.specs.CertKinds.{IsLineFault, gap_form, phases_form, scale_form, value_form, path_form, length_form, potential_form};
 
 /// Where a text is refused, the lines before begin the text of some certificate or routing of these
@@ -113,4 +114,11 @@ pub fn certified_refusals()
         → paper_on Certificates rows text ≡ paper_on Both rows text }
     ensures judged { (rows : NetRows) (text : List ℕ) (r : Refusal) → ¬ (SaysRouting (lines_of text))
         → IsCertifiedText rows text (told r) → IsJudgement rows text (said r) }
+{}
+
+/// A second certificate's text is refused at line 3 or 4, as one for another network, where its first lines say
+/// another mode of links or of modules than the first one's. Where they say the same, it is read or refused as
+/// a first text would be; and where they are refused, so is it.
+pub fn second_refusals()
+    ensures { SecondsAreRefused }
 {}

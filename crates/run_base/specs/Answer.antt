@@ -5,6 +5,7 @@ use Rattle.std.specs.Fmt.{decimal}
 use Rattle.text_lines.specs.Lines.{Line, spelled}
 use Rattle.mcf_base.specs.Faults.{FailedLast}
 use Rattle.mcf_base.specs.Sink.{AppendsFront, SinkView}
+use Rattle.cert_judge.specs.declared.judged.Judged.{Judged}
 use Rattle.run_base.specs.declared.ended.Ended.{Ended}
 use Rattle.run_base.specs.declared.ended.Found.{Found}
 use Rattle.run_base.specs.Found.{nothing}
@@ -69,6 +70,10 @@ text_answer text = record { status = 0; text = text; found = nothing }
 -- the outcome's line, with its status
 abbrev pub answer_of : Outcome → Answer
 answer_of outcome = line_answer (status_of outcome) (words_of outcome)
+
+-- the line of what was said of a certificate
+abbrev pub judged_answer : Judged → Answer
+judged_answer judged = answer_of (outcomes.Judged judged)
 
 -- want of memory, or such an answer
 abbrev pub OrWant : (Answer → Type 0) → Answer → Type 0

@@ -1,18 +1,24 @@
 -- The files of a command, each read whole, one after the other; and what is answered of them. An answer is tied to what the shelf has seen
 -- before and behind it, so the files that were started are a part of it.
-use Rattle.std.specs.Prelude.{◌≡◌, ◌⊎◌, ℕ, List, Result, Ok, Err}
+use Rattle.std.specs.Prelude.{◌≡◌, ◌⊎◌, ℕ, ◌≤◌, List, Result, Ok, Err}
 use Rattle.std.specs.Global.{Vec}
 use Rattle.mcf_limits.specs.declared.TheConstants.{MAX_NET_BYTES}
 use Rattle.mcf_base.specs.Shelf.{ShelfView, IsLonger, FailedAt, LacksMemory, with_file}
 use Rattle.mcf_base.specs.Reading.{IsText}
 use Rattle.sndlib_grammar.specs.declared.refusal.NetRefusal.{NetRefusal}
-use Rattle.sndlib_grammar.specs.Rows.{NetRows}
+use Rattle.sndlib_grammar.specs.Rows.{NetRows, AreNetRows}
 use Rattle.sndlib_grammar.specs.Net.{rows_of}
+use Rattle.cert_lines.specs.declared.net_line.TheConstants.{MAX_COUNT}
 use Rattle.run_base.specs.declared.outcome.Paper.{Paper}
 use Rattle.run_base.specs.declared.outcome.Paper.TheVariants.{Network}
 use Rattle.run_base.specs.declared.outcome.Outcome.{Outcome}
 use Rattle.run_base.specs.declared.outcome.Outcome.TheVariants.{ReadFault, TooLong, NetRefused, Memory}
 use Rattle.run_base.specs.Answer.{Answer, OrWant, answer_of}
+
+-- the rows are those of a text, which skips no more sections than a certificate can count
+pub record AreTextRows (rows : NetRows) : Type 0 where
+  pub well : AreNetRows rows
+  pub counted : rows.skipped ≤ MAX_COUNT
 
 -- no file is started any more: want of memory, or such an answer
 abbrev pub Ends : (Answer → Type 0) → ShelfView → ShelfView → Answer → Type 0

@@ -1,4 +1,4 @@
 pub mod Asked
 pub mod Solves
-pub mod Slots
+pub mod Numbered
 pub mod Batch

@@ -4,7 +4,6 @@
 
 mod asked;
 mod batching;
-mod filling;
 mod solving;
 mod writing;
 

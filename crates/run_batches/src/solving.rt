@@ -1,13 +1,15 @@
 //! The solves of a batch.
 
-ghost use Rattle.std.specs.Prelude.{◌≡◌, IfOk, map};
+ghost use Rattle.std.specs.Prelude.{◌≡◌, ℕ, ◌<◌, IfOk, map, length, slice_index_or};
+ghost use Rattle.std.specs.Thread.{IsSync};
 ghost use Rattle.matrix_batch.specs.Views.{batch_view};
 ghost use Rattle.run_batches.specs.Asked.{AreSolvable};
+ghost use Rattle.run_batches.specs.Numbered.{IsSolvable, IsSolvedAt};
 ghost use Rattle.run_batches.specs.Solves.{AreSolved};
 
-use crate::filling::{blank_slots, fill_all, gathered};
+use claimed_calls::call_each;
 use flow_model::Net;
-use flow_solver::Solved;
+use flow_solver::{Solved, solve_in};
 use matrix_batch::Matrix;
 use mcf_base::Gate;
 use solver_run::SolveOptions;
@@ -25,9 +27,50 @@ fn nets_of<'b>(alloc: Global, batch: &'b [Matrix<'_>]) -> Result<Vec<&'b Net>, A
     Ok(nets)
 }
 
+// The solve of the network of that number, which starts no thread of its own.
+fn solve_one<G: Gate, R: Threads + Sync>(
+    rt: &R,
+    alloc: Global,
+    nets: &[&Net],
+    options: &SolveOptions,
+    gate: &G,
+    at: usize,
+) -> Result<Solved, AllocError>
+    requires { IsSolvable nets.now options.now at }
+    ensures { IfOk result (IsSolvedAt nets.now options.now at) }
+{
+    let solved = solve_in(rt, alloc, nets[at], options, gate, 1)?;
+    Ok(solved)
+}
+
+// For each network, in their order, its solve.
+fn solve_each<G: Gate, R: Threads + Sync>(
+    rt: &R,
+    alloc: Global,
+    nets: &[&Net],
+    options: &SolveOptions,
+    gate: &G,
+) -> Result<Vec<Solved>, AllocError>
+    requires { (i : ℕ) → i < length nets.now → IsSolvable nets.now options.now i }
+    ensures count { IfOk result (λ v. length v.items ≡ length nets.now) }
+    ensures each { IfOk result (λ v. (i : ℕ) (d : _) → i < length nets.now
+        → IsSolvedAt nets.now options.now i (slice_index_or v.items i d)) }
+{
+    call_each(
+        rt,
+        alloc,
+        nets.len(),
+        &|at: usize| -> Result<Solved, AllocError>
+            requires { IsSync R.row × IsSync G.row × IsSolvable nets.now options.now at }
+            ensures { IfOk result (IsSolvedAt nets.entry.now options.entry.now at) }
+        { solve_one(rt, alloc, nets, options, gate, at) },
+    )
+}
+
 /// For each matrix, in the batch's order, a solve of its network with one worker, which starts no thread of its own. Matrices
-/// are shared out among at most 16 threads, its caller's among them, and it may wait for its own threads. `Err` is for want of
-/// memory. The gate is passed after each claim of each solve.
+/// are handed out one at a time to as many threads as there are processors, at least two and at most 16, its caller's among them,
+/// and it may wait for its own threads. A matrix for which memory is lacking is tried once more when all others are done; `Err`
+/// is for want of memory then. The gate is passed after each claim of each solve.
 pub fn solve_batch<G: Gate, R: Threads + Sync>(
     rt: &R,
     alloc: Global,
@@ -39,7 +82,6 @@ pub fn solve_batch<G: Gate, R: Threads + Sync>(
     ensures { IfOk result (λ v. AreSolved options.now (batch_view batch.now) v.items) }
 {
     let nets = nets_of(alloc, batch)?;
-    let mut slots = blank_slots(alloc, batch.len())?;
-    fill_all(rt, alloc, &nets, options, gate, &mut slots);
-    gathered(alloc, slots)
+    let many = solve_each(rt, alloc, &nets, options, gate)?;
+    Ok(many)
 }

@@ -6,13 +6,8 @@ use Rattle.sndlib_grammar.specs.Rows.{NetRows}
 use Rattle.cert_judge.specs.declared.judged.Judged.{Judged as Judgement}
 use Rattle.cert_judge.specs.Judgement.{IsJudgement}
 use Rattle.run_base.specs.declared.outcome.Paper.TheVariants.{Certificate}
-use Rattle.run_base.specs.declared.outcome.Outcome.TheVariants.{Judged}
-use Rattle.run_base.specs.Answer.{Answer, answer_of}
+use Rattle.run_base.specs.Answer.{Answer, judged_answer}
 use Rattle.run_base.specs.Files.{Ends, OfFile, OfNet}
-
--- the line of a judgement
-abbrev pub judged_answer : Judgement → Answer
-judged_answer judged = answer_of (Judged judged)
 
 -- the answer is what is said of the certificate's text on the rows
 abbrev pub OnTexts : NetRows → List ℕ → Answer → Type 0

@@ -1,8 +1,8 @@
 //! The command `check`: what is said of a certificate on a network.
 
-ghost use Rattle.run_base.specs.Answer.{IsTold};
+ghost use Rattle.run_base.specs.Answer.{IsTold, judged_answer};
 ghost use Rattle.run_base.specs.Files.{Finds};
-ghost use Rattle.run_certs.specs.Check.{OfCheck, judged_answer};
+ghost use Rattle.run_certs.specs.Check.{OfCheck};
 
 use cert_judge::{Judged, judge};
 use mcf_base::{Shelf, Sink};

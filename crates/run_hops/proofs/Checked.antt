@@ -40,7 +40,7 @@ use Rattle.run_texts.specs.HopsText.{hops_text, hops_lines, from_figures, FitsHo
 use Rattle.run_texts.proofs.CleanLines.{hops_clean}
 use Rattle.run_texts.proofs.TextsAgain.{hops_read_back}
 use Rattle.run_hops.specs.Check.{SaysHops, too_far, rest_of}
-use Rattle.run_hops.specs.Hops.{options_for}
+use Rattle.net_solve.specs.Asked.{turn_options_for}
 use Rattle.run_hops.specs.Laws.{SolvedHopsCheck, valid_of}
 use Rattle.run_hops.proofs.Made.{done_is}
 use Rattle.run_hops.proofs.Written.{written}
@@ -111,7 +111,7 @@ checked rows o asked net h judged well few n solving =
     let of : IsOf rows net = record { well = well; options = o; scaled = done.0 } in
     let sheet = sheet_of rows net in
     let limits = limits_of rows net in
-    let fits = written rows net limits (options_for net.net asked) h of n done.2 in
+    let fits = written rows net limits (turn_options_for net.net asked) h of n done.2 in
     let own = citable rows net of few in
     let lines = lines_of (hops_text sheet h) in
     let stages : AreStages rows (λ (x : NetOptions). x) (too_far rows) (rest_of rows lines) (run_head (codes "mcf-hops 1") lines) net h = record {

@@ -18,6 +18,7 @@ use Rattle.flow_paths.specs.DualRows.{Length, Potential}
 use Rattle.flow_paths.specs.declared.certificate.Printed.{Printed}
 use Rattle.flow_paths.specs.Certificate.{length_of, lengths_in, IsPrinted}
 use Rattle.cert_lines.specs.Spelling.{FitsValue}
+use Rattle.net_solve.proofs.Figures.{found-small, lengths-small, value-small, weighted-small, capacities-small, up-small}
 use Rattle.hop_paths.specs.Allowed.{limit_at}
 use Rattle.hop_check.specs.LayerRows.{Layer}
 use Rattle.hop_check.specs.Layers.{HopDual, hop_distance, hop_distances, hop_upper_of, layer_in}
@@ -33,14 +34,6 @@ pub record AreSmall (d : HopDual) : Type 0 where
 
 -- ---- what is looked up in rows
 
-found-small : {X : Type 0} (p : X → Bool) (g : X → ℕ) (m : ℕ) (rows : List X) → All (λ x. g x ≤ m) rows → option_map_or g (find p rows) 0 ≤ m
-found-small p g m [] h = omega arith
-found-small p g m (x ∷ rows) h = go (p x) (found-small p g m rows (All-tail (λ y. g y ≤ m) x rows h))
-  where
-    go : (b : Bool) → option_map_or g (find p rows) 0 ≤ m → option_map_or g (cond b (Some x) (find p rows)) 0 ≤ m
-    go true rest = All-head (λ y. g y ≤ m) x rows h
-    go false rest = rest
-
 found-values : (p : Layer → Bool) (rows : List Layer) → All (λ (r : Layer). All IsSmall r.values) rows → All IsSmall (option_map_or (λ (r : Layer). r.values) (find p rows) [])
 found-values p [] h = All-nil IsSmall
 found-values p (x ∷ rows) h = go (p x) (found-values p rows (All-tail (λ (r : Layer). All IsSmall r.values) x rows h))
@@ -48,14 +41,6 @@ found-values p (x ∷ rows) h = go (p x) (found-values p rows (All-tail (λ (r :
     go : (b : Bool) → All IsSmall (option_map_or (λ (r : Layer). r.values) (find p rows) []) → All IsSmall (option_map_or (λ (r : Layer). r.values) (cond b (Some x) (find p rows)) [])
     go true rest = All-head (λ (r : Layer). All IsSmall r.values) x rows h
     go false rest = rest
-
-lengths-small : (net : Network) (d : HopDual) → AreSmall d → All IsSmall (lengths_in net d.dual)
-lengths-small net d small = All-map IsSmall (length_of d.dual.lengths) (range_with_len 0 (length net.cells)) (λ i x l. found-small (λ (r : Length). eqb r.cell (get_or (range_with_len 0 (length net.cells)) i x)) (λ (r : Length). r.value) MAX_LENGTH d.dual.lengths small.lengths)
-
-value-small : (values : List ℕ) (i : ℕ) → All IsSmall values → get_or values i 0 ≤ MAX_LENGTH
-value-small [] i h = omega arith
-value-small (x ∷ values) zero h = All-head IsSmall x values h
-value-small (x ∷ values) (suc i) h = value-small values i (All-tail IsSmall x values h)
 
 distance-small : (d : HopDual) (limit : Option ℕ) (k : Commodity) → AreSmall d → hop_distance d limit k ≤ MAX_LENGTH
 distance-small d None k small =
@@ -70,41 +55,16 @@ distances-small net limits d small = All-map IsSmall (λ (k : ℕ × Commodity).
 
 -- ---- sums
 
-weighted-small : {X : Type 0} (f : X → ℕ) (m : ℕ) (xs : List X) (ys : List ℕ) → All (λ y. y ≤ m) ys → weighted_sum f xs ys ≤ sum_by f xs * m
-weighted-small f m [] ys h = omega arith
-weighted-small f m (x ∷ xs) [] h = omega arith
-weighted-small f m (x ∷ xs) (y ∷ ys) h =
-    let first : f x * y ≤ f x * m = mul-le-mul_left (f x) (All-head (λ z. z ≤ m) y ys h) in
-    let rest = weighted-small f m xs ys (All-tail (λ z. z ≤ m) y ys h) in
-    let whole : sum_by f (x ∷ xs) * m ≡ (f x + sum_by f xs) * m = ap (λ n. n * m) (sum_by-cons f x xs) in
-    omega arith
-
-capacities-small : (net : Network) → IsNetwork net → sum_by (λ (cell : Cell). cell.cap) net.cells ≤ MAX_CELLS * MAX_UNITS
-capacities-small net n =
-    let sum = sum_by-le (λ (cell : Cell). cell.cap) MAX_UNITS net.cells (All-weaker (IsCell net.nodes) (λ (cell : Cell). cell.cap ≤ MAX_UNITS) (λ cell h. h.cap) net.cells n.cells) in
-    let most : length net.cells * MAX_UNITS ≤ MAX_CELLS * MAX_UNITS = mul-le-mul_right MAX_UNITS n.cell_count in
-    omega arith
-
 -- the volume is at most 2 ^ 119, the weighted distance at most 2 ^ 108
 upper-parts : (net : Network) (limits : List (Option ℕ)) (d : HopDual) → IsNetwork net → AreSmall d → ((hop_upper_of net limits d).num ≤ MAX_PART) × ((hop_upper_of net limits d).den ≤ MAX_PART)
 upper-parts net limits d n small =
-    let num = weighted-small (λ (cell : Cell). cell.cap) MAX_LENGTH net.cells (lengths_in net d.dual) (lengths-small net d small) in
+    let num = weighted-small (λ (cell : Cell). cell.cap) MAX_LENGTH net.cells (lengths_in net d.dual) (lengths-small net d.dual small.lengths) in
     let den = weighted-small (λ (k : Commodity). k.amount) MAX_LENGTH net.commodities (hop_distances net limits d) (distances-small net limits d small) in
     let caps : sum_by (λ (cell : Cell). cell.cap) net.cells * MAX_LENGTH ≤ MAX_CELLS * MAX_UNITS * MAX_LENGTH = mul-le-mul_right MAX_LENGTH (capacities-small net n) in
     let amounts : sum_by (λ (k : Commodity). k.amount) net.commodities * MAX_LENGTH ≤ MAX_TOTAL * MAX_LENGTH = mul-le-mul_right MAX_LENGTH n.total in
     (omega arith, omega arith)
 
 -- what is printed, whole and millionths, is no more than the numerator
-up-small : (w m : ℕ) (f : Fraction) → w * 1000000 + m ≡ millionths_up f → 1 ≤ f.den → w ≤ f.num
-up-small w m f e positive = omega (arith, up f.num f.den positive)
-  where
-    up : (n d : ℕ) → 1 ≤ d → (n * 1000000 + (d - 1)) / d ≤ n * 1000000 + 1
-    up n zero l = absurd (omega arith)
-    up n (suc d) l =
-        let one : 1 ≤ suc d = l in
-        let part : n * 1000000 * 1 ≤ n * 1000000 * suc d = mul-le-mul_left (n * 1000000) one in
-        div-le_of_le-mul (suc d) (omega arith)
-
 pub upper-fits : (net : Network) (limits : List (Option ℕ)) (d : HopDual) (p : Printed) → IsNetwork net → AreSmall d → 1 ≤ (hop_upper_of net limits d).den
     → IsPrinted p (hop_upper_of net limits d) (millionths_up (hop_upper_of net limits d)) → p.micro < 1000000 → FitsValue MAX_PART p
 upper-fits net limits d p n small positive printed micro =

@@ -1,5 +1,5 @@
 mod Judgements
-mod Made
+pub mod Made
 mod Figures
 mod Written
 mod Checked

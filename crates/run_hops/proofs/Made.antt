@@ -5,7 +5,7 @@ use Rattle.sndlib_grammar.specs.Rows.{NetRows}
 use Rattle.sndlib_grammar.specs.declared.refusal.NetRefusal.{NetRefusal}
 use Rattle.unit_scale.specs.declared.options.NetOptions.{NetOptions}
 use Rattle.unit_scale.specs.Scaling.{ScaledNet, scaled_of}
-use Rattle.flow_model.specs.Network.{Network}
+use Rattle.flow_model.specs.Network.{Network, IsNetwork}
 use Rattle.cert_lines.specs.Sheet.{Sheet}
 use Rattle.route_tally.specs.declared.options.RunOptions.{RunOptions}
 use Rattle.net_solve.specs.declared.asked.Asked.{Asked}
@@ -16,15 +16,16 @@ use Rattle.hop_solve.specs.Run.{IsHopRun}
 use Rattle.run_texts.specs.HopsText.{hops_text}
 use Rattle.run_hops.specs.declared.solving.HopSolving.{HopSolving}
 use Rattle.run_hops.specs.declared.solving.HopSolving.TheVariants.{Refused, Done}
-use Rattle.run_hops.specs.Hops.{IsHopSolved, IsHopSolving, OnRun, OnLimits, OnNet, options_for}
+use Rattle.net_solve.specs.Asked.{turn_options_for}
+use Rattle.run_hops.specs.Hops.{IsHopSolved, IsHopSolving, OnRun, OnLimits, OnNet}
 
 -- the run on a network is one on the network that is the same
-pub is_solved : (net n m : Network) (limits : List (Option ℕ)) (asked : Asked) (o : RunOptions) (h : HopProof) → n ≡ net → m ≡ net → o ≡ options_for n asked
-    → IsHopRun m limits o h → IsValidHops m limits h → IsHopCertified m limits h → IsHopProofOf m h → IsHopSolved net limits (options_for net asked) h
-is_solved net n m limits asked o h a b under run valid certified fits =
-    let same : o ≡ options_for net asked = under ∙ ap (λ (x : Network). options_for x asked) a in
-    subst (λ (x : Network). IsHopSolved x limits (options_for net asked) h) b (subst (λ (q : RunOptions). IsHopSolved m limits q h) same
-    (record { run = run; valid = valid; certified = certified; fits = fits }))
+pub is_solved : (net n m : Network) (limits : List (Option ℕ)) (asked : Asked) (o : RunOptions) (h : HopProof) → n ≡ net → m ≡ net → o ≡ turn_options_for n asked
+    → IsNetwork net → IsHopRun m limits o h → IsValidHops m limits h → IsHopCertified m limits h → IsHopProofOf m h → IsHopSolved net limits (turn_options_for net asked) h
+is_solved net n m limits asked o h a b under sound run valid certified fits =
+    let same : o ≡ turn_options_for net asked = under ∙ ap (λ (x : Network). turn_options_for x asked) a in
+    subst (λ (x : Network). IsHopSolved x limits (turn_options_for net asked) h) b (subst (λ (q : RunOptions). IsHopSolved m limits q h) same
+    (record { sound = subst IsNetwork (sym b) sound; run = run; valid = valid; certified = certified; fits = fits }))
 
 module _ (rows : NetRows) (o : NetOptions) (asked : Asked) where
   pub net_refused : (r : NetRefusal) → scaled_of rows o ≡ Err r → IsHopSolving rows o asked (Refused r)
@@ -43,17 +44,17 @@ module _ (rows : NetRows) (o : NetOptions) (asked : Asked) where
 
   -- what was solved is of the network that the rows stand for, within their limits, none of which is too far
   pub done_is : (net : ScaledNet) (h : HopProof) → IsHopSolving rows o asked (Done net h)
-      → (scaled_of rows o ≡ Ok net) × (hop_refusal rows ≡ None) × IsHopSolved net.net (limits_of rows net) (options_for net.net asked) h
+      → (scaled_of rows o ≡ Ok net) × (hop_refusal rows ≡ None) × IsHopSolved net.net (limits_of rows net) (turn_options_for net.net asked) h
   done_is net h s = by (scaled_of rows o) refl s
     where
       on : (n : ScaledNet) → scaled_of rows o ≡ Ok n → (q : Option NetRefusal) → hop_refusal rows ≡ q → OnLimits rows n asked q (Done net h)
-          → (scaled_of rows o ≡ Ok net) × (hop_refusal rows ≡ None) × IsHopSolved net.net (limits_of rows net) (options_for net.net asked) h
+          → (scaled_of rows o ≡ Ok net) × (hop_refusal rows ≡ None) × IsHopSolved net.net (limits_of rows net) (turn_options_for net.net asked) h
       on n e (Some r) near t = absurd cc
       on n e None near (same, work, solved) =
-          (e ∙ ap (λ (m : ScaledNet). Ok m) (sym same), near, subst (λ (m : ScaledNet). IsHopSolved m.net (limits_of rows m) (options_for m.net asked) h) (sym same) solved)
+          (e ∙ ap (λ (m : ScaledNet). Ok m) (sym same), near, subst (λ (m : ScaledNet). IsHopSolved m.net (limits_of rows m) (turn_options_for m.net asked) h) (sym same) solved)
 
       by : (r : Result ScaledNet NetRefusal) → scaled_of rows o ≡ r → OnNet rows r asked (Done net h)
-          → (scaled_of rows o ≡ Ok net) × (hop_refusal rows ≡ None) × IsHopSolved net.net (limits_of rows net) (options_for net.net asked) h
+          → (scaled_of rows o ≡ Ok net) × (hop_refusal rows ≡ None) × IsHopSolved net.net (limits_of rows net) (turn_options_for net.net asked) h
       by (Err r) e t = absurd cc
       by (Ok n) e t = on n e (hop_refusal rows) refl t
 

@@ -23,8 +23,7 @@ use Rattle.hop_check.specs.Limits.{limits_of, hop_refusal}
 use Rattle.run_texts.specs.Heads.{run_head}
 use Rattle.run_texts.specs.HopsRead.{hops_in}
 use Rattle.run_base.specs.declared.outcome.Paper.TheVariants.{Certificate}
-use Rattle.run_base.specs.declared.outcome.Outcome.TheVariants.{Judged}
-use Rattle.run_base.specs.Answer.{Answer, answer_of}
+use Rattle.run_base.specs.Answer.{Answer, judged_answer}
 use Rattle.run_base.specs.Files.{Ends, OfFile, OfNet}
 
 -- of a certificate within these limits it is said that it is valid, with its verdict and both fractions, or which condition fails first
@@ -60,10 +59,6 @@ IsHopsJudgement rows text judged = IsSaid refused (SaysHops rows) (hops_on rows 
 abbrev pub SaysRest : ScaledNet → List (Option ℕ) → Result HopProof CertRefusal → Judgement → Type 0
 SaysRest net limits (Ok h) judged = SaysWithin net limits h judged
 SaysRest net limits (Err r) judged = judged ≡ CertRefused r
-
--- the line of a judgement
-abbrev pub judged_answer : Judgement → Answer
-judged_answer judged = answer_of (Judged judged)
 
 -- the answer is what is said of the certificate's text on the rows
 abbrev pub OnHopTexts : NetRows → List ℕ → Answer → Type 0

@@ -8,7 +8,7 @@ use Rattle.unit_scale.specs.declared.options.NetOptions.{NetOptions}
 use Rattle.unit_scale.specs.Scaling.{ScaledNet, scaled_of}
 use Rattle.cert_lines.specs.Sheet.{IsOf, sheet_of}
 use Rattle.net_solve.specs.declared.asked.Asked.{Asked}
-use Rattle.net_solve.specs.Asked.{budget_of, IsTooMuch}
+use Rattle.net_solve.specs.Asked.{turn_options_for, IsTooMuch}
 use Rattle.route_tally.specs.declared.options.RunOptions.{RunOptions}
 use Rattle.hop_check.specs.declared.hop_proof.HopProof.{HopProof}
 use Rattle.hop_check.specs.Conditions.{IsValidHops, IsHopProofOf, IsHopCertified}
@@ -19,7 +19,7 @@ use Rattle.mcf_words.specs.declared.request.Request.{Request}
 use Rattle.run_base.specs.Found.{found_hops}
 use Rattle.run_base.specs.declared.outcome.Outcome.TheVariants.{NetRefused, TooMuch as TooMuchWork}
 use Rattle.run_base.specs.Answer.{Answer, answer_of}
-use Rattle.run_base.specs.Files.{Ends, OfNet}
+use Rattle.run_base.specs.Files.{AreTextRows, Ends, OfNet}
 use Rattle.run_hops.specs.declared.solving.HopSolving.{HopSolving}
 use Rattle.run_hops.specs.declared.solving.HopSolving.TheVariants.{Refused, TooMuch, Done}
 
@@ -29,12 +29,9 @@ use Rattle.run_hops.specs.declared.solving.HopSolving.TheVariants.{Refused, TooM
 abbrev pub asked_of : Request → Asked
 asked_of request = record { gap = request.gap; phases = request.phases; workers = None; step = request.step }
 
--- the options of a run on the network
-abbrev pub options_for : Network → Asked → RunOptions
-options_for net a = record { gap = a.gap; phases = budget_of net a.phases; step = a.step }
-
--- what was solved: a run within the limits, whose proof is valid, certifies, and is of the network
+-- what was solved: a run within the limits on a network, whose proof is valid, certifies, and is of the network
 pub record IsHopSolved (net : Network) (limits : List (Option ℕ)) (o : RunOptions) (h : HopProof) : Type 0 where
+  pub sound : IsNetwork net
   pub run : IsHopRun net limits o h
   pub valid : IsValidHops net limits h
   pub certified : IsHopCertified net limits h
@@ -45,7 +42,7 @@ abbrev pub OnRun : ScaledNet → List (Option ℕ) → Asked → HopSolving → 
 OnRun net limits asked (Refused r) = ⊥
 OnRun net limits asked (TooMuch work) = IsTooMuch net.net asked work
 OnRun net limits asked (Done solved h) =
-    (solved ≡ net) × ((work : ℕ) → ¬ (IsTooMuch net.net asked work)) × IsHopSolved net.net limits (options_for net.net asked) h
+    (solved ≡ net) × ((work : ℕ) → ¬ (IsTooMuch net.net asked work)) × IsHopSolved net.net limits (turn_options_for net.net asked) h
 
 -- behind the network in units, in this order: a limit that is too far, work that is too much, a run
 abbrev pub OnLimits : NetRows → ScaledNet → Asked → Option NetRefusal → HopSolving → Type 0
@@ -78,10 +75,11 @@ solving_answer rows (Refused r) = answer_of (NetRefused r)
 solving_answer rows (TooMuch work) = answer_of (TooMuchWork work)
 solving_answer rows (Done net h) = hops_answer rows net h
 
--- the answer is that of what is made of the rows
+-- the answer is that of what is made of the rows, which are those of a text
 abbrev pub SolvesHops : Request → NetRows → Answer → Type 0
 SolvesHops request rows answer =
     (solving : HopSolving) × IsHopSolving rows request.net (asked_of request) solving × (answer ≡ solving_answer rows solving)
+    × AreTextRows rows
 
 -- the answer of the network's file
 abbrev pub OfHops : List ℕ → Request → ShelfView → ShelfView → Answer → Type 0

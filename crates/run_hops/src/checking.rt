@@ -1,8 +1,8 @@
 //! The command `checkhops`: what is said of a certificate with hop limits on a network.
 
-ghost use Rattle.run_base.specs.Answer.{IsTold};
+ghost use Rattle.run_base.specs.Answer.{IsTold, judged_answer};
 ghost use Rattle.run_base.specs.Files.{Finds};
-ghost use Rattle.run_hops.specs.Check.{OfCheckHops, judged_answer};
+ghost use Rattle.run_hops.specs.Check.{OfCheckHops};
 
 use crate::judging::judge_hops;
 use cert_judge::Judged;

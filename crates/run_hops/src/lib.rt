@@ -8,7 +8,7 @@ mod laws;
 mod solving;
 mod writing;
 
-pub use asked::{asked_by, options_of};
+pub use asked::asked_by;
 pub use checking::checkhops;
 pub use judging::judge_hops;
 pub use laws::{hops_can_be_written, solved_hops_check};

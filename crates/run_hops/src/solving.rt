@@ -6,10 +6,9 @@ ghost use Rattle.hop_paths.specs.Allowed.{AreLimits};
 ghost use Rattle.net_solve.specs.Asked.{IsAsked};
 ghost use Rattle.run_hops.specs.Hops.{IsHopSolving, OnRun};
 
-use crate::asked::options_of;
 use hop_check::{HopProof, hop_limits};
 use hop_solve::solve_hops;
-use net_solve::Asked;
+use net_solve::{Asked, turn_options};
 use sndlib_read::{NetRefusal, RawNet};
 use std::alloc::{AllocError, Global};
 use unit_scale::{NetOptions, ScaleEnd, Scaled, scale};
@@ -36,11 +35,12 @@ fn solve_within(
     requires asked { IsAsked asked.now }
     ensures { IfOk result (OnRun net limits.now asked.now) }
 {
-    let options = match options_of(net.net(), asked) {
+    let options = match turn_options(net.net(), asked) {
         Ok(options) => options,
         Err(work) => return Ok(HopSolving::TooMuch(work)),
     };
     let h = solve_hops(alloc, net.net(), limits, &options)?;
+    let _nodes = net.net().nodes();
     Ok(HopSolving::Done(net, h))
 }
 

@@ -63,6 +63,7 @@ fn solve_and_tell<K: Sink>(
     ensures { IsTold (OrWant (SolvesHops request.now rows.now))
         (K.seen out.old) (K.seen out.new) result }
 {
+    let _skipped = rows.skipped();
     match solve_hop_rows(alloc, rows, request.net, &asked_by(request)) {
         Ok(HopSolving::Done(net, h)) => write_solved(rows, &net, h, out),
         Ok(HopSolving::Refused(refusal)) => tell(out, Outcome::NetRefused(refusal)),

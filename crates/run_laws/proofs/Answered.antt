@@ -1,5 +1,5 @@
 -- What each command answers to accepted files: an answer with status 0 or 1.
-use Rattle.std.proofs.Common.{◌≡◌, ℕ, ◌≤◌, Bool, true, false, List, [], ◌∷◌, Option, Some, None, Result, Ok, Err, inl, inr, ap, subst, sym, ◌∙◌, arith, refl}
+use Rattle.std.proofs.Common.{◌≡◌, ℕ, ◌≤◌, Bool, true, false, List, [], ◌∷◌, Option, Some, None, Result, Ok, Err, inl, inr, subst, sym, arith, refl}
 use Rattle.std.specs.Prelude.{◌⊎◌, codes, if◌then◌else◌}
 use Rattle.std.specs.List.{list_all}
 use Rattle.mcf_limits.specs.declared.TheConstants.{MAX_CERT_BYTES, MAX_LIST_BYTES, MAX_SCRIPT_BYTES}
@@ -52,7 +52,7 @@ use Rattle.run_certs.specs.Tighten.{WritesBest, best_answer, OnBoth, OnSecond, O
 use Rattle.run_certs.specs.Upgrade.{upgrade_answer, OnUpgrade, OfUpgraded, OfUpgrade}
 use Rattle.solver_run.specs.History.{SolvedView}
 use Rattle.matrix_batch.specs.Matrices.{Matrix}
-use Rattle.matrix_batch.specs.Batch.{IsBatch, IsBatchTooMuch}
+use Rattle.matrix_batch.specs.Batch.{IsBatchTooMuch}
 use Rattle.matrix_batch.specs.Refusals.{BatchRefusal}
 use Rattle.matrix_batch.proofs.Only.{answers_once}
 use Rattle.run_batches.specs.Batch.{batch_asked_of, batch_answer, SolvesBatch, OnBatch, OnList, OfList, OfBatch}
@@ -66,7 +66,7 @@ use Rattle.cert_judge.specs.Papers.{nothing_more}
 use Rattle.hop_check.specs.declared.hop_proof.HopProof.{HopProof}
 use Rattle.throughput.specs.declared.part_proof.PartProof.{PartProof}
 use Rattle.run_texts.specs.Heads.{run_head}
-use Rattle.hop_check.specs.Limits.{hop_refusal, limits_of}
+use Rattle.hop_check.specs.Limits.{limits_of}
 use Rattle.run_hops.specs.Check as hops
 use Rattle.run_hops.specs.Hops as hop_runs
 use Rattle.run_hops.specs.declared.solving.HopSolving.{HopSolving}

@@ -1,7 +1,7 @@
 -- A run of accepted words and files answers in full, and no other does.
-use Rattle.std.proofs.Common.{◌≡◌, ℕ, ◌≤◌, Bool, true, false, List, Option, Some, None, Result, Ok, Err, inl, inr, refl, ap, subst, ◌∙◌, arith}
+use Rattle.std.proofs.Common.{◌≡◌, ℕ, ◌≤◌, List, Option, Some, None, Result, Ok, Err, inl, inr, refl, ap, subst, ◌∙◌, arith}
 use Rattle.mcf_limits.specs.declared.TheConstants.{MAX_CERT_BYTES, MAX_LIST_BYTES, MAX_SCRIPT_BYTES}
-use Rattle.std.specs.Prelude.{◌⊎◌, codes}
+use Rattle.std.specs.Prelude.{codes}
 use Rattle.mcf_base.specs.Reading.{IsText}
 use Rattle.mcf_base.specs.Shelf.{Holding, ShelfView, with_file}
 use Rattle.mcf_base.specs.Sink.{SinkView}
@@ -16,9 +16,7 @@ use Rattle.sndlib_grammar.specs.Rows.{NetRows}
 use Rattle.sndlib_grammar.specs.declared.refusal.NetRefusal.{NetRefusal}
 use Rattle.unit_scale.specs.Scaling.{ScaledNet, scaled_of}
 use Rattle.cert_lines.specs.Sheet.{sheets_of}
-use Rattle.cert_lines.specs.declared.refusal.CertRefusal.{CertRefusal}
 use Rattle.cert_text.specs.declared.opening.CertHead.{CertHead}
-use Rattle.cert_text.specs.declared.papers.Paper.{Paper}
 use Rattle.cert_text.specs.declared.papers.Paper.TheVariants as papers
 use Rattle.cert_text.specs.Whole.{head_in, paper_in}
 use Rattle.cert_judge.specs.declared.judged.Judged.{Judged}
@@ -31,7 +29,6 @@ use Rattle.cert_judge.specs.Papers.{options_of}
 use Rattle.cert_judge.specs.Second.{with_net}
 use Rattle.cert_judge.proofs.PaperFacts.{scaled_own}
 use Rattle.cert_judge.proofs.Seconds.{second_by}
-use Rattle.cert_judge.specs.Judgement.{refused}
 use Rattle.cert_judge.proofs.Judgements.{certified_by, judged_by}
 use Rattle.net_solve.specs.declared.solving.Solving.{Solving}
 use Rattle.net_solve.specs.declared.solving.Solving.TheVariants as solvings
@@ -51,17 +48,17 @@ use Rattle.mcf_words.specs.declared.request.Command.TheVariants as commands
 use Rattle.run_base.specs.declared.ended.Ended.{Ended}
 use Rattle.run_base.specs.declared.outcome.Paper.TheVariants as kinds
 use Rattle.run_base.specs.declared.outcome.Outcome.TheVariants as outcomes
-use Rattle.run_base.specs.Answer.{Answer, IsGiven, IsCut, Writes, answer_of, cut_off, ended_of}
+use Rattle.run_base.specs.Answer.{Answer, IsGiven, Writes, answer_of, cut_off, ended_of}
 use Rattle.run_base.specs.Files.{Ends, OfFile, OrMemory}
 use Rattle.run_solves.specs.Print.{OfPrint, printed}
 use Rattle.run_certs.specs.Check.{OnTexts, OfCheck}
 use Rattle.run_solves.specs.Solve.{asked_of, solving_answer, SolvesRows, OfSolve}
-use Rattle.run_certs.specs.Tighten.{WritesBest, OnBoth, OnSecond, OnFirst, OnFirstRead, OnFirstText, OfFirst, OfTighten}
+use Rattle.run_certs.specs.Tighten.{OnBoth, OnSecond, OnFirst, OnFirstRead, OnFirstText, OfFirst, OfTighten}
 use Rattle.run_certs.specs.Upgrade.{upgrade_answer, OnUpgrade, OfUpgraded, OfUpgrade}
 use Rattle.matrix_batch.specs.Matrices.{Matrix}
 use Rattle.matrix_batch.specs.Batch.{IsBatch, IsBatchTooMuch}
 use Rattle.matrix_batch.specs.Refusals.{BatchRefusal, InNet, InList}
-use Rattle.run_batches.specs.Batch.{batch_asked_of, batch_answer, SolvesBatch, OnBatch, OnList, OfList, OfBatch}
+use Rattle.run_batches.specs.Batch.{batch_asked_of, SolvesBatch, OnBatch, OnList, OfList, OfBatch}
 use Rattle.run_sweeps.specs.Sweep.{sweep_answer, OnSweep, OfSwept, OfSweep}
 use Rattle.run_sweeps.specs.SweepSolve.{sweep_asked_of, OnScaled, OnSweepSolve, OfSweepSolve}
 use Rattle.run_certs.specs.WhatIf.{scripted_answer, OnScript, OnCertified, OnCertificate, OfWhatIf}

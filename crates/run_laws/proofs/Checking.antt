@@ -1,5 +1,5 @@
 -- What a run of `solve` or `upgrade` wrote is judged valid by a run of `check`.
-use Rattle.std.proofs.Common.{◌≡◌, ℕ, ◌≤◌, List, [], ◌++◌, Option, Some, None, Ok, inl, inr, refl, sym, ap, subst, ◌∙◌, arith}
+use Rattle.std.proofs.Common.{◌≡◌, ℕ, ◌≤◌, List, [], ◌++◌, Option, Some, None, Ok, inl, inr, sym, ap, subst, ◌∙◌, arith}
 use Rattle.std.specs.Prelude.{◌⊎◌, ◌↔◌}
 use Rattle.std.specs.Io.KnownBytes.{Appends}
 use Rattle.mcf_limits.specs.declared.TheConstants.{MAX_CERT_BYTES}
@@ -38,19 +38,18 @@ use Rattle.cert_judge.specs.Certified.{IsCertificate, OnCertificate as CertOnCer
 use Rattle.mcf_words.specs.declared.request.Command.{Command}
 use Rattle.mcf_words.specs.declared.request.Command.TheVariants as commands
 use Rattle.mcf_words.specs.declared.request.Request.{Request}
-use Rattle.mcf_words.specs.Request.{request_of}
 use Rattle.run_base.specs.declared.ended.Ended.{Ended}
 use Rattle.run_base.specs.declared.outcome.Paper.TheVariants as kinds
 use Rattle.run_base.specs.declared.outcome.Outcome.TheVariants as outcomes
-use Rattle.run_base.specs.Answer.{Answer, IsGiven, Writes, answer_of, cut_off, ended_of}
+use Rattle.run_base.specs.Answer.{Answer, IsGiven, Writes, cut_off, ended_of, judged_answer}
 use Rattle.run_base.specs.Found.{found_solve}
-use Rattle.run_base.specs.Files.{Ends, OfFile}
+use Rattle.run_base.specs.Files.{Ends, OfFile, OfNet}
 use Rattle.run_solves.specs.Solve.{asked_of, solve_answer, solving_answer, SolvesRows}
-use Rattle.run_certs.specs.Check.{OnTexts, OfCheck, judged_answer}
+use Rattle.run_certs.specs.Check.{OnTexts}
 use Rattle.run_certs.specs.Upgrade.{upgrade_answer, OnUpgrade, OfUpgraded}
 use Rattle.mcf_cli.specs.Run.{file_at, OfCommand, OfRequest, IsAnswer}
 use Rattle.run_laws.specs.Accepted.{IsNetFile}
-use Rattle.run_laws.specs.Checked.{IsRunOf, IsSolvedRun, IsUpgradedRun, IsCheckedRun, IsToldValid, ChecksAs, ChecksAlike, Upgrades}
+use Rattle.run_laws.specs.Checked.{IsRunOf, IsSolvedRun, IsUpgradedRun, IsCheckedRun, IsJudgedRun, IsToldAs, IsToldValid, ChecksAs, ChecksAlike, Upgrades}
 use Rattle.run_laws.proofs.Asked.{cert_read, upgrade_full}
 use Rattle.run_laws.proofs.Given.{Memories, ends_full, not_full, of_rows, of_text, rows_of_file, text_of_file}
 
@@ -218,50 +217,59 @@ upgraded_by files request text ended run =
 -- ---- the run of `check`
 
 -- what is said of the text on the rows is that it is this valid certificate's
-abbrev SaysValid : NetRows → ScaledNet → Proof → List ℕ → Type 0
+abbrev pub SaysValid : NetRows → ScaledNet → Proof → List ℕ → Type 0
 SaysValid rows net proof text = (judged : Judged) → IsJudgement rows text judged → judged ≡ valid_of net proof
 
 text_valid : (rows : NetRows) (net : ScaledNet) (proof : Proof) (text : List ℕ) (answer : Answer) → SaysValid rows net proof text → OnTexts rows text answer → answer ≡ judged_answer (valid_of net proof)
 text_valid rows net proof text answer says (judged, is, same) = same ∙ ap judged_answer (says judged is)
 
-module _ (files again : Holding) (first check : Request) (text : List ℕ) (before after : SinkView) (second : Ended) (rows : NetRows) (net : ScaledNet) (proof : Proof) (net_file : IsNetFile files (file_at first 0) rows)
-    (says : SaysValid rows net proof text) (run : IsCheckedRun files again first check text before after second) where
+-- Of a command that judges: what it answers of rows and a text, and what was said of this text on these rows.
+module _ (command : Command) (On : NetRows → List ℕ → Answer → Type 0) (judged : Judged) (files again : Holding) (first check : Request) (text : List ℕ) (before after : SinkView) (second : Ended) (rows : NetRows)
+    (net_file : IsNetFile files (file_at first 0) rows) (says : (answer : Answer) → On rows text answer → answer ≡ judged_answer judged)
+    (is_of : (old new : ShelfView) (answer : Answer) → OfCommand command check old new answer
+    → OfNet (file_at check 0) (λ rows. OfFile MAX_CERT_BYTES kinds.Certificate (file_at check 1) (λ text. Ends (On rows text))) old new answer)
+    (run : IsJudgedRun command files again first check text before after second) where
   abbrev Valid : Answer → Type 0
-  Valid answer = answer ≡ judged_answer (valid_of net proof)
+  Valid answer = answer ≡ judged_answer judged
 
-  -- want of memory, or the line of the valid certificate
-  check_of : (answer : Answer) → OfCheck (file_at check 0) (file_at check 1) run.old run.new answer → Memories answer ⊎ Valid answer
-  check_of answer of = by (of_rows again (file_at check 0) rows (λ rows. OfFile MAX_CERT_BYTES kinds.Certificate (file_at check 1) (λ text. Ends (OnTexts rows text))) run.old run.new answer run.tells run.calm.shelf file of)
+  -- want of memory, or the line that says this
+  check_of : (answer : Answer) → OfNet (file_at check 0) (λ rows. OfFile MAX_CERT_BYTES kinds.Certificate (file_at check 1) (λ text. Ends (On rows text))) run.old run.new answer → Memories answer ⊎ Valid answer
+  check_of answer of = by (of_rows again (file_at check 0) rows (λ rows. OfFile MAX_CERT_BYTES kinds.Certificate (file_at check 1) (λ text. Ends (On rows text))) run.old run.new answer run.tells run.calm.shelf file of)
     where
       file : IsNetFile again (file_at check 0) rows
       file = record { text = net_file.text; given = record { file = run.network ∙ net_file.given.file; short = net_file.given.short }; read = net_file.read }
 
-      last : Memories answer ⊎ Ends (OnTexts rows text) (with_file (with_file run.old (file_at check 0)) (file_at check 1)) run.new answer → Memories answer ⊎ Valid answer
+      last : Memories answer ⊎ Ends (On rows text) (with_file (with_file run.old (file_at check 0)) (file_at check 1)) run.new answer → Memories answer ⊎ Valid answer
       last (inl memory) = inl memory
       last (inr (same, inl memory)) = inl memory
-      last (inr (same, inr on)) = inr (text_valid rows net proof text answer says on)
+      last (inr (same, inr on)) = inr (says answer on)
 
-      by : Memories answer ⊎ OfFile MAX_CERT_BYTES kinds.Certificate (file_at check 1) (λ text. Ends (OnTexts rows text)) (with_file run.old (file_at check 0)) run.new answer → Memories answer ⊎ Valid answer
+      by : Memories answer ⊎ OfFile MAX_CERT_BYTES kinds.Certificate (file_at check 1) (λ text. Ends (On rows text)) (with_file run.old (file_at check 0)) run.new answer → Memories answer ⊎ Valid answer
       by (inl memory) = inl memory
       by (inr on) =
-          last (of_text MAX_CERT_BYTES kinds.Certificate again (file_at check 1) text (λ text. Ends (OnTexts rows text)) (with_file run.old (file_at check 0)) run.new answer run.tells run.calm.shelf
+          last (of_text MAX_CERT_BYTES kinds.Certificate again (file_at check 1) text (λ text. Ends (On rows text)) (with_file run.old (file_at check 0)) run.new answer run.tells run.calm.shelf
           (record { file = run.certificate; short = run.short }) on)
 
-  pub checked : IsToldValid net proof before after second
-  checked = by run.runs.1 run.runs.2
+  pub told_as : IsToldAs judged before after second
+  told_as = by run.runs.1 run.runs.2
     where
       answer : Answer
       answer = run.runs.0
 
-      said : IsGiven before after second answer → Memories answer ⊎ Valid answer → IsToldValid net proof before after second
+      said : IsGiven before after second answer → Memories answer ⊎ Valid answer → IsToldAs judged before after second
       said given (inl memory) = inr (subst (λ (a : Answer). IsGiven before after second a) memory given)
       said given (inr valid) = inl (subst (λ (a : Answer). IsGiven before after second a) valid given)
 
-      by : IsAnswer run.words run.old run.new answer → Writes before after second answer → IsToldValid net proof before after second
+      by : IsAnswer run.words run.old run.new answer → Writes before after second answer → IsToldAs judged before after second
       by from (inr cut) = absurd (run.calm.output cut.failed.rose)
       by (inl (memory, same)) (inl given) = said given (inl memory)
       by (inr of) (inl given) =
-          said given (check_of answer (subst (λ (c : Command). OfCommand c check run.old run.new answer) run.command (subst (λ (r : Option Request). OfRequest r run.old run.new answer) run.asked of)))
+          said given (check_of answer (is_of run.old run.new answer (subst (λ (c : Command). OfCommand c check run.old run.new answer) run.is (subst (λ (r : Option Request). OfRequest r run.old run.new answer) run.asked of))))
+
+pub checked : (files again : Holding) (first check : Request) (text : List ℕ) (before after : SinkView) (second : Ended) (rows : NetRows) (net : ScaledNet) (proof : Proof) → IsNetFile files (file_at first 0) rows
+    → SaysValid rows net proof text → IsCheckedRun files again first check text before after second → IsToldValid net proof before after second
+checked files again first check text before after second rows net proof net_file says run =
+    told_as commands.Check OnTexts (valid_of net proof) files again first check text before after second rows net_file (λ answer on. text_valid rows net proof text answer says on) (λ old new answer of. of) run
 
 -- ---- both
 

@@ -12,7 +12,7 @@ use Rattle.run_base.specs.declared.outcome.Paper.{Paper}
 use Rattle.run_base.specs.declared.outcome.Paper.TheVariants.{Network}
 use Rattle.run_base.specs.declared.outcome.Outcome.{Outcome}
 use Rattle.run_base.specs.declared.outcome.Outcome.TheVariants.{Memory, NetRefused, ReadFault, TooLong}
-use Rattle.run_base.specs.Answer.{Answer, OrWant, answer_of, status_of}
+use Rattle.run_base.specs.Answer.{Answer, answer_of, status_of}
 use Rattle.run_base.specs.Files.{Ends, OfFile, OfNet, OnRows, OrMemory}
 use Rattle.run_laws.specs.Accepted.{IsNetFile}
 

@@ -1,5 +1,5 @@
 -- Commands that judge a text of one kind: when they answer in full, and that they accept what they answer in full.
-use Rattle.std.proofs.Common.{◌≡◌, ℕ, ◌≤◌, List, Option, Some, Result, inl, inr, subst, sym, ap, arith, refl}
+use Rattle.std.proofs.Common.{◌≡◌, ℕ, ◌≤◌, List, Option, Some, Result, inl, inr, subst, sym, ap, arith}
 use Rattle.std.specs.Prelude.{◌⊎◌}
 use Rattle.mcf_limits.specs.declared.TheConstants.{MAX_CERT_BYTES}
 use Rattle.mcf_base.specs.Faults.{Rose}

@@ -7,3 +7,9 @@ pub mod Starting
 pub mod Checking
 pub mod Sweeping
 pub mod Tightening
+pub mod KindChecks
+pub mod Alike
+pub mod Skipping
+pub mod Networks
+pub mod Canonical
+pub mod Batching

@@ -7,7 +7,6 @@ use Rattle.std.proofs.lemmas.List.Elements.{Contains-append_right}
 use Rattle.std.proofs.Math.Seq.{take-append-add}
 use Rattle.mcf_limits.specs.declared.TheConstants.{MAX_NET_BYTES, MAX_CERT_BYTES, MAX_LIST_BYTES, MAX_SCRIPT_BYTES}
 use Rattle.mcf_base.specs.Shelf.{ShelfView, with_file}
-use Rattle.mcf_base.specs.Reading.{IsText}
 use Rattle.mcf_base.specs.Sink.{SinkView}
 use Rattle.sndlib_grammar.specs.declared.refusal.NetRefusal.{NetRefusal}
 use Rattle.sndlib_grammar.specs.Rows.{NetRows}
@@ -29,12 +28,12 @@ use Rattle.run_base.specs.declared.ended.Ended.{Ended}
 use Rattle.run_base.specs.declared.outcome.Paper.{Paper}
 use Rattle.run_base.specs.declared.outcome.Paper.TheVariants as kinds
 use Rattle.run_base.specs.declared.outcome.Outcome.TheVariants as outcomes
-use Rattle.run_base.specs.Answer.{Answer, IsGiven, IsCut, Writes, answer_of}
+use Rattle.run_base.specs.Answer.{Answer, Writes, answer_of, judged_answer}
 use Rattle.run_base.specs.Files.{Ends, OfFile, OfNet, OnRows, OrMemory}
 use Rattle.run_solves.specs.Print.{printed}
 use Rattle.run_solves.specs.Solve.{SolvesRows, solving_answer}
 use Rattle.run_solves.specs.Drawn.{gen_answer, links_drawn, net_drawn, trial_line, OfTrial}
-use Rattle.run_certs.specs.Check.{OnTexts, judged_answer}
+use Rattle.run_certs.specs.Check.{OnTexts}
 use Rattle.cert_judge.specs.declared.second.Second.{Second}
 use Rattle.cert_judge.specs.declared.second.Second.TheVariants as seconds
 use Rattle.flow_paths.specs.declared.certificate.Proof.{Proof}
@@ -57,7 +56,7 @@ use Rattle.run_parts.specs.Check as parts
 use Rattle.run_parts.specs.Parts as part_runs
 use Rattle.run_parts.specs.declared.solving.PartSolving.{PartSolving}
 use Rattle.run_parts.specs.declared.solving.PartSolving.TheVariants as part_solvings
-use Rattle.mcf_cli.specs.Run.{file_at, file_if, OfCommand, OfRequest, IsAnswer, RunEnds}
+use Rattle.mcf_cli.specs.Run.{file_at, file_if, OfCommand, OfRequest, RunEnds}
 use Rattle.run_laws.specs.Started.{FailsAtOne, Starts, StartsItsFiles, files_in}
 use Rattle.mcf_words.proofs.Counted.{names_count}
 use Rattle.run_laws.proofs.Named.{files_of, names_are}

@@ -1,14 +1,11 @@
 -- What a run of `tighten` wrote is the best certificate, is judged valid, and stays.
-use Rattle.std.proofs.Common.{◌≡◌, ◌⊎◌, ℕ, ◌≤◌, List, [], ◌∷◌, Option, Some, None, Result, Ok, Err, inl, inr, refl, sym, ap, subst, ◌∙◌, arith}
+use Rattle.std.proofs.Common.{◌≡◌, ◌⊎◌, ℕ, List, [], ◌∷◌, Option, Some, None, Result, Ok, inl, inr, refl, sym, ap, subst, ◌∙◌, arith}
 use Rattle.std.specs.Prelude.{All, if◌then◌else◌}
 use Rattle.std.proofs.lemmas.List.Elements.{All-cons, All-weaker}
-use Rattle.mcf_limits.specs.declared.TheConstants.{MAX_CERT_BYTES}
 use Rattle.mcf_base.specs.Shelf.{Holding, ShelfView, with_file}
-use Rattle.mcf_base.specs.Sink.{SinkView}
 use Rattle.flow_paths.specs.declared.certificate.Proof.{Proof}
 use Rattle.flow_paths.specs.Certificate.{IsValid}
 use Rattle.sndlib_grammar.specs.Rows.{NetRows}
-use Rattle.sndlib_grammar.specs.declared.refusal.NetRefusal.{NetRefusal}
 use Rattle.sndlib_grammar.specs.Net.{rows_of}
 use Rattle.unit_scale.specs.Scaling.{ScaledNet}
 use Rattle.cut_bound.specs.Tightened.{IsCertificateOf}
@@ -37,14 +34,12 @@ use Rattle.cert_inverse.proofs.NetworkWords.{citable}
 use Rattle.mcf_words.specs.declared.request.Command.TheVariants as commands
 use Rattle.mcf_words.specs.declared.request.Request.{Request}
 use Rattle.run_base.specs.declared.ended.Ended.{Ended}
-use Rattle.run_base.specs.declared.outcome.Outcome.TheVariants as outcomes
-use Rattle.run_base.specs.Answer.{Answer, answer_of}
-use Rattle.run_certs.specs.Tighten.{IsBestOf, WritesBest, best_answer, go_both_ways, OnBoth, OnFirst, OnFirstRead}
+use Rattle.run_base.specs.Answer.{Answer}
+use Rattle.run_certs.specs.Tighten.{IsBestOf, WritesBest, go_both_ways, OnBoth, OnFirst, OnFirstRead}
 use Rattle.run_certs.proofs.BestCertificates.{best_certificate, better_of, given_of, ways_of}
 use Rattle.mcf_cli.specs.Run.{file_at, file_if}
 use Rattle.run_laws.specs.Accepted.{IsNetFile, IsPaperFile}
-use Rattle.run_laws.specs.Checked.{IsCheckedRun}
-use Rattle.run_laws.specs.Tightened.{IsTightenedRun, TellsFirst, TellsSecond, TellsFault, AreOthers, Tightens, TightenedRunsAreBest, ChecksBest, TightenedRunsCheck, IsTightenedAgain, TightenedRunsStay}
+use Rattle.run_laws.specs.Tightened.{TellsFirst, TellsSecond, TellsFault, AreOthers, Tightens, TightenedRunsAreBest, ChecksBest, TightenedRunsCheck, IsTightenedAgain, TightenedRunsStay}
 use Rattle.run_laws.proofs.Answered.{file_read}
 use Rattle.run_laws.proofs.Asked.{IsFirstRead, first_read, no_fault, second_read}
 use Rattle.run_laws.proofs.Checking.{RunAnswer, checked, run_answered}

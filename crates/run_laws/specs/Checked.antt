@@ -15,6 +15,7 @@ use Rattle.cert_lines.specs.Sheet.{sheet_of, sheets_of}
 use Rattle.cert_text.specs.declared.papers.Paper.TheVariants.{Full}
 use Rattle.cert_writer.specs.Text.{certificate_text}
 use Rattle.cert_inverse.specs.Inverse.{IsPaperText}
+use Rattle.cert_judge.specs.declared.judged.Judged.{Judged}
 use Rattle.cert_inverse.specs.Judging.{valid_of}
 use Rattle.net_solve.specs.Solving.{IsDone}
 use Rattle.mcf_words.specs.declared.request.Command.{Command}
@@ -24,9 +25,8 @@ use Rattle.mcf_words.specs.Request.{request_of}
 use Rattle.run_base.specs.declared.ended.Ended.{Ended}
 use Rattle.run_base.specs.declared.outcome.Outcome.TheVariants.{Memory}
 use Rattle.run_base.specs.Found.{found_solve}
-use Rattle.run_base.specs.Answer.{IsGiven, answer_of}
+use Rattle.run_base.specs.Answer.{IsGiven, answer_of, judged_answer}
 use Rattle.run_solves.specs.Solve.{asked_of}
-use Rattle.run_certs.specs.Check.{judged_answer}
 use Rattle.mcf_cli.specs.Run.{file_at, RunEnds}
 use Rattle.run_laws.specs.Accepted.{IsNetFile}
 use Rattle.run_laws.specs.Whole.{HasNoFault}
@@ -54,11 +54,12 @@ IsSolvedRun files request text ended = IsRunOf Solve 1 files request text ended
 abbrev pub IsUpgradedRun : Holding → Request → List ℕ → Ended → Type 0
 IsUpgradedRun files request text ended = IsRunOf Upgrade 0 files request text ended
 
--- A run of `check` on that network and that text, which is within the limit of certificate texts; nothing failed in it.
-pub record IsCheckedRun (files again : Holding) (first request : Request) (text : List ℕ) (before after : SinkView) (ended : Ended) : Type 0 where
+-- A run of a command that judges certificates, on that network and that text, which is within the limit of certificate texts;
+-- nothing failed in it.
+pub record IsJudgedRun (command : Command) (files again : Holding) (first request : Request) (text : List ℕ) (before after : SinkView) (ended : Ended) : Type 0 where
   pub words : List (List ℕ)
   pub asked : request_of words ≡ Some request
-  pub command : request.command ≡ Check
+  pub is : request.command ≡ command
   pub old : ShelfView
   pub new : ShelfView
   pub tells : old.holds ≡ Some again
@@ -68,10 +69,18 @@ pub record IsCheckedRun (files again : Holding) (first request : Request) (text 
   pub runs : RunEnds words old new before after ended
   pub calm : HasNoFault old new before after
 
+-- a run of `check` on that network and that text
+abbrev pub IsCheckedRun : Holding → Holding → Request → Request → List ℕ → SinkView → SinkView → Ended → Type 0
+IsCheckedRun files again first request text before after ended = IsJudgedRun Check files again first request text before after ended
+
+-- the line that says this was written; or memory was wanting
+abbrev pub IsToldAs : Judged → SinkView → SinkView → Ended → Type 0
+IsToldAs judged before after ended =
+    IsGiven before after ended (judged_answer judged) ⊎ IsGiven before after ended (answer_of Memory)
+
 -- the line of this certificate was written: `valid`, with its modes, verdict and fractions, and status 0; or memory was wanting
 abbrev pub IsToldValid : ScaledNet → Proof → SinkView → SinkView → Ended → Type 0
-IsToldValid net proof before after ended =
-    IsGiven before after ended (judged_answer (valid_of net proof)) ⊎ IsGiven before after ended (answer_of Memory)
+IsToldValid net proof before after ended = IsToldAs (valid_of net proof) before after ended
 
 -- The rows of the first run's network, and the solve of them, under the options of its words, that it handed out. The second
 -- run tells its certificate as valid.

@@ -2,6 +2,8 @@ pub mod Accepted
 pub mod Whole
 pub mod Started
 pub mod Checked
+pub mod KindsChecked
+pub mod Batched
 pub mod Swept
 pub mod Tightened
 pub mod Laws

@@ -1,12 +1,16 @@
 //! Laws, each proved for all words, files, outputs and ends of a run.
 
+ghost use Rattle.run_laws.specs.Batched.{BatchRunsCheck};
 ghost use Rattle.run_laws.specs.Checked.{SolvedRunsCheck, UpgradedRunsCheck, UpgradedRunsKeep};
+ghost use Rattle.run_laws.specs.KindsChecked.{HopsRunsCheck, ThroughputRunsCheck};
 ghost use Rattle.run_laws.specs.Swept.{SweptRunsAreBounds};
 ghost use Rattle.run_laws.specs.Tightened.{TightenedRunsAreBest, TightenedRunsCheck, TightenedRunsStay};
 ghost use Rattle.run_laws.specs.Laws.{AcceptedRunsAreWhole, OnlyAcceptedRunsAre, RunsStartTheirFiles};
 
 use cert_inverse::{networks_are_citable, texts_read_exactly, valid_texts_are_judged_valid};
-use net_solve::solves_check;
+use net_solve::{solved_is_judged_valid, solves_check};
+use run_hops::solved_hops_check;
+use run_parts::solved_parts_check;
 
 /// Where the words are in the grammar, each file that the command reads is accepted, the work is within its limit, and no
 /// count of faults rose in the run, the run has written the whole text of an answer of its command, with status 0 or 1; or
@@ -32,6 +36,33 @@ pub fn solved_runs_check()
     ensures { SolvedRunsCheck }
 {
     solves_check();
+}
+
+/// What a run of `hops` wrote is called `valid` by a run of `checkhops` on the same network, with the same verdict and fractions
+/// and status 0, unless something fails, memory is wanting, or the text is over the limit of certificate texts.
+pub fn hops_runs_check()
+    ensures { HopsRunsCheck }
+{
+    solved_hops_check();
+}
+
+/// What a run of `throughput` wrote is called `valid` by a run of `checkthroughput` on the same network, with the same verdict and
+/// fractions and status 0, unless something fails, memory is wanting, or the text is over the limit of certificate texts.
+pub fn throughput_runs_check()
+    ensures { ThroughputRunsCheck }
+{
+    solved_parts_check();
+}
+
+/// What a run of `batch` wrote is, for each matrix of its list in order, its line and the text of the certificate of a solve of the
+/// network with that matrix's demands. Each of these texts is called `valid` by a run of `check` on any network text whose rows are
+/// those of the network with the matrix's demands in place of its own, whatever lines they stand in, with as many skipped sections;
+/// with the same verdict and fractions and status 0, unless something fails, memory is wanting, or the text is over the limit of
+/// certificate texts. Where the network skips no section, the canonical text of the matrix's rows is such a network text.
+pub fn batch_runs_check()
+    ensures { BatchRunsCheck }
+{
+    solved_is_judged_valid();
 }
 
 /// What a run of `upgrade` wrote is the text, in form 2, of the valid certificate that it read in either form: its phases, rows

@@ -39,7 +39,7 @@ use Rattle.run_texts.specs.PartText.{part_text, part_lines, from_totals, FitsPar
 use Rattle.run_texts.proofs.CleanLines.{part_clean}
 use Rattle.run_texts.proofs.TextsAgain.{part_read_back}
 use Rattle.run_parts.specs.Check.{SaysPart, rest_of}
-use Rattle.run_parts.specs.Parts.{options_for}
+use Rattle.net_solve.specs.Asked.{turn_options_for}
 use Rattle.run_parts.specs.Laws.{SolvedPartsCheck, valid_of}
 use Rattle.run_parts.proofs.Made.{done_is}
 use Rattle.run_parts.proofs.Written.{written}
@@ -109,7 +109,7 @@ checked rows o asked net p judged well few n solving =
     let done = done_is rows o asked net p solving in
     let of : IsOf rows net = record { well = well; options = o; scaled = done.0 } in
     let sheet = sheet_of rows net in
-    let fits = written rows net (options_for net.net asked) p of n done.1 in
+    let fits = written rows net (turn_options_for net.net asked) p of n done.1 in
     let own = citable rows net of few in
     let lines = lines_of (part_text sheet p) in
     let stages : AreStages rows (λ (x : NetOptions). x) nothing_more (rest_of rows lines) (run_head (codes "mcf-throughput 1") lines) net p = record {

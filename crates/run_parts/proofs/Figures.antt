@@ -19,6 +19,7 @@ use Rattle.flow_paths.specs.declared.certificate.Printed.{Printed}
 use Rattle.flow_paths.specs.declared.certificate.Routing.{Routing}
 use Rattle.flow_paths.specs.Certificate.{length_of, lengths_in, distances_in, IsPrinted, IsRoutingOf}
 use Rattle.cert_lines.specs.Spelling.{FitsValue}
+use Rattle.net_solve.proofs.Figures.{found-small, lengths-small, weighted-small, capacities-small, down-small, up-small}
 use Rattle.throughput.specs.declared.part_proof.PartDual.{PartDual}
 use Rattle.throughput.specs.Partial.{excess, part_lower_of, part_upper_of}
 use Rattle.throughput.specs.Conditions.{AmountsFit}
@@ -29,36 +30,10 @@ IsSmall n = n ≤ MAX_LENGTH
 
 -- ---- what is looked up in rows
 
-found-small : {X : Type 0} (p : X → Bool) (g : X → ℕ) (m : ℕ) (rows : List X) → All (λ x. g x ≤ m) rows → option_map_or g (find p rows) 0 ≤ m
-found-small p g m [] h = omega arith
-found-small p g m (x ∷ rows) h = go (p x) (found-small p g m rows (All-tail (λ y. g y ≤ m) x rows h))
-  where
-    go : (b : Bool) → option_map_or g (find p rows) 0 ≤ m → option_map_or g (cond b (Some x) (find p rows)) 0 ≤ m
-    go true rest = All-head (λ y. g y ≤ m) x rows h
-    go false rest = rest
-
-lengths-small : (net : Network) (dual : DualRows) → All (λ (r : Length). r.value ≤ MAX_LENGTH) dual.lengths → All IsSmall (lengths_in net dual)
-lengths-small net dual small = All-map IsSmall (length_of dual.lengths) (range_with_len 0 (length net.cells)) (λ i x l. found-small (λ (r : Length). eqb r.cell (get_or (range_with_len 0 (length net.cells)) i x)) (λ (r : Length). r.value) MAX_LENGTH dual.lengths small)
-
 excess-small : (threshold : ℕ) (distances : List ℕ) → threshold ≤ MAX_LENGTH → All IsSmall (excess threshold distances)
 excess-small threshold distances l = All-map IsSmall (λ distance. threshold - distance) distances (λ i d inside. omega arith)
 
 -- ---- sums
-
-weighted-small : {X : Type 0} (f : X → ℕ) (m : ℕ) (xs : List X) (ys : List ℕ) → All (λ y. y ≤ m) ys → weighted_sum f xs ys ≤ sum_by f xs * m
-weighted-small f m [] ys h = omega arith
-weighted-small f m (x ∷ xs) [] h = omega arith
-weighted-small f m (x ∷ xs) (y ∷ ys) h =
-    let first : f x * y ≤ f x * m = mul-le-mul_left (f x) (All-head (λ z. z ≤ m) y ys h) in
-    let rest = weighted-small f m xs ys (All-tail (λ z. z ≤ m) y ys h) in
-    let whole : sum_by f (x ∷ xs) * m ≡ (f x + sum_by f xs) * m = ap (λ n. n * m) (sum_by-cons f x xs) in
-    omega arith
-
-capacities-small : (net : Network) → IsNetwork net → sum_by (λ (cell : Cell). cell.cap) net.cells ≤ MAX_CELLS * MAX_UNITS
-capacities-small net n =
-    let sum = sum_by-le (λ (cell : Cell). cell.cap) MAX_UNITS net.cells (All-weaker (IsCell net.nodes) (λ (cell : Cell). cell.cap ≤ MAX_UNITS) (λ cell h. h.cap) net.cells n.cells) in
-    let most : length net.cells * MAX_UNITS ≤ MAX_CELLS * MAX_UNITS = mul-le-mul_right MAX_UNITS n.cell_count in
-    omega arith
 
 -- the volume is at most 2 ^ 119, amounts times excess at most 2 ^ 108
 upper-num : (net : Network) (b : PartDual) → IsNetwork net → All (λ (r : Length). r.value ≤ MAX_LENGTH) b.dual.lengths → b.threshold ≤ MAX_LENGTH → (part_upper_of net b).num ≤ MAX_PART
@@ -69,20 +44,7 @@ upper-num net b n small limit =
     let amounts : sum_by (λ (k : Commodity). k.amount) net.commodities * MAX_LENGTH ≤ MAX_TOTAL * MAX_LENGTH = mul-le-mul_right MAX_LENGTH n.total in
     omega arith
 
--- what is printed, whole and millionths, is no more than the numerator
-down-small : (w m : ℕ) (f : Fraction) → w * 1000000 + m ≡ millionths_down f → w ≤ f.num
-down-small w m f e = omega (arith, div-le_self (f.num * 1000000) f.den)
-
-up-small : (w m : ℕ) (f : Fraction) → w * 1000000 + m ≡ millionths_up f → 1 ≤ f.den → w ≤ f.num
-up-small w m f e positive = omega (arith, up f.num f.den positive)
-  where
-    up : (n d : ℕ) → 1 ≤ d → (n * 1000000 + (d - 1)) / d ≤ n * 1000000 + 1
-    up n zero l = absurd (omega arith)
-    up n (suc d) l =
-        let one : 1 ≤ suc d = l in
-        let part : n * 1000000 * 1 ≤ n * 1000000 * suc d = mul-le-mul_left (n * 1000000) one in
-        div-le_of_le-mul (suc d) (omega arith)
-
+-- the lower fraction and what is printed of it fit their places
 pub lower-fits : (net : Network) (r : Routing) (p : Printed) → IsNetwork net → IsRoutingOf net r → AmountsFit net r → IsPrinted p (part_lower_of r) (millionths_down (part_lower_of r)) → p.micro < 1000000 → FitsValue MAX_PART p
 lower-fits net r p n limits amounts printed micro =
     let most = scaled_total net r n limits amounts in

@@ -1,6 +1,6 @@
 mod Judgements
 mod Verdicts
-mod Made
+pub mod Made
 mod Figures
 mod Amounts
 mod Written

@@ -21,8 +21,7 @@ use Rattle.throughput.specs.Conditions.{PartHolds, IsValidPart, IsPartCertified}
 use Rattle.run_texts.specs.Heads.{run_head}
 use Rattle.run_texts.specs.PartRead.{part_in}
 use Rattle.run_base.specs.declared.outcome.Paper.TheVariants.{Certificate}
-use Rattle.run_base.specs.declared.outcome.Outcome.TheVariants.{Judged}
-use Rattle.run_base.specs.Answer.{Answer, answer_of}
+use Rattle.run_base.specs.Answer.{Answer, judged_answer}
 use Rattle.run_base.specs.Files.{Ends, OfFile, OfNet}
 
 -- of a certificate that was read it is said that it is valid, with its verdict and both fractions, or which condition fails first
@@ -48,10 +47,6 @@ IsPartJudgement rows text judged = IsSaid refused SaysPart (part_on rows (lines_
 abbrev pub SaysRest : ScaledNet → Result PartProof CertRefusal → Judgement → Type 0
 SaysRest net (Ok p) judged = SaysPart net p judged
 SaysRest net (Err r) judged = judged ≡ CertRefused r
-
--- the line of a judgement
-abbrev pub judged_answer : Judgement → Answer
-judged_answer judged = answer_of (Judged judged)
 
 -- the answer is what is said of the certificate's text on the rows
 abbrev pub OnPartTexts : NetRows → List ℕ → Answer → Type 0

@@ -8,7 +8,7 @@ use Rattle.unit_scale.specs.declared.options.NetOptions.{NetOptions}
 use Rattle.unit_scale.specs.Scaling.{ScaledNet, scaled_of}
 use Rattle.cert_lines.specs.Sheet.{IsOf, sheet_of}
 use Rattle.net_solve.specs.declared.asked.Asked.{Asked}
-use Rattle.net_solve.specs.Asked.{budget_of, IsTooMuch}
+use Rattle.net_solve.specs.Asked.{turn_options_for, IsTooMuch}
 use Rattle.route_tally.specs.declared.options.RunOptions.{RunOptions}
 use Rattle.throughput.specs.declared.part_proof.PartProof.{PartProof}
 use Rattle.throughput.specs.Conditions.{IsValidPart, IsPartProofOf, IsPartCertified}
@@ -18,7 +18,7 @@ use Rattle.mcf_words.specs.declared.request.Request.{Request}
 use Rattle.run_base.specs.Found.{found_part}
 use Rattle.run_base.specs.declared.outcome.Outcome.TheVariants.{NetRefused, TooMuch as TooMuchWork}
 use Rattle.run_base.specs.Answer.{Answer, answer_of}
-use Rattle.run_base.specs.Files.{Ends, OfNet}
+use Rattle.run_base.specs.Files.{AreTextRows, Ends, OfNet}
 use Rattle.run_parts.specs.declared.solving.PartSolving.{PartSolving}
 use Rattle.run_parts.specs.declared.solving.PartSolving.TheVariants.{Refused, TooMuch, Done}
 
@@ -28,12 +28,9 @@ use Rattle.run_parts.specs.declared.solving.PartSolving.TheVariants.{Refused, To
 abbrev pub asked_of : Request → Asked
 asked_of request = record { gap = request.gap; phases = request.phases; workers = None; step = request.step }
 
--- the options of a run on the network
-abbrev pub options_for : Network → Asked → RunOptions
-options_for net a = record { gap = a.gap; phases = budget_of net a.phases; step = a.step }
-
--- what was solved: a run whose proof is valid, certifies, and is of the network
+-- what was solved: a run on a network, whose proof is valid, certifies, and is of the network
 pub record IsPartSolved (net : Network) (o : RunOptions) (p : PartProof) : Type 0 where
+  pub sound : IsNetwork net
   pub run : IsThroughputRun net o p
   pub valid : IsValidPart net p
   pub certified : IsPartCertified net p
@@ -44,7 +41,7 @@ abbrev pub OnRun : ScaledNet → Asked → PartSolving → Type 0
 OnRun net asked (Refused r) = ⊥
 OnRun net asked (TooMuch work) = IsTooMuch net.net asked work
 OnRun net asked (Done solved p) =
-    (solved ≡ net) × ((work : ℕ) → ¬ (IsTooMuch net.net asked work)) × IsPartSolved net.net (options_for net.net asked) p
+    (solved ≡ net) × ((work : ℕ) → ¬ (IsTooMuch net.net asked work)) × IsPartSolved net.net (turn_options_for net.net asked) p
 
 -- the network is refused, or a run on it
 abbrev pub OnNet : Result ScaledNet NetRefusal → Asked → PartSolving → Type 0
@@ -72,10 +69,11 @@ solving_answer rows (Refused r) = answer_of (NetRefused r)
 solving_answer rows (TooMuch work) = answer_of (TooMuchWork work)
 solving_answer rows (Done net p) = part_answer rows net p
 
--- the answer is that of what is made of the rows
+-- the answer is that of what is made of the rows, which are those of a text
 abbrev pub SolvesParts : Request → NetRows → Answer → Type 0
 SolvesParts request rows answer =
     (solving : PartSolving) × IsPartSolving rows request.net (asked_of request) solving × (answer ≡ solving_answer rows solving)
+    × AreTextRows rows
 
 -- the answer of the network's file
 abbrev pub OfThroughput : List ℕ → Request → ShelfView → ShelfView → Answer → Type 0

@@ -1,8 +1,8 @@
 //! The command `checkthroughput`: what is said of a certificate of a total on a network.
 
-ghost use Rattle.run_base.specs.Answer.{IsTold};
+ghost use Rattle.run_base.specs.Answer.{IsTold, judged_answer};
 ghost use Rattle.run_base.specs.Files.{Finds};
-ghost use Rattle.run_parts.specs.Check.{OfCheckThroughput, judged_answer};
+ghost use Rattle.run_parts.specs.Check.{OfCheckThroughput};
 
 use crate::judging::judge_part;
 use cert_judge::Judged;

@@ -8,7 +8,7 @@ mod laws;
 mod solving;
 mod writing;
 
-pub use asked::{asked_by, options_of};
+pub use asked::asked_by;
 pub use checking::checkthroughput;
 pub use judging::judge_part;
 pub use laws::{parts_can_be_written, solved_parts_check};

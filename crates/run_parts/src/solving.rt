@@ -5,8 +5,7 @@ ghost use Rattle.sndlib_grammar.specs.Rows.{AreNetRows};
 ghost use Rattle.net_solve.specs.Asked.{IsAsked};
 ghost use Rattle.run_parts.specs.Parts.{IsPartSolving, OnRun};
 
-use crate::asked::options_of;
-use net_solve::Asked;
+use net_solve::{Asked, turn_options};
 use sndlib_read::{NetRefusal, RawNet};
 use std::alloc::{AllocError, Global};
 use throughput::{PartProof, solve_parts};
@@ -28,11 +27,12 @@ fn solve_net(alloc: Global, net: Scaled, asked: &Asked) -> Result<PartSolving, A
     requires { IsAsked asked.now }
     ensures { IfOk result (OnRun net asked.now) }
 {
-    let options = match options_of(net.net(), asked) {
+    let options = match turn_options(net.net(), asked) {
         Ok(options) => options,
         Err(work) => return Ok(PartSolving::TooMuch(work)),
     };
     let p = solve_parts(alloc, net.net(), &options)?;
+    let _nodes = net.net().nodes();
     Ok(PartSolving::Done(net, p))
 }
 

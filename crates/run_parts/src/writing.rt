@@ -61,6 +61,7 @@ fn solve_and_tell<K: Sink>(
     ensures { IsTold (OrWant (SolvesParts request.now rows.now))
         (K.seen out.old) (K.seen out.new) result }
 {
+    let _skipped = rows.skipped();
     match solve_part_rows(alloc, rows, request.net, &asked_by(request)) {
         Ok(PartSolving::Done(net, p)) => write_solved(rows, &net, p, out),
         Ok(PartSolving::Refused(refusal)) => tell(out, Outcome::NetRefused(refusal)),

@@ -3,10 +3,10 @@
 ghost use Rattle.run_base.specs.Answer.{IsTold, Writes};
 ghost use Rattle.run_solves.specs.Print.{OfPrint, printed};
 
+use crate::canonical::print_net;
 use mcf_base::{Shelf, Sink};
 use mcf_limits::MAX_NET_BYTES;
 use run_base::{Ended, Paper, file_text, net_rows, tell};
-use sndlib_print::print_net;
 use sndlib_read::RawNet;
 use std::alloc::Global;
 

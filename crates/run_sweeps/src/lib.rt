@@ -5,7 +5,6 @@ mod asked;
 mod closing;
 mod ids;
 mod lines;
-mod slots;
 mod solving;
 mod sweeping;
 mod sweepsolving;

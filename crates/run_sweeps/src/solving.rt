@@ -1,13 +1,15 @@
 //! The solves of a network with each single link closed.
 
-ghost use Rattle.std.specs.Prelude.{◌≤◌, IfOk};
+ghost use Rattle.std.specs.Prelude.{◌<◌, ◌≤◌, IfOk};
+ghost use Rattle.std.specs.Thread.{IsSync};
 ghost use Rattle.solver_run.specs.Options.{AreOptions};
 ghost use Rattle.run_sweeps.specs.Asked.{alone};
-ghost use Rattle.run_sweeps.specs.Swept.{AreSwept};
+ghost use Rattle.run_sweeps.specs.Swept.{AreSwept, IsSwept};
 
 use crate::asked::SweepOptions;
-use crate::slots::{fill_all, gathered};
+use crate::closing::{Closing, solve_without};
 use crate::swept::Swept;
+use claimed_calls::call_each;
 use flow_model::Net;
 use mcf_base::Gate;
 use mcf_limits::MAX_LINKS;
@@ -16,9 +18,10 @@ use std::thread::Threads;
 use unit_scale::LinkMode;
 
 /// For each of so many links, in their order, what is kept of a solve of the network with that link's cells at capacity 0.
-/// Each solve has one worker, and starts no thread of its own. Links are shared out among at most 16 threads, its caller's
-/// among them, and it may wait for its own threads. Certificates are given up once their values are taken. `Err` is for want
-/// of memory. The gate is passed after each claim of each solve.
+/// Each solve has one worker, and starts no thread of its own. Links are handed out one at a time to as many threads as there
+/// are processors, at least two and at most 16, its caller's among them, and it may wait for its own threads. Certificates are
+/// given up once their values are taken. A link for which memory is lacking is tried once more when all others are done; `Err` is
+/// for want of memory then. The gate is passed after each claim of each solve.
 pub fn sweep_solve<G: Gate, R: Threads + Sync>(
     rt: &R,
     alloc: Global,
@@ -35,7 +38,23 @@ pub fn sweep_solve<G: Gate, R: Threads + Sync>(
     if links == 0 {
         return Ok(Vec::new(alloc));
     }
-    let mut slots = vec![in alloc; None; links as usize]?;
-    fill_all(rt, alloc, net, mode, options, gate, &mut slots);
-    gathered(alloc, &slots)
+    let swept = call_each(
+        rt,
+        alloc,
+        links as usize,
+        &|link: usize| -> Result<Swept, AllocError>
+            requires { IsSync R.row × IsSync G.row × AreOptions net.now (alone options.now)
+                × (link < MAX_LINKS) }
+            ensures { IfOk result (IsSwept mode net.entry.now options.entry.now link) }
+        {
+            solve_without(
+                rt,
+                alloc,
+                &Closing { net, mode, options },
+                gate,
+                link as u16,
+            )
+        },
+    )?;
+    Ok(swept)
 }

@@ -1,13 +1,18 @@
 //! The bound of lengths and the bound of a cut.
 
 ghost use Rattle.std.specs.Prelude.{◌≡◌, ◌<◌, ◌≤◌, IfOk, All, length};
+ghost use Rattle.flow_model.specs.Lengths.{AreLengths};
+ghost use Rattle.fixed_exp.specs.Far.{EmptyAreFar};
 
 use crate::{cell, demand, network};
 use dijkstra_paths::Graph;
-use dual_bound::{bound, bound_in, cut_bound};
+use dual_bound::{bound, bound_in, cut_bound, source_rows};
 use fixed_exp::{LengthTable, Powers};
-use flow_model::Setting;
+use flow_model::{Net, Setting};
+use std::alloc::Global;
+use std::process::Abort;
 use std::test::Fail;
+use std::thread::Threads;
 
 /// The setting behind a fullest cell of 7 with a load of 10.
 const LATER: Setting = Setting {
@@ -16,6 +21,29 @@ const LATER: Setting = Setting {
     ref_load: 10,
     step: 65536,
 };
+
+/// The bound under a load of 10, made twice in the same rows.
+fn bound_in_kept_rows<R: Abort + Threads + Sync>(
+    rt: &R,
+    alloc: Global,
+    net: &Net,
+    graph: &Graph,
+    lengths: &[u64],
+    threads: u16,
+) -> Result<(), Fail>
+    requires graph { graph.now ≡ net.now }
+    requires lengths { AreLengths net.now.cells lengths.now }
+    requires empty { EmptyAreFar net.now.cells lengths.now }
+{
+    let mut rows = source_rows(alloc, net)?;
+    let first = bound_in(rt, alloc, net, graph, lengths, &mut rows, threads)?;
+    assert_eq!(rt; first.value.num(), 20266198323167226);
+    let again = bound_in(rt, alloc, net, graph, lengths, &mut rows, threads)?;
+    assert_eq!(rt; again.value.num(), 20266198323167226);
+    assert_eq!(rt; again.dual.rows(), 1);
+    assert_eq!(rt; again.dual.row(0), [0, 1930114126015926].as_slice());
+    Ok(())
+}
 
 #[test]
 fn bound_of_two_links_under_a_load(rt: HostRuntime) -> Result<(), Fail> {
@@ -36,9 +64,7 @@ fn bound_of_two_links_under_a_load(rt: HostRuntime) -> Result<(), Fail> {
     assert_eq!(rt; bounded.dual.row_node(0), 0);
     assert_eq!(rt; bounded.dual.row(0), [0, 1930114126015926].as_slice());
     for threads in [0u16, 1, 16] {
-        let again = bound_in(&rt, alloc, &net, &graph, table.lengths(), threads)?;
-        assert_eq!(rt; again.value.num(), 20266198323167226);
-        assert_eq!(rt; again.dual.row(0), [0, 1930114126015926].as_slice());
+        bound_in_kept_rows(&rt, alloc, &net, &graph, table.lengths(), threads)?;
     }
     Ok(())
 }

@@ -6,9 +6,9 @@ ghost use Rattle.whatif.specs.Planned.{evaluation_of};
 ghost use Rattle.sweep.specs.Sweep.{sweep_evaluation};
 ghost use Rattle.sweep.specs.Slots.{IsBlank, IsSwept};
 
+use mcf_base::thread_count;
 use mcf_limits::{MAX_LINKS, MAX_WORKERS};
 use std::alloc::{AllocError, Global};
-use std::thread;
 use std::thread::Threads;
 use unit_scale::{LinkMode, cells_of};
 use whatif::{Bounds, Plan};
@@ -58,17 +58,6 @@ fn fill_slots(
     }
 }
 
-// In how many threads the slots are to be filled at most.
-fn thread_count(rt: &impl Threads) -> usize
-    ensures some { 1 ≤ result }
-    ensures few { result ≤ MAX_WORKERS }
-{
-    match thread::available_parallelism(rt) {
-        Ok(count) => count.get().min(MAX_WORKERS as usize),
-        Err(_) => 1,
-    }
-}
-
 /// Fills the slot of each link, in several threads where that pays. Slots for which no memory was left stay blank.
 pub fn fill_all<R: Threads + Sync>(
     rt: &R,
@@ -82,7 +71,7 @@ pub fn fill_all<R: Threads + Sync>(
     ensures { (i : ℕ) → i < length slots.old
         → IsSwept mode plan.now i (slice_index_or slots.new i None) }
 {
-    let share = slots.len().div_ceil(thread_count(rt));
+    let share = slots.len().div_ceil(thread_count(rt, MAX_WORKERS));
     mcf_base::for_each_chunk_mut(
         rt,
         slots,

@@ -53,6 +53,16 @@ pub lengths-long : (net : Network) (gates : List Cell) (least : ℕ) (s : Loaded
 lengths-long net gates least s tops lengths has f =
     ap (λ (xs : List ℕ). length xs) f.lengths_are ∙ length-lengths_at tops.setting (max tops.cells tops.gates) least net.cells s.cells.items (cells-long net has.0 s has.1)
 
+-- the length of each cell
+pub length-was : (net : Network) (gates : List Cell) (least : ℕ) (s : Loaded) (tops : Tops) (lengths : List ℕ) (i : ℕ) → HasLoaded net s → Follow net gates least s tops lengths → i < length net.cells
+    → get_or lengths i 0 ≡ length_at tops.setting (max tops.cells tops.gates) least (cell_at net.cells i) (get_or s.cells.items i 0)
+length-was net gates least s tops lengths i has f l =
+    ap (λ (xs : List ℕ). get_or xs i 0) f.lengths_are ∙ get_or-lengths_at tops.setting (max tops.cells tops.gates) least net.cells s.cells.items i (cells-long net has.0 s has.1) l
+
+-- what does not stand in a path is not loaded
+pub unmoved : (x a n : ℕ) → n ≡ 0 → x + a * n ≡ x
+unmoved x a n none = ap (λ (m : ℕ). x + a * m) none ∙ omega arith
+
 pub lengths-fit : (net : Network) (gates : List Cell) (least : ℕ) (s : Loaded) (tops : Tops) (lengths : List ℕ) → IsPrepared net gates least → HasLoaded net s → Follow net gates least s tops lengths → AreLengths net.cells lengths
 lengths-fit net gates least s tops lengths on has f =
     subst (AreLengths net.cells) (sym f.lengths_are) (lengths-within tops.setting (max tops.cells tops.gates) least net.cells s.cells.items (cells-long net has.0 s has.1) (omega (arith, on.least_is)))

@@ -26,6 +26,3 @@ pub use fractions::is_within;
 pub use laws::{threshold_bounds_totals, throughput_runs_are_valid, valid_parts_certify};
 pub use part_proof::{PartDual, PartProof};
 pub use solving::solve_parts;
-
-#[cfg(test)]
-mod tests;

@@ -38,7 +38,7 @@ fn new_room(alloc: Global, net: &Net) -> Result<Room, AllocError>
 {
     let cells = net.cells().len();
     Ok(Room {
-        scratch: Scratch::new(alloc, net.nodes(), cells as u16)?,
+        scratch: Scratch::with_trees(alloc, net.nodes(), cells as u16)?,
         cells: zeros(alloc, cells)?,
         gates: zeros(alloc, net.commodities().len())?,
     })

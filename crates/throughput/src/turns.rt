@@ -11,7 +11,7 @@ use crate::loaded::Loaded;
 use crate::prepared::Prepared;
 use dijkstra_paths::Scratch;
 use flow_model::{Cell, Setting};
-use gates::{Under, exponent, length_of, put_lengths};
+use gates::{Under, exponent, follow_lengths, length_of};
 use mcf_limits::{MAX_LENGTH, MAX_UNITS};
 use std::alloc::AllocError;
 
@@ -67,6 +67,7 @@ fn route(
     ensures few { length loaded.new.tally ≤ length loaded.old.tally + 1 }
 {
     let cells = on.net.cells();
+    let before = tops.cells.max(tops.gates);
     loaded.tally.add(k, path, amount)?;
     loaded.total += amount;
     tops.cells = add_along(
@@ -78,7 +79,16 @@ fn route(
         tops.cells,
     );
     tops.gates = add_at(tops, on.gates, k as usize, amount, &mut loaded.gates);
-    put_lengths(on.powers, &under(on, tops), cells, &loaded.cells, lengths);
+    let under = under(on, tops);
+    follow_lengths(
+        on.powers,
+        &under,
+        before,
+        cells,
+        &loaded.cells,
+        path,
+        lengths,
+    );
     Ok(())
 }
 

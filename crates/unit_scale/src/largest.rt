@@ -77,7 +77,9 @@ fn with_capacity<'a>(best: Greatest<'a>, word: &'a [u8]) -> Option<Greatest<'a>>
 pub fn largest<'a>(modules: &[&'a [u8]]) -> Option<Greatest<'a>>
     requires { length modules.now < 2 ^ 63 }
     ensures { MatchOption result (list_any is_fine (every_other (bytes_of modules.now)) ≡ true)
-        (λ z. (list_any is_fine (every_other (bytes_of modules.now)) ≡ false) × (z.size ≡ short (greatest (map value (every_other (bytes_of modules.now))))) × (z.over ≡ list_any is_over (every_other (bytes_of modules.now)))) }
+        (λ z. (list_any is_fine (every_other (bytes_of modules.now)) ≡ false) ×
+        (z.size ≡ short (greatest (map value (every_other (bytes_of modules.now))))) ×
+        (z.over ≡ list_any is_over (every_other (bytes_of modules.now)))) }
 {
     let mut best = Greatest {
         size: 0,

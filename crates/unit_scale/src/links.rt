@@ -48,7 +48,8 @@ fn with_all(start: LinkSize, modules: &[&[u8]]) -> Option<LinkSize>
     requires count { length modules.now < 2 ^ 63 }
     ensures { MatchOption result (list_any is_fine (every_other (bytes_of modules.now)) ≡ true)
         (λ z. (list_any is_fine (every_other (bytes_of modules.now)) ≡ false) ×
-        (seen_size z ≡ seen (start.over || list_any is_over (every_other (bytes_of modules.now))) (start.millionths + sum (map value (every_other (bytes_of modules.now)))))) }
+        (seen_size z ≡ seen (start.over || list_any is_over (every_other (bytes_of modules.now)))
+        (start.millionths + sum (map value (every_other (bytes_of modules.now)))))) }
 {
     let mut size = start;
     let mut at = 0;
@@ -68,7 +69,8 @@ fn with_largest(start: LinkSize, modules: &[&[u8]]) -> Option<LinkSize>
     requires count { length modules.now < 2 ^ 63 }
     ensures { MatchOption result (list_any is_fine (every_other (bytes_of modules.now)) ≡ true)
         (λ z. (list_any is_fine (every_other (bytes_of modules.now)) ≡ false) ×
-        (seen_size z ≡ seen (start.over || list_any is_over (every_other (bytes_of modules.now))) (start.millionths + greatest (map value (every_other (bytes_of modules.now)))))) }
+        (seen_size z ≡ seen (start.over || list_any is_over (every_other (bytes_of modules.now)))
+        (start.millionths + greatest (map value (every_other (bytes_of modules.now)))))) }
 {
     let found = match largest(modules) {
         Some(found) => found,
@@ -84,7 +86,8 @@ fn with_largest(start: LinkSize, modules: &[&[u8]]) -> Option<LinkSize>
 fn link_size(row: &LinkRow<'_>, modules: &[&[u8]], mode: ModuleMode) -> Option<LinkSize>
     requires { length modules.now < 2 ^ 63 }
     ensures { MatchOption result (is_fine_link mode (link_row_view row.now (bytes_of modules.now)) ≡ true)
-        (λ z. (is_fine_link mode (link_row_view row.now (bytes_of modules.now)) ≡ false) × (seen_size z ≡ seen_link mode (link_row_view row.now (bytes_of modules.now)))) }
+        (λ z. (is_fine_link mode (link_row_view row.now (bytes_of modules.now)) ≡ false) ×
+        (seen_size z ≡ seen_link mode (link_row_view row.now (bytes_of modules.now)))) }
 {
     let none = LinkSize {
         millionths: 0,

@@ -34,9 +34,23 @@ impl Model for Scaled {
 
     ghost use Rattle.unit_scale.specs.ScaledFacts.{IsScaledNet};
 
-    ghost view = { λ s. record { options = s.options; net = s.net; decimals = s.decimals; kept = s.rows.items; left = s.left; hops = s.hops } };
+    ghost view = { λ s. record {
+      options = s.options;
+      net = s.net;
+      decimals = s.decimals;
+      kept = s.rows.items;
+      left = s.left;
+      hops = s.hops;
+    } };
 
-    ghost invariant = { λ s. IsScaledNet (record { options = s.options; net = s.net; decimals = s.decimals; kept = s.rows.items; left = s.left; hops = s.hops }) };
+    ghost invariant = { λ s. IsScaledNet (record {
+      options = s.options;
+      net = s.net;
+      decimals = s.decimals;
+      kept = s.rows.items;
+      left = s.left;
+      hops = s.hops;
+    }) };
 }
 
 // The network of the rows, stage by stage.

@@ -22,7 +22,7 @@ returns-clause-row c =
         count = ap (λ (xs : List ℕ). length xs) same ∙ many;
         small = subst (λ (xs : List ℕ). All (λ x. x ≤ MAX_LENGTH) xs) (sym same) c.put_distances.ensures.small;
         each = λ v l.
-            let inside : v < c.search.new.self.nodes = omega (arith, c.search.ensures.nodes, c.requires.scratch) in
-            subst (λ (xs : List ℕ). IsDistance net.cells lengths row.source v (get_or xs v 0)) (sym same) (dist_at c.search.new.self v, c.search.ensures.least v inside, c.put_distances.ensures.each v inside);
+            let inside : v < c.search_from.new.self.nodes = omega (arith, c.search_from.ensures.nodes, c.requires.scratch) in
+            subst (λ (xs : List ℕ). IsDistance net.cells lengths row.source v (get_or xs v 0)) (sym same) (dist_at c.search_from.new.self v, c.search_from.ensures.least v inside, c.put_distances.ensures.each v inside);
       };
     }

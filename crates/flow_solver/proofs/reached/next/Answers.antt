@@ -1,7 +1,5 @@
 use Rattle.std.proofs.Common.{◌≡◌, ℕ, ◌≤◌, List, length, sym, ap, ◌∙◌, subst, arith, false}
 use Rattle.std.specs.Prelude.{All}
-use Rattle.std.specs.Vec.{with_items}
-use Rattle.std.proofs.lemmas.List.{with_items_is}
 use Rattle.mcf_limits.specs.declared.TheConstants.{MAX_LENGTH, MAX_PHASES}
 use Rattle.flow_model.specs.declared.setting.Setting.{Setting}
 use Rattle.flow_model.specs.Lengths.{lengths_of}
@@ -9,7 +7,7 @@ use Rattle.dual_bound.specs.Bounds.{IsBoundOf}
 use Rattle.flow_solver.specs.declared.search.Search.{Search}
 use Rattle.flow_solver.specs.Search.{phase_count, IsSearch, HasRouted}
 use Rattle.flow_solver.proofs.Routing.{loads-size}
-use Rattle.flow_solver.proofs.Reaching.{count-more, loads-limit, next-reached, other-lengths, routed-other}
+use Rattle.flow_solver.proofs.Reaching.{count-more, loads-limit, next-reached, other-room, routed-other}
 use Rattle.flow_solver.proofs.reached.next.Goals as goal
 
 pub bound_of-requires-clause-loads : goal.bound_of-requires-clause-loads
@@ -28,17 +26,15 @@ returns-clause-reached g c =
     let o = c.args.options.now in
     let r = c.args.reached in
     let s = c.route.new.search in
-    let lengths = with_items_is s.lengths c.bound_of.new.lengths (omega arith) in
-    let v = with_items s.lengths c.bound_of.new.lengths in
+    let room = c.bound_of.new.room in
     let search : IsSearch net s = c.in_ok-route.ensures.search in
-    let size : length v.items ≡ length net.cells = ap (λ (xs : List ℕ). length xs) lengths ∙ omega (arith, search.lengths) in
-    let new : Search = record { loads = s.loads; lengths = v; hands = s.hands; history = s.history } in
+    let new : Search = record { loads = s.loads; room = room; hands = s.hands; history = s.history } in
     let later = c.in_ok-later.later in
     let routed : HasRouted net (record { first = false; ref_cap = r.reference.cap; ref_load = r.reference.load; step = o.step }) r.search s =
     subst (λ (x : Setting). HasRouted net x r.search s) c.setting_after_first-setting.ensures c.in_ok-route.ensures.routed in
     let bound : IsBoundOf net (lengths_of net (record { first = false; ref_cap = r.reference.cap; ref_load = r.reference.load; step = o.step }) s.loads.items) later.dual =
     subst (λ (x : Setting). IsBoundOf net (lengths_of net x s.loads.items) later.dual) c.setting_after_first-setting.ensures
     (subst (λ (xs : List ℕ). IsBoundOf net (lengths_of net c.setting_after_first-setting.result xs) later.dual) c.deref.ensures.value c.in_ok-later.ensures.dual) in
-    next-reached net o r new c.measured-fill.result later c.lesser.result c.requires.reached c.requires.unmet (other-lengths net s v size search)
-    (routed-other net (record { first = false; ref_cap = r.reference.cap; ref_load = r.reference.load; step = o.step }) r.search s v routed) c.measured-fill.ensures.value c.measured-fill.ensures.fits bound
+    next-reached net o r new c.measured-fill.result later c.lesser.result c.requires.reached c.requires.unmet (other-room net s room c.in_ok-later.ensures.room search)
+    (routed-other net (record { first = false; ref_cap = r.reference.cap; ref_load = r.reference.load; step = o.step }) r.search s room routed) c.measured-fill.ensures.value c.measured-fill.ensures.fits bound
     (lengths_of net c.setting_after_first-setting.result c.deref.result.now, c.in_ok-later.ensures.shows) c.in_ok-later.ensures.value c.lesser.ensures

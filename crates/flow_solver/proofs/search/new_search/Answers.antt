@@ -1,5 +1,7 @@
 use Rattle.std.proofs.Common.{◌≡◌, ℕ, ◌*◌, List, length, sym, ap, ◌∙◌, subst, arith}
 use Rattle.std.proofs.lemmas.List.{length-replicate}
+use Rattle.std.proofs.lemmas.List.Elements.{All-weaker}
+use Rattle.dual_bound.specs.Rows.{IsBlank, IsRoom}
 use Rattle.flow_model.specs.declared.net.Cell.{Cell}
 use Rattle.flow_solver.specs.Rows.{HistoryView, phases_kept, AreRowsFor}
 use Rattle.solver_run.specs.History.{loads_after}
@@ -18,7 +20,13 @@ returns-clause-search c =
     record {
       loads = subst (λ (h : HistoryView). items ≡ loads_after net (phases_kept h) (length h.history)) (sym value) (zeros ∙ no-loads net (length c.cells-cells.result.now) cells);
       small = none-above items (length c.cells-cells.result.now) (length c.new.result.history * MAX_TOTAL) zeros;
-      lengths = ap (λ (xs : List ℕ). length xs) c.in_ok-zeros-2.ensures ∙ length-replicate (length c.cells-cells.result.now) 0 ∙ cells;
+      room = record {
+        lengths = ap (λ (xs : List ℕ). length xs) c.in_ok-zeros-2.ensures ∙ length-replicate (length c.cells-cells.result.now) 0 ∙ cells;
+        rows = record {
+          sources = c.in_ok-source_rows.ensures.sources;
+          each = All-weaker (IsBlank net.nodes) (IsRoom net.nodes) (λ row b. record { source = b.source; count = b.count }) c.in_ok-source_rows.field-0.items c.in_ok-source_rows.ensures.blank;
+        };
+      };
       hands = idle-hands net.nodes c.in_ok-new_hands.field-0.items (omega (arith, count)) (omega (arith, count)) (λ k d l. c.in_ok-new_hands.ensures.fresh k d (omega (arith, count)));
       commodities = ap (λ (h : HistoryView). h.commodities) value;
       rows = subst (λ (h : HistoryView). AreRowsFor net h.history h.rows) (sym value) c.new.ensures.rows;

@@ -43,7 +43,7 @@ returns-clause-search g c =
     let now : c.deref.result.now ≡ c.phase_over.new.hands = c.deref.ensures.value ∙ hands in
     let new : Search = record {
       loads = with_items old.loads c.phase_over.new.loads;
-      lengths = old.lengths;
+      room = old.room;
       hands = with_items (with_items old.hands c.forget_all.new.hands) c.phase_over.new.hands;
       history = c.add_phase.new.self;
     } in
@@ -58,7 +58,7 @@ returns-clause-search g c =
     let count = ap (λ (xs : List Hand). length xs) before in
     let size = loads-size net old c.requires.search in
     search-more net c.args.setting old new c.phase_over.new.hands c.commodities-commodities.ensures.net c.requires.search routed
-    (ap (λ (xs : List ℕ). length xs) loads ∙ omega (arith, size, c.phase_over.auto.loads, c.deref_mut-2.ensures.len)) (c.in_ok-add_phase.ensures.phases routed.entries once) c.requires.search.lengths
+    (ap (λ (xs : List ℕ). length xs) loads ∙ omega (arith, size, c.phase_over.auto.loads, c.deref_mut-2.ensures.len)) (c.in_ok-add_phase.ensures.phases routed.entries once) c.requires.search.room
     (subst (AreIdle net.nodes) (sym hands) (idle-again net.nodes fresh_hands c.phase_over.new.hands (omega (arith, idle.some)) (omega (arith, idle.few)) fresh (omega arith) c.phase_over.ensures.back c.phase_over.ensures.turns))
     (c.add_phase.ensures.commodities ∙ c.requires.search.commodities) c.in_ok-add_phase.ensures.rows
 
@@ -71,7 +71,7 @@ returns-clause-routed g c =
     let now : c.deref.result.now ≡ c.phase_over.new.hands = c.deref.ensures.value ∙ hands in
     let new : Search = record {
       loads = with_items old.loads c.phase_over.new.loads;
-      lengths = old.lengths;
+      room = old.room;
       hands = with_items (with_items old.hands c.forget_all.new.hands) c.phase_over.new.hands;
       history = c.add_phase.new.self;
     } in

@@ -1,6 +1,11 @@
-use Rattle.std.proofs.Common.{rules}
-use Rattle.run_parts.specs.declared.solving.PartSolving.TheVariants.{Done}
-use Rattle.run_parts.specs.Parts.{IsPartSolving, asked_of, options_for}
+use Rattle.std.proofs.Common.{◌≤◌, inr, refl, rules}
+use Rattle.cert_lines.specs.declared.net_line.TheConstants.{MAX_COUNT}
+use Rattle.run_base.specs.declared.outcome.Outcome.TheVariants as outcomes
+use Rattle.run_base.specs.Answer.{answer_of}
+use Rattle.run_base.specs.Files.{AreTextRows}
+use Rattle.run_parts.specs.declared.solving.PartSolving.TheVariants.{Done, Refused, TooMuch}
+use Rattle.net_solve.specs.Asked.{turn_options_for}
+use Rattle.run_parts.specs.Parts.{IsPartSolving, asked_of, part_answer}
 use Rattle.run_parts.proofs.Made.{done_is}
 use Rattle.run_parts.proofs.writing.solve_and_tell.Goals as goal
 
@@ -17,4 +22,31 @@ write_solved-requires-clause-solved g c =
     let request = c.args.request.now in
     let net = c.in-Ok-Done.net in
     let done : IsPartSolving rows request.net (asked_of request) (Done net c.in-Ok-Done.p) = search rules in
-    (options_for net.net (asked_of request), (done_is rows request.net (asked_of request) net c.in-Ok-Done.p done).1)
+    (turn_options_for net.net (asked_of request), (done_is rows request.net (asked_of request) net c.in-Ok-Done.p done).1)
+
+pub returns-in-Ok-Done : goal.returns-in-Ok-Done
+returns-in-Ok-Done g c =
+    let rows = c.args.rows.now in
+    let request = c.args.request.now in
+    let few : rows.skipped ≤ MAX_COUNT = search rules in
+    let told : AreTextRows rows = record { well = c.requires.rows; counted = few } in
+    let is : IsPartSolving rows request.net (asked_of request) (Done c.in-Ok-Done.net c.in-Ok-Done.p) = search rules in
+    (part_answer rows c.in-Ok-Done.net c.in-Ok-Done.p, inr (Done c.in-Ok-Done.net c.in-Ok-Done.p, is, refl, told), c.write_solved.ensures)
+
+pub returns-in-Ok-Refused : goal.returns-in-Ok-Refused
+returns-in-Ok-Refused g c =
+    let rows = c.args.rows.now in
+    let request = c.args.request.now in
+    let few : rows.skipped ≤ MAX_COUNT = search rules in
+    let told : AreTextRows rows = record { well = c.requires.rows; counted = few } in
+    let is : IsPartSolving rows request.net (asked_of request) (Refused c.in-Ok-Refused.refusal) = search rules in
+    (answer_of (outcomes.NetRefused c.in-Ok-Refused.refusal), inr (Refused c.in-Ok-Refused.refusal, is, refl, told), c.tell.ensures)
+
+pub returns-in-Ok-TooMuch : goal.returns-in-Ok-TooMuch
+returns-in-Ok-TooMuch g c =
+    let rows = c.args.rows.now in
+    let request = c.args.request.now in
+    let few : rows.skipped ≤ MAX_COUNT = search rules in
+    let told : AreTextRows rows = record { well = c.requires.rows; counted = few } in
+    let is : IsPartSolving rows request.net (asked_of request) (TooMuch c.in-Ok-TooMuch.work) = search rules in
+    (answer_of (outcomes.TooMuch c.in-Ok-TooMuch.work), inr (TooMuch c.in-Ok-TooMuch.work, is, refl, told), c.tell-in-Ok-TooMuch.ensures)

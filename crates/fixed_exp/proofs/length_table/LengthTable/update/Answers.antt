@@ -4,10 +4,10 @@ use Rattle.flow_model.specs.declared.net.Cell.{Cell}
 use Rattle.flow_model.specs.Network.{Network}
 use Rattle.flow_model.specs.Lengths.{exponent, greatest_exponent, length_at, lengths_at}
 use Rattle.fixed_exp.specs.LoadedNetwork.{LoadedNetwork}
-use Rattle.fixed_exp.specs.Kept.{AreRated, KeepsExponent, cell_at}
+use Rattle.fixed_exp.specs.Kept.{AreRated, KeepsExponent, cell_at, greatest}
 use Rattle.fixed_exp.specs.Changes.{AreBelow, IsNotIn}
 use Rattle.fixed_exp.specs.declared.rates.Rate.{Rate}
-use Rattle.fixed_exp.proofs.Tables.{ready-at, table-of, are-rated}
+use Rattle.fixed_exp.proofs.Tables.{ready-at, top-kept, table-of, are-rated}
 use Rattle.fixed_exp.proofs.length_table.LengthTable.update.Goals as goal
 
 pub follow-top-requires-clause-rated : goal.follow-top-requires-clause-rated
@@ -80,3 +80,8 @@ invariant_of-self c =
     let greatest : top ≡ greatest_exponent s i.net.value.cells loads = c.follow-top.ensures.greatest ∙ ap (λ (xs : List Cell). greatest_exponent s xs loads) same in
     rw (with_items_is i.loads c.copy_from_slice.new.self w1, with_items_is i.exponents c.follow-top.new.kept w2, with_items_is i.lengths c.follow-top.new.into w3, with_items_is i.places c.changed_places-count.new.places w4, c.copy_from_slice.ensures.after)
     (table-of i.net.value s loads c.follow-top.new.kept c.follow-top.new.into top i.least i.rates.items (length c.changed_places-count.new.places) c.self.invariant.fits c.self.invariant.setting count c.requires.small c.self.invariant.least greatest size each lengths c.self.invariant.rated room)
+
+pub follow-top-requires-clause-before : goal.follow-top-requires-clause-before
+follow-top-requires-clause-before c =
+    let i = c.self.inside in
+    ap (λ (xs : List ℕ). greatest xs) c.deref_mut-2.ensures.value ∙ top-kept i.net.value i.scale.setting i.loads.items i.exponents.items i.lengths.items i.top i.least i.rates.items (length i.places.items) c.self.invariant
