@@ -95,9 +95,9 @@ fn first_row_from(rows: &RowBuffer, start: u32, k: u32, path: &[u16]) -> Option<
 }
 
 impl PathStore {
-    ghost use Rattle.std.specs.Prelude.{◌≡◌, ◌+◌, ◌≤◌, ◌<◌, ◌++◌, ◌∷◌, [], ℕ, length, IfOk, MatchOption, OnErr, OnOk};
+    ghost use Rattle.std.specs.Prelude.{◌≡◌, ◌↔◌, ◌+◌, ◌≤◌, ◌<◌, ◌++◌, ◌∷◌, [], ℕ, length, IfOk, IsTrue, MatchOption, OnErr, OnOk};
     ghost use Rattle.flow_model.specs.Routing.{carried};
-    ghost use Rattle.flow_paths.specs.PathRows.{row_at, grown, HasNoRow, IsFirstRow, Adds};
+    ghost use Rattle.flow_paths.specs.PathRows.{row_at, grown, HasPath, HasNoRow, IsFirstRow, Adds};
 
     /// No rows.
     pub fn new(alloc: Global) -> Self
@@ -136,6 +136,14 @@ impl PathStore {
         ensures { result.now ≡ (row_at self.now row).walk }
     {
         self.rows.path(row)
+    }
+
+    /// Whether the row is of this commodity and path.
+    pub fn has_path(&self, row: u32, k: u32, path: &[u16]) -> bool
+        requires { row < length self.now }
+        ensures { IsTrue result ↔ HasPath k path.now (row_at self.now row) }
+    {
+        has_path(&self.rows, row, k, path)
     }
 
     /// The weights of the commodity's rows, added up.

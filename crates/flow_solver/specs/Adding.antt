@@ -1,5 +1,6 @@
 -- A phase that is being added: its first entries, with their rows.
 use Rattle.std.specs.Prelude.{◌≡◌, ℕ, ◌+◌, ◌*◌, ◌<◌, ◌≤◌, List, [], ◌∷◌, ◌++◌, All, Contains, Option, MatchOption, Some, length, slice_get, slice_index_or}
+use Rattle.mcf_limits.specs.declared.TheConstants.{MAX_DEMANDS}
 use Rattle.flow_model.specs.Network.{Network}
 use Rattle.flow_model.specs.Routing.{Row}
 use Rattle.flow_paths.specs.PathRows.{row_at, HasNoRow, IsFirstRow}
@@ -7,7 +8,7 @@ use Rattle.phase_engine.specs.declared.hand.Hand.{Hand}
 use Rattle.solver_run.specs.declared.options.Entry.{Entry}
 use Rattle.solver_run.specs.History.{path_named, IsWeighed, NamesRows}
 use Rattle.flow_solver.specs.declared.places.Place.{Place}
-use Rattle.flow_solver.specs.Rows.{AreApart}
+use Rattle.flow_solver.specs.Rows.{AreApart, HistoryView}
 
 abbrev pub no_place : Place
 no_place = record { hand = 0; path = record { ref_ptr = (0, 0); now = [] } }
@@ -24,6 +25,12 @@ path_at places k = (slice_index_or places k no_place).path.now
 -- the first row of commodity k and of its path, or none where there is none
 pub record IsRowFor (rows : List Row) (places : List Place) (k : ℕ) (row : Option ℕ) : Type 0 where
   pub is : MatchOption row (HasNoRow rows k (path_at places k)) (IsFirstRow rows k (path_at places k))
+
+-- the history has rows for a path of each commodity, no two of them alike
+pub record CanBeFound (h : HistoryView) (places : List Place) : Type 0 where
+  pub few : length places ≤ MAX_DEMANDS
+  pub count : length places ≡ h.commodities
+  pub apart : AreApart h.rows
 
 -- rows are appended, and the old ones keep their commodity and path
 pub record KeepsRows (old new : List Row) : Type 0 where

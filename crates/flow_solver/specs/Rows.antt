@@ -17,6 +17,10 @@ pub record HistoryView : Type 0 where
 abbrev pub phases_kept : HistoryView → List (List Routed)
 phases_kept h = map (routed_in h.rows) h.history
 
+-- this row is there, and is of this commodity and path
+abbrev pub IsRowOf : List Row → ℕ → List ℕ → ℕ → Type 0
+IsRowOf rows k path n = (n < length rows) × HasPath k path (row_at rows n)
+
 -- no two rows are of one commodity and path
 abbrev pub AreApart : List Row → Type 0
 AreApart rows = (i j : ℕ) → i < j → j < length rows → ¬ (HasPath (row_at rows i).commodity (row_at rows i).walk (row_at rows j))

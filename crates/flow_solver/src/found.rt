@@ -1,11 +1,10 @@
 //! The rows of the paths of a phase, looked up by several threads.
 
 ghost use Rattle.std.specs.Prelude.{◌≡◌, ℕ, ◌+◌, ◌<◌, ◌≤◌, None, IfOk, length, slice_index_or};
-ghost use Rattle.flow_solver.specs.Adding.{IsRowFor};
+ghost use Rattle.flow_solver.specs.Adding.{CanBeFound, IsRowFor};
 
+use crate::PathHistory;
 use crate::places::Place;
-use flow_paths::PathStore;
-use mcf_limits::MAX_DEMANDS;
 use std::alloc::{AllocError, Global};
 use std::thread::Threads;
 
@@ -13,15 +12,15 @@ use std::thread::Threads;
 const PATHS_OF_A_START: usize = 2_048;
 
 /// Looks up the rows of some commodities, of which the first has the number `first`.
-fn find_rows(store: &PathStore, places: &[Place], first: usize, rows: &mut [Option<u32>])
-    requires few { length places.now ≤ MAX_DEMANDS }
+fn find_rows(history: &PathHistory, places: &[Place], first: usize, rows: &mut [Option<u32>])
+    requires can { CanBeFound history.now places.now }
     requires within { first + length rows.old ≤ length places.now }
-    ensures { (i : ℕ) → i < length rows.old → IsRowFor store.now places.now (first + i)
+    ensures { (i : ℕ) → i < length rows.old → IsRowFor history.now.rows places.now (first + i)
         (slice_index_or rows.new i None) }
 {
     for (i, row) in rows.iter_mut().enumerate() {
         let k = first + i;
-        *row = store.find(k as u32, places[k].path);
+        *row = history.find(k as u32, places[k].path);
     }
 }
 
@@ -29,13 +28,14 @@ fn find_rows(store: &PathStore, places: &[Place], first: usize, rows: &mut [Opti
 fn find_all<R: Threads + Sync>(
     rt: &R,
     threads: usize,
-    store: &PathStore,
+    history: &PathHistory,
     places: &[Place],
     rows: &mut [Option<u32>],
 )
-    requires few { length places.now ≤ MAX_DEMANDS }
+    requires can { CanBeFound history.now places.now }
     requires count { length rows.old ≡ length places.now }
-    ensures { (k : ℕ) → k < length places.now → IsRowFor store.now places.now k (slice_index_or rows.new k None) }
+    ensures { (k : ℕ) → k < length places.now → IsRowFor history.now.rows places.now k
+        (slice_index_or rows.new k None) }
 {
     let share = rows.len().div_ceil(threads.max(1));
     mcf_base::for_each_chunk_mut(
@@ -43,10 +43,11 @@ fn find_all<R: Threads + Sync>(
         rows,
         share.max(PATHS_OF_A_START),
         &|first: usize, part: &mut [Option<u32>]|
-            requires { (length places.now ≤ MAX_DEMANDS) × (first + length part.now ≤ length places.now) }
+            requires { CanBeFound history.now places.now × (first + length part.now ≤ length places.now) }
             ensures { (i : ℕ) → i < length part.entry.now
-                → IsRowFor store.entry.now places.entry.now (first + i) (slice_index_or part.exit.now i None) }
-        { find_rows(store, places, first, part) },
+                → IsRowFor history.entry.now.rows places.entry.now (first + i)
+                (slice_index_or part.exit.now i None) }
+        { find_rows(history, places, first, part) },
     );
 }
 
@@ -55,15 +56,15 @@ pub(crate) fn found_rows<R: Threads + Sync>(
     rt: &R,
     alloc: Global,
     threads: usize,
-    store: &PathStore,
+    history: &PathHistory,
     places: &[Place],
 ) -> Result<Vec<Option<u32>>, AllocError>
-    requires few { length places.now ≤ MAX_DEMANDS }
+    requires can { CanBeFound history.now places.now }
     ensures count { IfOk result (λ v. length v.items ≡ length places.now) }
     ensures rows { IfOk result (λ v. (k : ℕ) → k < length places.now
-        → IsRowFor store.now places.now k (slice_index_or v.items k None)) }
+        → IsRowFor history.now.rows places.now k (slice_index_or v.items k None)) }
 {
     let mut rows = vec![in alloc; None; places.len()]?;
-    find_all(rt, threads, store, places, &mut rows);
+    find_all(rt, threads, history, places, &mut rows);
     Ok(rows)
 }

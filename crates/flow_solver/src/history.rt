@@ -42,12 +42,12 @@ impl Model for PathHistory {
 }
 
 impl PathHistory {
-    ghost use Rattle.std.specs.Prelude.{◌≡◌, ℕ, ◌+◌, ◌*◌, ◌<◌, ◌≤◌, ◌++◌, ◌∷◌, [], List, None, OnOk, OnErr, IfOk, MatchOption, length, map, slice_index_or};
+    ghost use Rattle.std.specs.Prelude.{◌≡◌, ℕ, ⊤, ◌+◌, ◌*◌, ◌<◌, ◌≤◌, ◌++◌, ◌∷◌, [], List, None, OnOk, OnErr, IfOk, MatchOption, length, map, slice_index_or};
     ghost use Rattle.flow_model.specs.Network.{Network};
     ghost use Rattle.flow_paths.specs.PathRows.{row_at, HasNoRow, IsFirstRow, Adds};
     ghost use Rattle.flow_core.specs.Phase.{Routed};
     ghost use Rattle.solver_run.specs.History.{routed_in, AreRowsOf};
-    ghost use Rattle.flow_solver.specs.Rows.{phases_kept, AreRowsFor};
+    ghost use Rattle.flow_solver.specs.Rows.{phases_kept, AreApart, AreRowsFor, IsRowOf};
     ghost use Rattle.flow_solver.specs.Routes.{IsRoutedOnce, HaveRouted};
     ghost use Rattle.flow_solver.specs.Adding.{IsRowFor, KeepsRows, AreBegun, AreNamed};
 
@@ -67,6 +67,36 @@ impl PathHistory {
         ensures { result ≡ length self.now.history }
     {
         self.entries.phases()
+    }
+
+    /// The commodity's row in the last phase, where that is of this path.
+    fn last_row(&self, k: u32, path: &[u16]) -> Option<u32>
+        requires { k < self.now.commodities }
+        ensures { MatchOption result ⊤ (λ n. IsRowOf self.now.rows k path.now n) }
+    {
+        let phases = self.entries.phases();
+        if phases == 0 {
+            return None;
+        }
+        let row = self.entries.entry(phases - 1, k).row;
+        if self.paths.has_path(row, k, path) {
+            Some(row)
+        } else {
+            None
+        }
+    }
+
+    /// The first row of this commodity and path, where no two rows are alike. Mostly a commodity takes the path of the
+    /// phase before, so that one's row is looked at before all others.
+    pub(crate) fn find(&self, k: u32, path: &[u16]) -> Option<u32>
+        requires k { k < self.now.commodities }
+        requires apart { AreApart self.now.rows }
+        ensures { MatchOption result (HasNoRow self.now.rows k path.now) (IsFirstRow self.now.rows k path.now) }
+    {
+        match self.last_row(k, path) {
+            Some(row) => Some(row),
+            None => self.paths.find(k, path),
+        }
     }
 
     /// Adds a path to the rows: its row grows where it was found, and else there is none, so one is appended.
@@ -157,7 +187,7 @@ impl PathHistory {
         ensures err { OnErr result (phases_kept self.new ≡ phases_kept self.old) }
     {
         let places = places_of(alloc, net, hands)?;
-        let found = found_rows(rt, alloc, hands.len(), &self.paths, &places)?;
+        let found = found_rows(rt, alloc, hands.len(), self, &places)?;
         let entries = self.name_rows(alloc, net, &places, &found)?;
         self.entries.push(&entries)?;
         Ok(())

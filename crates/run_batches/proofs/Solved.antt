@@ -22,7 +22,8 @@ use Rattle.run_base.specs.declared.ended.Ended.{Ended}
 use Rattle.run_base.specs.declared.outcome.Outcome.{Outcome}
 use Rattle.run_base.specs.Answer.{Answer, IsTold, OrWant, Writes, answer_of}
 use Rattle.run_base.specs.Files.{GivesRows}
-use Rattle.run_batches.specs.Batch.{batch_asked_of, SolvesBatch, OnList, OnTexts, outcome_of}
+use Rattle.run_batches.specs.declared.asked.BatchAsked.{BatchAsked}
+use Rattle.run_batches.specs.Batch.{batch_asked_of, AreBatchSolves, IsBatchAnswer, SolvesBatch, OnList, OnTexts, outcome_of}
 
 abbrev IsOwn : NetOptions → Matrix → Type 0
 IsOwn o m = AreNetRows m.rows × (scaled_of m.rows o ≡ Ok m.net)
@@ -39,6 +40,13 @@ one_by_one o p (m ∷ ms) (s ∷ ss) own solved = (
 -- each matrix and its solve can be written
 pub can_be_written : (o : NetOptions) (p : SolveOptions) (batch : List Matrix) (many : List SolvedView) → AreOwn o batch → AreSolved p batch many → AllZip IsSolvedMatrix batch many
 can_be_written o p batch many own solved = one_by_one o p batch many (recursion_from_All (IsOwn o) batch own.each) solved
+
+-- ---- what is told of the solves is told of the batch
+
+pub told_solves : (o : NetOptions) (asked : BatchAsked) (batch : List Matrix) (many : List SolvedView) (old new : SinkView) (ended : Ended) → AreBatchSolves o asked batch many
+    → IsTold (OrWant (IsBatchAnswer batch many)) old new ended → IsTold (OrWant (SolvesBatch o asked batch)) old new ended
+told_solves o asked batch many old new ended solves (answer, inl memory, writes) = (answer, inl memory, writes)
+told_solves o asked batch many old new ended solves (answer, inr is, writes) = (answer, inr (inr (many, solves, is)), writes)
 
 -- ---- what is told of a batch is told of its list
 

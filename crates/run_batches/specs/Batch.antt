@@ -32,6 +32,10 @@ batch_asked_of request = record { gap = request.gap; phases = request.phases; st
 abbrev pub batch_answer : List Matrix → List SolvedView → Answer
 batch_answer batch many = record { status = solved_status many; text = solved_text batch many; found = nothing }
 
+-- it is the answer of these solves
+abbrev pub IsBatchAnswer : List Matrix → List SolvedView → Answer → Type 0
+IsBatchAnswer batch many answer = answer ≡ batch_answer batch many
+
 -- each matrix's network is that of its own rows, the work of all is within its limit, and these are solves of them, in their order
 pub record AreBatchSolves (o : NetOptions) (asked : BatchAsked) (batch : List Matrix) (many : List SolvedView) : Type 0 where
   pub own : AreOwn o batch

@@ -1,6 +1,7 @@
 -- Solves of each matrix of a batch, each with one worker, and what is written of them.
 use Rattle.std.specs.Prelude.{ℕ, List, ◌∷◌, [], ◌++◌, map, zip, codes, if◌then◌else◌}
-use Rattle.std.specs.List.{AllZip, list_all}
+use Rattle.std.specs.Global.{Vec}
+use Rattle.std.specs.List.{AllZip, flat_map, list_all}
 use Rattle.text_lines.specs.Lines.{spelled}
 use Rattle.matrix_batch.specs.Matrices.{Matrix}
 use Rattle.matrix_batch.specs.Batch.{batch_text}
@@ -21,6 +22,10 @@ certificate_of p = (p.0.name, certificate_text (sheet_of p.0.rows p.0.net) p.1.p
 -- the text of the whole batch
 abbrev pub solved_text : List Matrix → List SolvedView → List ℕ
 solved_text batch many = batch_text (map certificate_of (zip batch many))
+
+-- texts, one behind the other
+abbrev pub joined : List (Vec ℕ) → List ℕ
+joined texts = flat_map (λ (t : Vec ℕ). t.items) texts
 
 -- 0 where each solve is closed, 1 where some is open
 abbrev pub solved_status : List SolvedView → ℕ

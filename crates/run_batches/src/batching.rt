@@ -7,11 +7,12 @@ ghost use Rattle.sndlib_grammar.specs.Rows.{AreNetRows};
 ghost use Rattle.matrix_batch.specs.Answer.{AreOwn};
 ghost use Rattle.matrix_batch.specs.Views.{batch_view};
 ghost use Rattle.run_batches.specs.Asked.{IsBatchAsked};
-ghost use Rattle.run_batches.specs.Solves.{IsSolvedMatrix};
+ghost use Rattle.run_batches.specs.Solves.{IsSolvedMatrix, joined};
 ghost use Rattle.run_base.specs.Answer.{IsTold, OrWant, Writes};
-ghost use Rattle.run_batches.specs.Batch.{GivesSolves, OfBatch, OnList, OnTexts, SolvesBatch, batch_answer, batch_asked_of, outcome_of as outcome_of_lem};
+ghost use Rattle.run_base.specs.Found.{nothing};
+ghost use Rattle.run_batches.specs.Batch.{GivesSolves, OfBatch, OnList, OnTexts, IsBatchAnswer, SolvesBatch, batch_asked_of, outcome_of as outcome_of_lem};
 
-use crate::{BatchAsked, batch_status, options_of, solve_batch, write_batch};
+use crate::{BatchAsked, batch_status, options_of, solve_batch, texts_of, write_texts};
 use flow_solver::Solved;
 use matrix_batch::{BatchEnd, Matrix, read_batch};
 use mcf_base::{Gate, Shelf, Sink};
@@ -62,15 +63,32 @@ fn solves_of<G: Gate, R: Threads + Sync>(
     }
 }
 
-// Writes what there is of each matrix, and ends with the status of the solves.
-fn write_solves<K: Sink>(out: &mut K, batch: &[Matrix<'_>], many: &[Solved]) -> Ended
-    requires { AllZip IsSolvedMatrix (batch_view batch.now) many.now }
-    ensures { Writes (K.seen out.old) (K.seen out.new) result (batch_answer (batch_view batch.now) many.now) }
+// Writes the texts, and ends with the status.
+fn write_answer<K: Sink>(out: &mut K, status: u8, texts: &[Vec<u8>]) -> Ended
+    ensures { Writes (K.seen out.old) (K.seen out.new) result
+        (record { status = status; text = joined texts.now; found = nothing }) }
 {
-    let status = batch_status(many);
-    match write_batch(out, batch, many) {
+    match write_texts(out, texts) {
         Ok(()) => Ended::told(status),
         Err(_) => Ended::told(5),
+    }
+}
+
+// Writes what there is of each matrix, and ends with the status of the solves. All texts are made before the first is written.
+fn write_solves<K: Sink, R: Threads + Sync>(
+    rt: &R,
+    alloc: Global,
+    out: &mut K,
+    batch: &[Matrix<'_>],
+    many: &[Solved],
+) -> Ended
+    requires { AllZip IsSolvedMatrix (batch_view batch.now) many.now }
+    ensures { IsTold (OrWant (IsBatchAnswer (batch_view batch.now) many.now))
+        (K.seen out.old) (K.seen out.new) result }
+{
+    match texts_of(rt, alloc, batch, many) {
+        Ok(texts) => write_answer(out, batch_status(many), &texts),
+        Err(_) => tell(out, Outcome::Memory),
     }
 }
 
@@ -89,7 +107,7 @@ fn tell_batch<K: Sink, G: Gate, R: Threads + Sync>(
         (K.seen out.old) (K.seen out.new) result }
 {
     match solves_of(rt, alloc, batch, request, gate) {
-        Ok(many) => write_solves(out, batch, &many),
+        Ok(many) => write_solves(rt, alloc, out, batch, &many),
         Err(outcome) => tell(out, outcome),
     }
 }

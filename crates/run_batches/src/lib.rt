@@ -4,10 +4,11 @@
 
 mod asked;
 mod batching;
+mod page;
 mod solving;
 mod writing;
 
 pub use asked::{BatchAsked, options_of};
 pub use batching::{BatchFiles, batch};
 pub use solving::solve_batch;
-pub use writing::{batch_status, write_batch};
+pub use writing::{batch_status, texts_of, write_texts};

@@ -27,8 +27,8 @@ returns-in_err-push-clause-err g c =
     let old = c.args.self.now.rows in
     let new = c.name_rows.new.self.rows in
     let h = c.args.self.now.history in
-    let r : c.self-2.inside.paths ≡ new = ap (λ (v : HistoryView). v.rows) c.self-2.view_is in
-    let p : c.push.new.self.phases ≡ h = c.in_err-push.ensures.err ∙ ap (λ (v : HistoryView). v.history) c.self-2.view_is ∙ c.name_rows.ensures.history in
+    let r : c.self.inside.paths ≡ new = ap (λ (v : HistoryView). v.rows) c.self.view_is in
+    let p : c.push.new.self.phases ≡ h = c.in_err-push.ensures.err ∙ ap (λ (v : HistoryView). v.history) c.self.view_is ∙ c.name_rows.ensures.history in
     on_err c.from_residual-in_err-push.result
     (ap (λ (t : List Row). map (routed_in t) c.push.new.self.phases) r ∙ ap (map (routed_in new)) p ∙ same_phases old new h c.name_rows.ensures.keeps (names_below c.args.net.now old h c.requires.rows.entries))
 
@@ -37,8 +37,8 @@ returns-clause-rows g c =
     let new = c.name_rows.new.self.rows in
     let h = c.args.self.now.history in
     let es = c.in_ok-entries.entries.items in
-    let r : c.self-2.inside.paths ≡ new = ap (λ (v : HistoryView). v.rows) c.self-2.view_is in
-    let p : c.push.new.self.phases ≡ h ++ es ∷ [] = c.in_ok-push.ensures.ok ∙ ap (λ (t : List (List Entry)). t ++ c.deref-4.result.now ∷ []) (ap (λ (v : HistoryView). v.history) c.self-2.view_is ∙ c.name_rows.ensures.history) ∙ ap (λ (t : List Entry). h ++ t ∷ []) c.deref-4.ensures.value in
+    let r : c.self.inside.paths ≡ new = ap (λ (v : HistoryView). v.rows) c.self.view_is in
+    let p : c.push.new.self.phases ≡ h ++ es ∷ [] = c.in_ok-push.ensures.ok ∙ ap (λ (t : List (List Entry)). t ++ c.deref-4.result.now ∷ []) (ap (λ (v : HistoryView). v.history) c.self.view_is ∙ c.name_rows.ensures.history) ∙ ap (λ (t : List Entry). h ++ t ∷ []) c.deref-4.ensures.value in
     subst (AreRowsFor c.args.net.now c.push.new.self.phases) (sym r) (subst (λ (t : List (List Entry)). AreRowsFor c.args.net.now t new) (sym p) (ends c.args.net.now h es new c.in_ok-entries.ensures.begun c.in_ok-entries.ensures.count))
 
 pub returns-clause-phases : goal.returns-clause-phases
@@ -47,8 +47,8 @@ returns-clause-phases g c = λ entries once.
     let new = c.name_rows.new.self.rows in
     let h = c.args.self.now.history in
     let es = c.in_ok-entries.entries.items in
-    let r : c.self-2.inside.paths ≡ new = ap (λ (v : HistoryView). v.rows) c.self-2.view_is in
-    let p : c.push.new.self.phases ≡ h ++ es ∷ [] = c.in_ok-push.ensures.ok ∙ ap (λ (t : List (List Entry)). t ++ c.deref-4.result.now ∷ []) (ap (λ (v : HistoryView). v.history) c.self-2.view_is ∙ c.name_rows.ensures.history) ∙ ap (λ (t : List Entry). h ++ t ∷ []) c.deref-4.ensures.value in
+    let r : c.self.inside.paths ≡ new = ap (λ (v : HistoryView). v.rows) c.self.view_is in
+    let p : c.push.new.self.phases ≡ h ++ es ∷ [] = c.in_ok-push.ensures.ok ∙ ap (λ (t : List (List Entry)). t ++ c.deref-4.result.now ∷ []) (ap (λ (v : HistoryView). v.history) c.self.view_is ∙ c.name_rows.ensures.history) ∙ ap (λ (t : List Entry). h ++ t ∷ []) c.deref-4.ensures.value in
     let places = c.in_ok-places.places.items in
     let named : AreNamed places new es = subst (λ (t : List Place). AreNamed t new es) c.deref-2.ensures.value c.in_ok-entries.ensures.named in
     ap (λ (t : List Row). map (routed_in t) c.push.new.self.phases) r ∙ ap (map (routed_in new)) p ∙ phase_added c.args.net.now c.args.hands.now places old new h es entries c.name_rows.ensures.keeps c.requires.rows.entries c.in_ok-places.ensures.count c.in_ok-places.ensures.places c.in_ok-entries.ensures.count named once
@@ -56,4 +56,4 @@ returns-clause-phases g c = λ entries once.
 pub invariant_of-self-2 : goal.invariant_of-self-2
 invariant_of-self-2 g c =
     let rows = returns-clause-rows g c in
-    names_below c.args.net.now c.self-2.inside.paths c.push.new.self.phases rows.entries
+    names_below c.args.net.now c.self.inside.paths c.push.new.self.phases rows.entries
