@@ -55,7 +55,7 @@ TABLE = (
          "than the nodes less one is no limit", 8),
     _row("refused net TooLong", "the network file is over 64 MiB, mostly by sections that are skipped anyway: take them out"),
     _row("refused work W",
-         "links times demands times phases are over 2,097,152, so --phases has to be less, or left out; where it is, the network is "
+         "links times demands times phases are over 2,097,152, so --phases has to be less, or left out; if it is, the network is "
          "too large to be solved once for each link, and sweep tells what a certificate is worth without each", 4, "sweepsolve"),
     _row("refused work W",
          "demands of all matrices times phases are over 2,097,152, so --phases has to be less, or left out, or the list cut into several", 7,
@@ -173,7 +173,7 @@ TABLE = (
          f"another --step or a greater --gap may close it{_GREATER}; for one link alone, solve the network without it and tighten the "
          "certificate, or take tools/certify", 4),
     _row("total open",
-         "both totals hold; more --phases close the gap only where nearly all demand fits, and where it does not, tools/certify --kind "
+         "both totals hold; more --phases close the gap only if nearly all demand fits, and if it does not, tools/certify --kind "
          "throughput does by a linear program", 9),
     _row("status 1", "a condition of the certificate fails; the line on standard output names the first one"),
     _row("status 3", "a file is refused; the line on standard output names the kind of the fault and its line"),
