@@ -1,6 +1,8 @@
-"""Copies what rt writes from standard input into LOG, and tells on one line of standard error how far the build is.
+"""Copies what rt writes from standard input into LOG, and tells on one line of standard error how far the build is; or, with the word
+`copy`, copies the crates that a crate is built of into a folder.
 
-usage: rt run 2>&1 | python3 tools/mcf_build LOG TOP CRATE      with the repository at TOP
+usage: python3 tools/mcf_build copy TOP CRATE ROOM              with the repository at TOP
+       rt ci 2>&1 | python3 tools/mcf_build LOG TOP CRATE
 """
 
 import os
@@ -12,6 +14,7 @@ from collections.abc import Iterator
 
 sys.path.insert(0, os.path.dirname(os.path.dirname(os.path.abspath(__file__))))
 
+from mcf_build.copying import copy_below  # noqa: E402
 from mcf_build.crates import crates_below  # noqa: E402
 from mcf_build.progress import Progress  # noqa: E402
 
@@ -31,10 +34,8 @@ def lines_of(source: int, seconds: float) -> Iterator[bytes | None]:
     yield rest
 
 
-def main() -> None:
+def tell(log: str, top: str, crate: str) -> None:
     """On a terminal the line is rewritten; elsewhere each crate has a line of its own."""
-    signal.signal(signal.SIGINT, signal.SIG_DFL)
-    log, top, crate = sys.argv[1:]
     is_terminal = sys.stderr.isatty()
     progress = Progress(crates_below(top, crate), time.monotonic())
     shown = 0.0
@@ -50,6 +51,14 @@ def main() -> None:
                 print(progress.text(now), file=sys.stderr, flush=True)
     if is_terminal:
         print("\r\x1b[K", end="", file=sys.stderr, flush=True)
+
+
+def main() -> None:
+    signal.signal(signal.SIGINT, signal.SIG_DFL)
+    if sys.argv[1] == "copy":
+        copy_below(*sys.argv[2:])
+    else:
+        tell(*sys.argv[1:])
 
 
 main()

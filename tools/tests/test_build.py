@@ -11,21 +11,24 @@ from pathlib import Path
 
 import pytest
 
+from mcf_build.copying import copy_below
 from mcf_build.crates import Crate, crates_below
 from mcf_build.progress import Progress
 
 FAKE = """#!/bin/sh
-echo "$PWD $*" >>"$RT_CALLS"
+echo "$*: $(echo $(cat crates.txt | tr -d '\\n')), $(echo $(ls crates))" >>"$RT_CALLS"
 pwd -P >/dev/null
+[ -n "$RT_FAILS" ] && { echo "rt: the library low did not build" >&2; echo "1 passed, 1 failed"; exit 1; }
+echo "== mcf_limits"
 echo "rt: chose --jobs 2 for mcf_limits" >&2
 echo "fn mcf_limits::limits: proved"
-echo "rt: chose --jobs 2 for mcf" >&2
-[ -n "$RT_FAILS" ] && { echo "rt: the library low did not build" >&2; exit 1; }
-mkdir -p out
-printf '#!/bin/sh\\necho built "$@"\\n' >out/mcf
-chmod +x out/mcf
-echo usage
-exit 2
+echo "rt: mcf_limits proved"
+echo "== mcf"
+echo "rt: mcf proved"
+mkdir -p crates/mcf/out
+printf '#!/bin/sh\\necho built "$@"\\n' >crates/mcf/out/mcf
+chmod +x crates/mcf/out/mcf
+echo "2 passed, 0 failed"
 """
 
 
@@ -36,8 +39,8 @@ def clone(tmp_path: Path, root: Path, monkeypatch: pytest.MonkeyPatch) -> Path:
     shutil.copytree(root / "tools", top / "tools", ignore=shutil.ignore_patterns("__pycache__"))
     shutil.copy(root / "mcf", top / "mcf")
     shutil.copy(root / "VERSION", top / "VERSION")
-    (top / "crates.txt").write_text("# two\nmcf_limits:\nmcf: mcf_limits clap\n")
-    for name in ("mcf_limits", "mcf"):
+    (top / "crates.txt").write_text("# two, and one that no program needs\nmcf_limits:\nmcf: mcf_limits clap\ncases: mcf_limits\n")
+    for name in ("mcf_limits", "mcf", "cases"):
         (top / f"crates/{name}/src").mkdir(parents=True)
         (top / f"crates/{name}/src/lib.rt").write_text("fn main() {}\n")
     (tmp_path / "bin").mkdir()
@@ -76,10 +79,10 @@ def test_first_run_builds_and_says_so(clone: Path) -> None:
     assert (status, out) == (0, "built solve x\n")
     lines = err.splitlines()
     assert lines[0].startswith("mcf: building the program; every crate is proved first")
-    assert lines[1].startswith("mcf: crate 1 of 2 is being proved: mcf_limits; about ")
-    assert lines[2].startswith("mcf: crate 2 of 2 is being proved: mcf; ")
+    assert lines[1].startswith("mcf: 1 of 2 crates are proved; ")
+    assert lines[2].startswith("mcf: 2 of 2 crates are proved; ")
     assert len(lines) == 3
-    assert calls(clone) == [f"{clone}/crates/mcf run"]
+    assert calls(clone) == ["ci: mcf_limits:mcf: mcf_limits clap, mcf mcf_limits"]
     assert list((clone.parent / "tmp").iterdir()) == []
 
 
@@ -164,7 +167,7 @@ def test_a_link_to_the_starter_serves(clone: Path) -> None:
 
 
 def test_progress_that_fails_does_not_stop_the_build(clone: Path) -> None:
-    (clone / "tools/mcf_build/__main__.py").write_text("raise SystemExit(1)\n")
+    (clone / "tools/mcf_build/progress.py").write_text("def Progress(*words):\n    raise SystemExit(1)\n")
     status, out, err = run(clone, "x")
     assert (status, out, err.count("\n")) == (0, "built x\n", 1)
 
@@ -187,7 +190,7 @@ def test_on_a_terminal_one_line_is_rewritten(clone: Path) -> None:
     reader.join()
     os.close(master)
     said = b"".join(parts)
-    assert said.count(b"\n") == 1 and b"\r\x1b[Kmcf: crate 2 of 2 is being proved: mcf; " in said and said.endswith(b"\r\x1b[K")
+    assert said.count(b"\n") == 1 and b"\r\x1b[Kmcf: 2 of 2 crates are proved; " in said and said.endswith(b"\r\x1b[K")
 
 
 # -- how far the build is
@@ -206,53 +209,53 @@ def test_crates_below_stand_behind_what_they_use(root: Path) -> None:
     assert all(crate.lines > 10 for crate in crates)
 
 
-def test_lines_of_a_build_one_after_another() -> None:
+def test_how_long_a_build_takes() -> None:
     progress = Progress(THREE, 0.0)
-    assert progress.text(0.0) == "mcf: crate 1 of 3 is being proved; about 25 minutes left"
-    assert progress.see("rt: chose --jobs 2 for low", 0.0)
+    assert progress.text(0.0) == "mcf: 0 of 3 crates are proved; about 22 minutes left"
     assert not progress.see("fn low::x: proved", 10.0)
-    assert progress.see("rt: chose --jobs 4 for mid", 150.0)
-    assert progress.text(150.0) == "mcf: crate 2 of 3 is being proved: mid; about 22 minutes left"
-    assert progress.see("rt: chose --jobs 4 for top", 600.0)
-    assert progress.text(600.0) == "mcf: crate 3 of 3 is being proved: top; about 15 minutes left"
-    assert progress.text(1200.0) == "mcf: crate 3 of 3 is being proved: top; about 5 minutes left"
-    assert progress.text(9999.0) == "mcf: crate 3 of 3 is being proved: top; less than a minute left"
-
-
-def test_crates_that_were_proved_before_take_no_time() -> None:
-    progress = Progress(THREE, 0.0)
-    assert progress.see("rt: chose --jobs 4 for top", 20.0)
-    assert progress.text(20.0).startswith("mcf: crate 3 of 3 is being proved: top; about 15 minutes left")
+    assert not progress.see("rt: chose --jobs 2 for low", 10.0)
+    assert progress.text(60.0) == "mcf: 0 of 3 crates are proved; about 21 minutes left"
+    assert progress.see("rt: low proved", 132.0)
+    assert progress.text(132.0) == "mcf: 1 of 3 crates are proved; about 20 minutes left"
+    assert progress.see("rt: mid proved", 528.0)
+    assert progress.text(528.0) == "mcf: 2 of 3 crates are proved; about 13 minutes left"
+    assert progress.text(9999.0) == "mcf: 2 of 3 crates are proved; less than a minute left"
 
 
 def test_a_slow_machine_is_noticed() -> None:
     progress = Progress(THREE, 0.0)
-    progress.see("rt: chose --jobs 1 for low", 100.0)
-    progress.see("rt: chose --jobs 1 for mid", 700.0)
-    # 100 lines took 600 seconds, and 100 more count as usual, at 1.5 seconds each
-    assert progress.left(700.0) == pytest.approx((600 + 150) / 200 * 900)
-
-
-def test_crates_that_another_copy_proves_tell_no_pace() -> None:
-    progress = Progress(THREE, 0.0)
-    assert progress.see("rt: low: another copy of the repository is building this library; waiting for it, to use its work", 1.0)
-    assert progress.text(400.0) == "mcf: crate 1 of 3 is being proved: low; about 25 minutes left"
-    assert progress.see("rt: low: begins with what a check kept in /somewhere/crates/low", 500.0)
-    assert progress.see("rt: mid: begins with what a check kept in /somewhere/crates/mid", 500.5)
-    assert progress.see("rt: chose --jobs 4 for mid", 501.0)
-    assert progress.text(501.0) == "mcf: crate 2 of 3 is being proved: mid; about 22 minutes left"
-    assert not progress.see("rt: chose --jobs 1 for mid", 502.0)
-    assert progress.see("rt: chose --jobs 4 for top", 951.0)
-    assert progress.text(951.0) == "mcf: crate 3 of 3 is being proved: top; about 15 minutes left"
+    progress.see("rt: low proved", 700.0)
+    # 100 lines took 700 seconds, and 100 more count as usual, at 1.32 seconds each
+    assert progress.left(700.0) == pytest.approx((700 + 132) / 200 * 900)
 
 
 def test_lines_of_crates_side_by_side() -> None:
     progress = Progress(THREE, 0.0)
-    assert progress.see("rt: mid proved", 450.0)
+    assert progress.see("rt: mid proved", 396.0)
     assert not progress.see("rt: mid proved", 451.0)
-    assert progress.see("rt: low proved", 600.0)
-    assert progress.text(600.0) == "mcf: crate 3 of 3 is being proved; about 15 minutes left"
+    assert progress.see("rt: low proved", 528.0)
+    assert progress.text(528.0) == "mcf: 2 of 3 crates are proved; about 13 minutes left"
     assert progress.see("rt: top is kept: an earlier run on this machine proved the same files", 610.0)
-    assert progress.text(610.0) == "mcf: crate 3 of 3 is being proved; less than a minute left"
+    assert progress.text(610.0) == "mcf: 3 of 3 crates are proved; less than a minute left"
     assert not progress.see("rt: stranger proved", 620.0)
-    assert not progress.see("rt: chose --jobs 4 for stranger", 620.0)
+    assert not progress.see("rt: low: its tests are proved", 620.0)
+
+
+# -- the copy that is built in
+
+
+def test_the_copy_has_what_the_program_is_built_of(root: Path, tmp_path: Path) -> None:
+    copy_below(str(root), "mcf", str(tmp_path / "room"))
+    below = {crate.name for crate in crates_below(str(root), "mcf")}
+    lines = (root / "crates.txt").read_text().splitlines()
+    assert (tmp_path / "room/crates.txt").read_text().splitlines() == [line for line in lines if line.split(":")[0].split(" ")[0] in below]
+    assert {path.name for path in (tmp_path / "room/crates").iterdir()} == below
+    assert (tmp_path / "room/HANDLES").read_text() == (root / "HANDLES").read_text()
+    made = {str(path.relative_to(tmp_path / "room")) for path in (tmp_path / "room/crates").rglob("*") if path.is_file()}
+    there = {
+        str(path.relative_to(root))
+        for name in below
+        for path in (root / "crates" / name).rglob("*")
+        if path.is_file() and not {"out", "must-fail"} & set(path.relative_to(root).parts)
+    }
+    assert made == there
