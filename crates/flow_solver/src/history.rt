@@ -14,6 +14,10 @@ use std::alloc::{AllocError, Global};
 use std::marker::Model;
 use std::thread::Threads;
 
+/// In how many of the last phases a commodity's row is looked for before its hash. On real networks they have nine of
+/// ten paths and more.
+const LATE_PHASES: u32 = 8;
+
 /// Path rows with weights, and for each phase an entry for each commodity, which names a row. Contracts see how
 /// many commodities there are, the rows, and a list of phases.
 #[derive(Drop)]
@@ -69,31 +73,29 @@ impl PathHistory {
         self.entries.phases()
     }
 
-    /// The commodity's row in the last phase, where that is of this path.
-    fn last_row(&self, k: u32, path: &[u16]) -> Option<u32>
+    /// A row that the commodity had in one of the last phases, where that is of this path.
+    fn late_row(&self, k: u32, path: &[u16]) -> Option<u32>
         requires { k < self.now.commodities }
         ensures { MatchOption result ⊤ (λ n. IsRowOf self.now.rows k path.now n) }
     {
         let phases = self.entries.phases();
-        if phases == 0 {
-            return None;
+        for back in 0..phases.min(LATE_PHASES) {
+            let row = self.entries.entry(phases - 1 - back, k).row;
+            if self.paths.has_path(row, k, path) {
+                return Some(row);
+            }
         }
-        let row = self.entries.entry(phases - 1, k).row;
-        if self.paths.has_path(row, k, path) {
-            Some(row)
-        } else {
-            None
-        }
+        None
     }
 
     /// The first row of this commodity and path, where no two rows are alike. Mostly a commodity takes the path of the
-    /// phase before, so that one's row is looked at before all others.
+    /// phase before or of one of those before that, so their rows are looked at first.
     pub(crate) fn find(&self, k: u32, path: &[u16]) -> Option<u32>
         requires k { k < self.now.commodities }
         requires apart { AreApart self.now.rows }
         ensures { MatchOption result (HasNoRow self.now.rows k path.now) (IsFirstRow self.now.rows k path.now) }
     {
-        match self.last_row(k, path) {
+        match self.late_row(k, path) {
             Some(row) => Some(row),
             None => self.paths.find(k, path),
         }
