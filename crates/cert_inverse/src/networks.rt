@@ -8,7 +8,7 @@ ghost use Rattle.cert_lines.specs.Sheet.{IsOf, old_sheet_of, sheet_of, sheets_of
 ghost use Rattle.cert_lines.specs.declared.net_line.TheConstants.{MAX_COUNT};
 ghost use Rattle.cert_inverse.specs.Inverse.{AreCitable, IsCitable};
 
-use sndlib_read::RawNet;
+use sndlib_rows::RawNet;
 use unit_scale::Scaled;
 
 /// What texts cite of a network that is scaled can be told apart in them, where the skipped

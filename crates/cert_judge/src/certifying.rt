@@ -14,7 +14,7 @@ use crate::refusal::ReadEnd;
 use cert_check::{Verdict, check};
 use cert_text::{Known, Paper};
 use flow_paths::Proof;
-use sndlib_read::RawNet;
+use sndlib_rows::RawNet;
 use std::alloc::{AllocError, Global};
 use unit_scale::Scaled;
 

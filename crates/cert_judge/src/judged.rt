@@ -3,7 +3,7 @@
 use cert_check::Fault;
 use cert_text::CertRefusal;
 use gap_fraction::Frac;
-use sndlib_read::NetRefusal;
+use sndlib_rows::NetRefusal;
 use unit_scale::NetOptions;
 
 /// What is said of a certificate's text on the rows of a network.

@@ -15,7 +15,7 @@ use cert_check::{RouteEnd, Verdict, check, check_routing};
 use cert_text::{Known, Paper};
 use flow_model::Net;
 use flow_paths::{Proof, Routing};
-use sndlib_read::RawNet;
+use sndlib_rows::RawNet;
 use std::alloc::{AllocError, Global};
 use unit_scale::{NetOptions, Scaled};
 

@@ -9,7 +9,7 @@ ghost use Rattle.cert_judge.specs.Papers.{IsPaperOf, paper_on};
 use crate::papers_fit;
 use crate::refusal::{ReadEnd, Refusal};
 use cert_text::{CertEnd, Known, Paper, open, read_rest};
-use sndlib_read::RawNet;
+use sndlib_rows::RawNet;
 use std::alloc::Global;
 use unit_scale::{NetOptions, ScaleEnd, Scaled, scale};
 

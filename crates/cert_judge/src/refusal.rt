@@ -1,7 +1,7 @@
 //! What a text or its network is refused for.
 
 use cert_text::CertRefusal;
-use sndlib_read::NetRefusal;
+use sndlib_rows::NetRefusal;
 
 /// The first refusal on the way to what a text stands for.
 #[derive(Clone, Copy)]

@@ -17,7 +17,7 @@ use crate::papers_fit;
 use cert_check::{Fault, Verdict, check};
 use cert_text::{CertEnd, CertHead, CertKind, CertRefusal, Known, Opened, Paper, open, read_rest};
 use flow_paths::Proof;
-use sndlib_read::RawNet;
+use sndlib_rows::RawNet;
 use std::alloc::{AllocError, Global};
 use unit_scale::{LinkMode, ModuleMode, NetOptions, Scaled};
 

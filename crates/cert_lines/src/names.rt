@@ -2,7 +2,7 @@
 
 use crate::form::Form;
 use crate::signed::{named_cell, sign_of_cell};
-use sndlib_read::RawNet;
+use sndlib_rows::RawNet;
 use std::marker::Model;
 use unit_scale::{Scaled, link_word, module_word, name_of, old_link_word};
 

@@ -9,7 +9,7 @@ ghost use Rattle.unit_scale.specs.Names.{name_of};
 ghost use Rattle.cert_lines.specs.Sheet.{sign_mark, signed_words, place_of};
 ghost use Rattle.cert_lines.specs.Signs.{sign_marked, marked_cell};
 
-use sndlib_read::RawNet;
+use sndlib_rows::RawNet;
 use unit_scale::{CellName, LinkMode, Sign, cell_of, name_of};
 
 const ALONG: u8 = b'+';

@@ -16,7 +16,7 @@ use crate::rows::{next_lengths, next_paths, next_potentials};
 use cert_lines::{CertEnd, Names};
 use flow_paths::{Dual, PathStore, Proof, Routing};
 use mcf_limits::MAX_PATH_CELLS;
-use sndlib_read::RawNet;
+use sndlib_rows::RawNet;
 use std::alloc::Global;
 use unit_scale::Scaled;
 

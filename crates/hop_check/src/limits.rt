@@ -2,7 +2,7 @@
 
 ghost use Rattle.std.specs.Prelude.{◌≡◌, ◌+◌, ◌<◌, ◌≤◌, nat_lt, if◌then◌else◌, Some, None, Ok, Err, MatchOption, MatchResult};
 ghost use Rattle.mcf_limits.specs.declared.TheConstants.{MAX_NODES, MAX_HOPS as MOST};
-ghost use Rattle.sndlib_read.specs.RowViews.{demand_row_view};
+ghost use Rattle.sndlib_rows.specs.RowViews.{demand_row_view};
 ghost use Rattle.unit_scale.specs.Scaling.{kept_from};
 ghost use Rattle.hop_check.specs.Limits.{limit_of};
 ghost use Rattle.hop_check.specs.Found.{FindsLimits};
@@ -10,7 +10,7 @@ ghost use Rattle.hop_check.specs.Found.{FindsLimits};
 use crate::rounded::rounded;
 use mcf_limits::MAX_HOPS;
 use sndlib_grammar::number_parts;
-use sndlib_read::{DemandRow, NetKind, NetRefusal, RawNet};
+use sndlib_rows::{DemandRow, NetKind, NetRefusal, RawNet};
 use std::alloc::Global;
 use unit_scale::{ScaleEnd, Scaled};
 

@@ -6,8 +6,8 @@ use Rattle.std.specs.Str.{bytes_eq}
 use Rattle.std.proofs.lemmas.List.{drop_more, map-append}
 use Rattle.sndlib_grammar.specs.Grammar.{Word}
 use Rattle.sndlib_grammar.specs.Faults.{first_repeated, is_among, line_of}
-use Rattle.sndlib_read.specs.Views.{bytes_of}
-use Rattle.sndlib_read.proofs.Naming.{any-bytes_of}
+use Rattle.sndlib_rows.specs.Views.{bytes_of}
+use Rattle.sndlib_rows.proofs.Naming.{any-bytes_of}
 use Rattle.matrix_batch.specs.Faults.{repeated, line_if_among}
 use Rattle.unit_scale.specs.Scaling.{or_else}
 use Rattle.matrix_batch.specs.declared.kept.Word.{Word as WordSlice}

@@ -4,10 +4,10 @@ use Rattle.std.specs.Prelude.{position}
 use Rattle.std.specs.Str.{bytes_eq}
 use Rattle.sndlib_grammar.specs.Faults.{unknown_of_demand}
 use Rattle.sndlib_grammar.specs.Rows.{net_demand}
-use Rattle.sndlib_read.specs.declared.ends.Ends.{Ends}
-use Rattle.sndlib_read.specs.declared.row.DemandRow.{DemandRow}
-use Rattle.sndlib_read.specs.RowViews.{demand_row_view}
-use Rattle.sndlib_read.proofs.RowAt.{both_known}
+use Rattle.sndlib_rows.specs.declared.ends.Ends.{Ends}
+use Rattle.sndlib_rows.specs.declared.row.DemandRow.{DemandRow}
+use Rattle.sndlib_rows.specs.RowViews.{demand_row_view}
+use Rattle.sndlib_rows.proofs.RowAt.{both_known}
 use Rattle.matrix_batch.specs.declared.kept.DemandWords.{DemandWords}
 use Rattle.matrix_batch.specs.ReadViews.{word_view, demand_view}
 

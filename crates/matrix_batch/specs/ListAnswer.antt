@@ -5,7 +5,7 @@ use Rattle.std.specs.declared.alloc.Global.{Global}
 use Rattle.sndlib_grammar.specs.Rows.{NetRows}
 use Rattle.sndlib_grammar.specs.Slices.{IsSliceOf}
 use Rattle.sndlib_grammar.specs.Words.{OnDemand}
-use Rattle.sndlib_read.specs.RowViews.{demand_row_view}
+use Rattle.sndlib_rows.specs.RowViews.{demand_row_view}
 use Rattle.matrix_batch.specs.declared.row.MatrixRows.{MatrixRows}
 use Rattle.matrix_batch.specs.declared.read_end.ReadListEnd.{ReadListEnd}
 use Rattle.matrix_batch.specs.declared.read_end.ReadListEnd.TheVariants.{Refused, Memory}

@@ -5,8 +5,8 @@ use Rattle.std.specs.declared.alloc.Global.{Global}
 use Rattle.sndlib_grammar.specs.Grammar.{DemandEntry}
 use Rattle.sndlib_grammar.specs.Faults.{or_else, first_of, unknown_of_demand}
 use Rattle.sndlib_grammar.specs.Rows.{NetRows, names_of_nodes, net_demand}
-use Rattle.sndlib_read.specs.declared.row.DemandRow.{DemandRow}
-use Rattle.sndlib_read.specs.RowViews.{demand_row_view}
+use Rattle.sndlib_rows.specs.declared.row.DemandRow.{DemandRow}
+use Rattle.sndlib_rows.specs.RowViews.{demand_row_view}
 use Rattle.matrix_batch.specs.Grammar.{MatrixEntry}
 use Rattle.matrix_batch.specs.declared.list_refusal.ListKind.{ListKind}
 use Rattle.matrix_batch.specs.declared.list_refusal.ListKind.TheVariants.{TooMany, Duplicate, UnknownNode, BadNumber}

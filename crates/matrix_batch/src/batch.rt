@@ -10,7 +10,7 @@ use crate::refusal::BatchEnd;
 use crate::scaling::scale_all;
 use crate::{ReadListEnd, read_list, what_is_read_is_scaled};
 use mcf_limits::MAX_LIST_BYTES;
-use sndlib_read::{NetKind, NetRefusal, RawNet};
+use sndlib_rows::{NetKind, NetRefusal, RawNet};
 use std::alloc::{AllocError, Global};
 use unit_scale::{NetOptions, RowEnd, RowRefusal, RowSort, scale_at};
 

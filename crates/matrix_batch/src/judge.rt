@@ -16,7 +16,7 @@ use crate::sofar::Sofar;
 use crate::{ListKind, ListRefusal};
 use mcf_limits::MAX_LIST_BYTES;
 use sndlib_grammar::{Tokens, end_line};
-use sndlib_read::RawNet;
+use sndlib_rows::RawNet;
 use std::alloc::Global;
 
 fn refusal(kind: ListKind, line: u32) -> ReadListEnd

@@ -1,6 +1,6 @@
 //! A matrix of a batch.
 
-use sndlib_read::RawNet;
+use sndlib_rows::RawNet;
 use unit_scale::Scaled;
 
 /// A matrix of a batch: its name, which is a slice of the list's text, the rows of its network, and that network in units. The rows of nodes and links are shared among all matrices.

@@ -8,7 +8,7 @@ use crate::kept::{DemandWords, MatrixWords};
 use crate::read_end::ReadListEnd;
 use crate::row::MatrixRows;
 use crate::{ListKind, ListRefusal};
-use sndlib_read::{DemandRow, RawNet};
+use sndlib_rows::{DemandRow, RawNet};
 use std::alloc::Global;
 
 fn unknown(line: u32) -> ReadListEnd

@@ -1,7 +1,7 @@
 //! Why a list gives no batch.
 
 use crate::ListRefusal;
-use sndlib_read::NetRefusal;
+use sndlib_rows::NetRefusal;
 
 /// Why a list gives no batch: a link of the network is too fine, the list is refused, or memory ran out.
 #[derive(Clone, Copy, Debug)]

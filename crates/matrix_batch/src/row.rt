@@ -1,7 +1,7 @@
 //! Matrices as they are handed out: words are slices of the list's text, nodes are numbers of the
 //! network.
 
-use sndlib_read::DemandRow;
+use sndlib_rows::DemandRow;
 
 /// A matrix: its name, the line of its name, and its demands.
 #[derive(Debug, Drop)]

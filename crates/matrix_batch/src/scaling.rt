@@ -10,7 +10,7 @@ ghost use Rattle.matrix_batch.specs.Steps.{AfterOne, AreScaled, IsFinished, IsRe
 use crate::matrix::Matrix;
 use crate::refusal::BatchEnd;
 use crate::{ListKind, ListRefusal, MatrixRows};
-use sndlib_read::{NetKind, RawNet};
+use sndlib_rows::{NetKind, RawNet};
 use std::alloc::{AllocError, Global};
 use unit_scale::{NetOptions, RowEnd, RowRefusal, RowSort, scale_at};
 

@@ -11,7 +11,7 @@ ghost use Rattle.net_solve.specs.Solving.{IsSolving};
 use crate::asked::{Asked, options_of};
 use flow_solver::{Solved, solve};
 use mcf_base::Gate;
-use sndlib_read::{NetRefusal, RawNet};
+use sndlib_rows::{NetRefusal, RawNet};
 use std::alloc::{AllocError, Global};
 use std::thread::Threads;
 use unit_scale::{NetOptions, ScaleEnd, Scaled, scale};

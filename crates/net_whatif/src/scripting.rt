@@ -11,7 +11,7 @@ ghost use Rattle.net_whatif.specs.Scripted.{CanRun, IsScriptedText};
 use flow_paths::Proof;
 use mcf_base::{Sink, WriteFault};
 use script::{Script, ScriptEnd, ScriptRefusal};
-use sndlib_read::RawNet;
+use sndlib_rows::RawNet;
 use std::alloc::{AllocError, Global};
 use unit_scale::Scaled;
 use whatif::{Plan, run_script};

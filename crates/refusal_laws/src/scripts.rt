@@ -10,7 +10,7 @@ ghost use Rattle.script.specs.Reading.{Terms, at_start, end_of, scan, script_of,
 ghost use Rattle.refusal_laws.specs.Scripts.{CanGoOn, IsStoppedAt};
 ghost use Rattle.refusal_laws.specs.ScriptKinds.{IsFault, IsOfToken, IsOfEnd};
 
-use sndlib_read::RawNet;
+use sndlib_rows::RawNet;
 use unit_scale::Scaled;
 
 /// Where tokens are refused, some script begins with the tokens before, and none with the one that

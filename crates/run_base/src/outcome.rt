@@ -3,7 +3,7 @@
 use cert_judge::{CertRefusal, Fault, Judged};
 use matrix_batch::ListRefusal;
 use script::ScriptRefusal;
-use sndlib_read::NetRefusal;
+use sndlib_rows::NetRefusal;
 use std::alloc::AllocError;
 
 /// A kind of file: a network, a certificate or a routing, a second certificate, a script, a list of demand matrices.

@@ -14,7 +14,7 @@ use gap_fraction::{Frac, Shown};
 use matrix_batch::{ListKind, ListRefusal};
 use mcf_base::Sink;
 use script::{ScriptKind, ScriptRefusal};
-use sndlib_read::{NetKind, NetRefusal};
+use sndlib_rows::{NetKind, NetRefusal};
 use text_lines::Word;
 use unit_scale::{NetOptions, link_word, module_word};
 

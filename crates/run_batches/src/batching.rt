@@ -19,7 +19,7 @@ use mcf_base::{Gate, Shelf, Sink};
 use mcf_limits::{MAX_LIST_BYTES, MAX_NET_BYTES};
 use mcf_words::Request;
 use run_base::{Ended, Outcome, Paper, file_text, net_rows, tell};
-use sndlib_read::RawNet;
+use sndlib_rows::RawNet;
 use std::alloc::Global;
 use std::thread::Threads;
 

@@ -13,7 +13,7 @@ use flow_paths::Proof;
 use mcf_base::{Shelf, Sink};
 use mcf_limits::{MAX_CERT_BYTES, MAX_NET_BYTES};
 use run_base::{Ended, Outcome, Paper, file_text, net_rows, tell};
-use sndlib_read::RawNet;
+use sndlib_rows::RawNet;
 use std::alloc::Global;
 use unit_scale::Scaled;
 

@@ -18,7 +18,7 @@ use mcf_limits::{MAX_CERT_BYTES, MAX_NET_BYTES, MAX_SCRIPT_BYTES};
 use net_whatif::{Scripted, read_script, write_shown};
 use run_base::{Ended, Outcome, Paper, file_text, net_rows, tell};
 use script::Script;
-use sndlib_read::RawNet;
+use sndlib_rows::RawNet;
 use std::alloc::Global;
 use unit_scale::Scaled;
 use whatif::Plan;

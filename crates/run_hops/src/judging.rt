@@ -15,7 +15,7 @@ use cert_judge::Judged;
 use cert_lines::{CertEnd, Form, Names};
 use hop_check::{HopProof, check_hops, hop_limits};
 use run_texts::{hops_are_of_the_network, hops_head, read_hops_text};
-use sndlib_read::RawNet;
+use sndlib_rows::RawNet;
 use std::alloc::{AllocError, Global};
 use unit_scale::{ScaleEnd, Scaled, scale};
 

@@ -9,7 +9,7 @@ ghost use Rattle.run_hops.specs.Hops.{IsHopSolving, OnRun};
 use hop_check::{HopProof, hop_limits};
 use hop_solve::solve_hops;
 use net_solve::{Asked, turn_options};
-use sndlib_read::{NetRefusal, RawNet};
+use sndlib_rows::{NetRefusal, RawNet};
 use std::alloc::{AllocError, Global};
 use unit_scale::{NetOptions, ScaleEnd, Scaled, scale};
 

@@ -19,7 +19,7 @@ use mcf_limits::MAX_NET_BYTES;
 use mcf_words::Request;
 use run_base::{Ended, Found, Outcome, Paper, file_text, net_rows, tell, verdict_status};
 use run_texts::write_hops;
-use sndlib_read::RawNet;
+use sndlib_rows::RawNet;
 use std::alloc::Global;
 use unit_scale::Scaled;
 

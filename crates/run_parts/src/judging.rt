@@ -13,7 +13,7 @@ use cert_check::Verdict;
 use cert_judge::Judged;
 use cert_lines::{CertEnd, Form, Names};
 use run_texts::{part_head, parts_are_of_the_network, read_part_text};
-use sndlib_read::RawNet;
+use sndlib_rows::RawNet;
 use std::alloc::{AllocError, Global};
 use throughput::{PartProof, check_part};
 use unit_scale::{ScaleEnd, Scaled, scale};

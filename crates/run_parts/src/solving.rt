@@ -6,7 +6,7 @@ ghost use Rattle.net_solve.specs.Asked.{IsAsked};
 ghost use Rattle.run_parts.specs.Parts.{IsPartSolving, OnRun};
 
 use net_solve::{Asked, turn_options};
-use sndlib_read::{NetRefusal, RawNet};
+use sndlib_rows::{NetRefusal, RawNet};
 use std::alloc::{AllocError, Global};
 use throughput::{PartProof, solve_parts};
 use unit_scale::{NetOptions, ScaleEnd, Scaled, scale};

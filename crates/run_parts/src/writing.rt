@@ -17,7 +17,7 @@ use mcf_limits::MAX_NET_BYTES;
 use mcf_words::Request;
 use run_base::{Ended, Found, Outcome, Paper, file_text, net_rows, tell, verdict_status};
 use run_texts::write_part;
-use sndlib_read::RawNet;
+use sndlib_rows::RawNet;
 use std::alloc::Global;
 use throughput::PartProof;
 use unit_scale::Scaled;

@@ -9,7 +9,7 @@ ghost use Rattle.sndlib_grammar.specs.Canonical.{node_line, link_line, demand_li
 
 use crate::entries::{put_demand, put_link, put_node};
 use mcf_base::{Sink, WriteFault};
-use sndlib_read::RawNet;
+use sndlib_rows::RawNet;
 use text_lines::Buffer;
 
 /// The first line, and the line that opens the nodes.

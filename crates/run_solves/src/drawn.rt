@@ -23,7 +23,7 @@ use mcf_words::Request;
 use net_gen::{drawn_networks_are_scaled, generate};
 use net_solve::{Solving, carried_amount, route_count, solve_rows, total_amount};
 use run_base::{Ended, Found, Outcome, net_rows, tell, verdict_status, verdict_word};
-use sndlib_read::RawNet;
+use sndlib_rows::RawNet;
 use std::alloc::{AllocError, Global};
 use std::thread::Threads;
 use text_lines::{Word, write_line};

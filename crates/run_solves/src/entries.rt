@@ -8,7 +8,7 @@ ghost use Rattle.sndlib_grammar.specs.Rows.{node_at, link_at, demand_at, names_o
 ghost use Rattle.sndlib_grammar.specs.Canonical.{node_line, link_line, demand_line};
 
 use mcf_base::{Sink, WriteFault};
-use sndlib_read::{LinkRow, RawNet};
+use sndlib_rows::{LinkRow, RawNet};
 use text_lines::Buffer;
 
 // Puts the words, a space before each, and a line feed.

@@ -7,7 +7,7 @@ use crate::canonical::print_net;
 use mcf_base::{Shelf, Sink};
 use mcf_limits::MAX_NET_BYTES;
 use run_base::{Ended, Paper, file_text, net_rows, tell};
-use sndlib_read::RawNet;
+use sndlib_rows::RawNet;
 use std::alloc::Global;
 
 // Writes the canonical text of the rows.

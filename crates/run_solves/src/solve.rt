@@ -18,7 +18,7 @@ use mcf_limits::MAX_NET_BYTES;
 use mcf_words::Request;
 use net_solve::{Asked, Solving, solve_rows, solved_can_be_written};
 use run_base::{Ended, Found, Outcome, Paper, file_text, net_rows, tell, verdict_status};
-use sndlib_read::RawNet;
+use sndlib_rows::RawNet;
 use std::alloc::Global;
 use std::thread::Threads;
 use unit_scale::Scaled;

@@ -3,7 +3,7 @@
 ghost use Rattle.std.specs.Prelude.{◌≡◌, IfOk, map};
 ghost use Rattle.sndlib_grammar.specs.Rows.{names_of_links};
 
-use sndlib_read::RawNet;
+use sndlib_rows::RawNet;
 use std::alloc::{AllocError, Global};
 
 /// The ids of the links, in their order.

@@ -14,7 +14,7 @@ use flow_paths::Proof;
 use mcf_base::{Shelf, Sink};
 use mcf_limits::{MAX_CERT_BYTES, MAX_NET_BYTES};
 use run_base::{Ended, Outcome, Paper, file_text, net_rows, tell};
-use sndlib_read::RawNet;
+use sndlib_rows::RawNet;
 use std::alloc::{AllocError, Global};
 use std::thread::Threads;
 use sweep::{sweep_plan, write_sweep};

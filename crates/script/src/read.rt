@@ -15,7 +15,7 @@ use crate::step::Script;
 use crate::word::{Expected, Meaning, word_meaning};
 use mcf_limits::{MAX_DECIMALS, MAX_LINKS, MAX_SCRIPT_BYTES, MAX_UNITS};
 use sndlib_grammar::{Token, TokenKind, Tokens, end_line};
-use sndlib_read::RawNet;
+use sndlib_rows::RawNet;
 use std::alloc::{AllocError, Global};
 use unit_scale::{Scaled, cells_of};
 

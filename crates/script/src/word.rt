@@ -9,7 +9,7 @@ ghost use Rattle.script.specs.Answer.{IsExpected, IsMeant};
 
 use crate::refusal::ScriptKind;
 use mcf_limits::{MAX_DECIMALS, MAX_UNITS};
-use sndlib_read::RawNet;
+use sndlib_rows::RawNet;
 use unit_scale::{UnitFault, units};
 
 const SET: &[u8] = b"set";

@@ -7,8 +7,8 @@ use Rattle.sndlib_grammar.specs.Rows.{NetRows}
 use Rattle.sndlib_grammar.specs.Slices.{AreSlicesOf}
 use Rattle.sndlib_grammar.proofs.Judged.{text_judged, text_only}
 use Rattle.sndlib_grammar.proofs.RowFacts.{text_rows_slices}
-use Rattle.sndlib_read.specs.declared.refusal.ReadNetEnd.{ReadNetEnd}
-use Rattle.sndlib_read.specs.declared.refusal.ReadNetEnd.TheVariants.{Refused, Memory}
+use Rattle.sndlib_rows.specs.declared.refusal.ReadNetEnd.{ReadNetEnd}
+use Rattle.sndlib_rows.specs.declared.refusal.ReadNetEnd.TheVariants.{Refused, Memory}
 use Rattle.sndlib_read.specs.Steps.{Gives}
 use Rattle.sndlib_read.specs.Answer.{IsAnswer, Answers}
 

@@ -1,9 +1,6 @@
-pub mod Naming
 pub mod RowLines
 pub mod StoredLaws
 pub mod Scanning
 pub mod Bounds
-pub mod RowAt
 pub mod Whole
-pub mod Demands
 pub mod Answering

@@ -15,8 +15,10 @@ use Rattle.sndlib_grammar.specs.Faults.{node_ids, link_ids, demand_ids, texts, o
 use Rattle.sndlib_grammar.specs.Reading.{Sofar, kept, with_node, with_link, with_demand, link_of, demand_of}
 use Rattle.sndlib_grammar.specs.Rows.{NetNode, NetLink, NetDemand, NetRows, module_words, net_node, net_link, net_demand, net_rows}
 use Rattle.sndlib_grammar.specs.Net.{unless_fault}
-use Rattle.sndlib_read.specs.Stored.{StoredNode, StoredLink, Stored, stored_node, stored_link, stored, partial, add_below, add_node, add_link, add_demand, put}
-use Rattle.sndlib_read.specs.Numbering.{stored_nodes, stored_links, stored_demands, too_many_of, repeated_of, unknown_of_stored, unknown_of, bad_of_stored, bad_of, stored_fault, node_of, link_of as link_of_stored, stored_rows, stored_judged}
+use Rattle.sndlib_read.specs.Stored.{Stored, stored_node, stored_link, stored, partial, add_below, add_node, add_link, add_demand, put}
+use Rattle.sndlib_rows.specs.Stored.{StoredNode, StoredLink}
+use Rattle.sndlib_read.specs.Numbering.{stored_nodes, stored_links, stored_demands, too_many_of, repeated_of, unknown_of_stored, unknown_of, bad_of_stored, bad_of, stored_fault, stored_rows, stored_judged}
+use Rattle.sndlib_rows.specs.Numbering.{node_of, link_of as link_of_stored}
 use Rattle.sndlib_grammar.proofs.RowFacts.{first_none, second_none}
 
 map-map : {X Y Z : Type 0} (f : Y → Z) (g : X → Y) (xs : List X) → map f (map g xs) ≡ map (λ x. f (g x)) xs

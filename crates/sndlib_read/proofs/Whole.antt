@@ -10,24 +10,28 @@ use Rattle.sndlib_grammar.specs.Words.{AreWordEntries}
 use Rattle.sndlib_grammar.specs.Net.{unless_fault, judged, rows_of}
 use Rattle.sndlib_grammar.specs.Text.{read_of, end_of}
 use Rattle.sndlib_grammar.proofs.RowFacts.{rows_hold}
-use Rattle.sndlib_read.specs.declared.kept.LinkWords.{LinkWords}
+use Rattle.sndlib_rows.specs.declared.kept.LinkWords.{LinkWords}
 use Rattle.sndlib_read.specs.declared.kept.DemandWords.{DemandWords}
 use Rattle.std.specs.declared.vec.Vec.{Vec}
 use Rattle.std.specs.declared.alloc.Global.{Global}
 use Rattle.sndlib_read.specs.declared.kept.Kept.{Kept}
-use Rattle.sndlib_read.specs.declared.ends.Ends.{Ends}
+use Rattle.sndlib_rows.specs.declared.ends.Ends.{Ends}
 use Rattle.sndlib_read.specs.declared.names.Names.{Names}
-use Rattle.sndlib_read.specs.declared.part.NetPart.{NetPart}
-use Rattle.sndlib_read.specs.declared.row.DemandRow.{DemandRow}
-use Rattle.sndlib_read.specs.RowViews.{demand_row_view}
-use Rattle.sndlib_read.specs.Parts.{rows_with, row_of}
-use Rattle.sndlib_read.specs.Stored.{Stored, StoredNode, StoredLink, stored}
+use Rattle.sndlib_rows.specs.declared.part.NetPart.{NetPart}
+use Rattle.sndlib_rows.specs.declared.row.DemandRow.{DemandRow}
+use Rattle.sndlib_rows.specs.RowViews.{demand_row_view}
+use Rattle.sndlib_read.specs.Ends.{row_of}
+use Rattle.sndlib_rows.specs.Parts.{rows_with}
+use Rattle.sndlib_read.specs.Stored.{Stored, stored}
+use Rattle.sndlib_rows.specs.Stored.{StoredNode, StoredLink}
 use Rattle.sndlib_read.specs.Steps.{IsKept}
 use Rattle.sndlib_read.specs.OfText.{IsOfText}
-use Rattle.sndlib_read.specs.Numbering.{stored_nodes, stored_links, stored_demands, too_many_of, repeated_of, unknown_of_stored, unknown_of, bad_of, stored_fault, node_of, link_of, stored_rows, stored_judged, link_ends_of}
-use Rattle.sndlib_read.specs.Names.{names_of}
-use Rattle.sndlib_read.specs.Views.{kept_view, link_view, demand_view}
-use Rattle.sndlib_read.specs.Net.{AreRawParts}
+use Rattle.sndlib_read.specs.Numbering.{stored_nodes, stored_links, stored_demands, too_many_of, repeated_of, unknown_of_stored, unknown_of, bad_of, stored_fault, stored_rows, stored_judged}
+use Rattle.sndlib_rows.specs.Numbering.{node_of, link_of, link_ends_of}
+use Rattle.sndlib_rows.specs.Names.{names_of}
+use Rattle.sndlib_read.specs.Views.{kept_view, demand_view}
+use Rattle.sndlib_rows.specs.Views.{link_view}
+use Rattle.sndlib_rows.specs.Net.{AreRawParts}
 use Rattle.sndlib_read.proofs.RowLines.{map-swap}
 use Rattle.sndlib_read.proofs.StoredLaws.{judged-stored}
 

@@ -3,8 +3,8 @@ use Rattle.std.specs.Prelude.{◌≡◌, ℕ, List, Result, Ok, Err}
 use Rattle.sndlib_grammar.specs.declared.refusal.NetRefusal.{NetRefusal}
 use Rattle.sndlib_grammar.specs.Net.{IsNetOf}
 use Rattle.sndlib_grammar.specs.Rows.{NetRows}
-use Rattle.sndlib_read.specs.declared.refusal.ReadNetEnd.{ReadNetEnd}
-use Rattle.sndlib_read.specs.declared.refusal.ReadNetEnd.TheVariants.{Refused, Memory}
+use Rattle.sndlib_rows.specs.declared.refusal.ReadNetEnd.{ReadNetEnd}
+use Rattle.sndlib_rows.specs.declared.refusal.ReadNetEnd.TheVariants.{Refused, Memory}
 
 -- the grammar and the order of refusals give the text this answer, and no other
 pub record IsAnswer (text : List ℕ) (answer : Result NetRows NetRefusal) : Type 0 where

@@ -3,8 +3,6 @@ pub mod Views
 pub mod Steps
 pub mod Numbering
 pub mod Names
+pub mod Ends
 pub mod OfText
-pub mod Parts
-pub mod Net
-pub mod RowViews
 pub mod Answer

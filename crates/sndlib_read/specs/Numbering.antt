@@ -3,11 +3,12 @@ use Rattle.std.specs.Prelude.{ℕ, List, [], ◌∷◌, map, find, Option, Some,
 use Rattle.mcf_limits.specs.declared.TheConstants.{MAX_DEMANDS, MAX_LINKS, MAX_NODES}
 use Rattle.sndlib_grammar.specs.declared.refusal.NetKind.TheVariants as netkinds
 use Rattle.sndlib_grammar.specs.declared.refusal.NetRefusal.{NetRefusal}
-use Rattle.sndlib_grammar.specs.Grammar.{Word, DemandEntry}
+use Rattle.sndlib_grammar.specs.Grammar.{Word}
 use Rattle.sndlib_grammar.specs.Faults.{texts, or_else, line_of, first_of, first_repeated, first_unknown, unknown_of_demand, is_bad, bad_of_demand, at_line}
-use Rattle.sndlib_grammar.specs.Rows.{NetNode, NetLink, NetRows, node_number, net_demand}
-use Rattle.sndlib_read.specs.declared.ends.Ends.{Ends}
-use Rattle.sndlib_read.specs.Stored.{StoredNode, StoredLink, Stored}
+use Rattle.sndlib_grammar.specs.Rows.{NetRows, net_demand}
+use Rattle.sndlib_rows.specs.Stored.{StoredLink}
+use Rattle.sndlib_rows.specs.Numbering.{node_of, link_of}
+use Rattle.sndlib_read.specs.Stored.{Stored}
 
 abbrev pub stored_nodes : Stored → List Word
 stored_nodes r = map (λ n. n.id) r.nodes
@@ -41,20 +42,6 @@ stored_fault r = or_else (at_line netkinds.TooMany (too_many_of r)) (or_else (at
 
 -- ---- rows
 
-abbrev pub node_of : StoredNode → NetNode
-node_of n = record { id = n.id.text; place = n.place }
-
-abbrev pub link_of : List (List ℕ) → StoredLink → NetLink
-link_of known l = record {
-  id = l.id.text;
-  source = node_number known l.source;
-  target = node_number known l.target;
-  installed = l.installed.text;
-  costs = l.installed_cost.text ∷ l.routing_cost.text ∷ l.setup_cost.text ∷ [];
-  modules = l.modules;
-  line = l.id.line;
-}
-
 abbrev pub stored_rows : ℕ → Stored → NetRows
 stored_rows end r = record {
   nodes = map node_of r.nodes;
@@ -67,10 +54,3 @@ stored_rows end r = record {
 abbrev pub stored_judged : ℕ → Stored → Option NetRefusal → Result NetRows NetRefusal
 stored_judged end r None = Ok (stored_rows end r)
 stored_judged end r (Some f) = Err f
-
--- the numbers of the ends
-abbrev pub link_ends_of : List (List ℕ) → StoredLink → Ends
-link_ends_of known l = record { source = node_number known l.source; target = node_number known l.target }
-
-abbrev pub demand_ends_of : List (List ℕ) → DemandEntry → Ends
-demand_ends_of known d = record { source = node_number known d.source; target = node_number known d.target }

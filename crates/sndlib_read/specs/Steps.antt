@@ -6,8 +6,8 @@ use Rattle.sndlib_grammar.specs.declared.refusal.NetKind.TheVariants as netkinds
 use Rattle.sndlib_grammar.specs.declared.refusal.NetRefusal.{NetRefusal}
 use Rattle.sndlib_grammar.specs.Grammar.{Entries, symbol}
 use Rattle.sndlib_grammar.specs.Reading.{mode_after}
-use Rattle.sndlib_read.specs.declared.refusal.ReadNetEnd.{ReadNetEnd}
-use Rattle.sndlib_read.specs.declared.refusal.ReadNetEnd.TheVariants.{Refused, Memory}
+use Rattle.sndlib_rows.specs.declared.refusal.ReadNetEnd.{ReadNetEnd}
+use Rattle.sndlib_rows.specs.declared.refusal.ReadNetEnd.TheVariants.{Refused, Memory}
 use Rattle.sndlib_read.specs.declared.kept.Kept.{Kept}
 use Rattle.sndlib_read.specs.Stored.{Partial, Stored, stored, put}
 use Rattle.sndlib_read.specs.Views.{kept_view}

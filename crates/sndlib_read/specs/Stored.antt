@@ -9,22 +9,7 @@ use Rattle.sndlib_grammar.specs.Grammar.{Word, Symbol, Left, Right, Name, NodeEn
 use Rattle.sndlib_grammar.specs.Faults.{texts, or_else, line_of, is_bad, bad_module}
 use Rattle.sndlib_grammar.specs.Reading.{Draft, Sofar, demand_of}
 use Rattle.sndlib_grammar.specs.Rows.{module_words}
-
-pub record StoredNode : Type 0 where
-  pub id : Word
-  pub place : Option (List (List ℕ))
-
--- a link, and the line of the first capacity of a module that is no number
-pub record StoredLink : Type 0 where
-  pub id : Word
-  pub source : Word
-  pub target : Word
-  pub installed : Word
-  pub installed_cost : Word
-  pub routing_cost : Word
-  pub setup_cost : Word
-  pub modules : List (List ℕ)
-  pub bad : Option ℕ
+use Rattle.sndlib_rows.specs.Stored.{StoredNode, StoredLink}
 
 pub record Stored : Type 0 where
   pub nodes : List StoredNode

@@ -3,26 +3,17 @@
 ghost use Rattle.std.specs.Prelude.{◌≡◌, ◌≤◌, ◌∷◌, [], map, length};
 ghost use Rattle.sndlib_grammar.specs.Faults.{first_unknown};
 ghost use Rattle.sndlib_grammar.specs.Rows.{node_number};
-ghost use Rattle.sndlib_read.specs.Numbering.{unknown_of_stored, link_ends_of};
-ghost use Rattle.sndlib_read.specs.Names.{names_of, AreEnds, IsEnds};
-ghost use Rattle.sndlib_read.specs.Parts.{AreDemandRows};
-ghost use Rattle.sndlib_read.specs.Views.{word_view, link_view};
+ghost use Rattle.sndlib_read.specs.Ends.{AreEnds, IsEnds, AreDemandRows};
+ghost use Rattle.sndlib_read.specs.Numbering.{unknown_of_stored};
+ghost use Rattle.sndlib_rows.specs.Names.{names_of};
+ghost use Rattle.sndlib_rows.specs.Numbering.{link_ends_of};
+ghost use Rattle.sndlib_rows.specs.Views.{word_view, link_view};
 
-use crate::kept::{DemandWords, LinkWords, Word};
-use crate::names::number_of;
-use crate::refusal::ReadNetEnd;
-use crate::row::DemandRow;
+use crate::kept::DemandWords;
 use indexmap::IndexSet;
 use mcf_limits::MAX_NODES;
-use sndlib_grammar::{NetKind, NetRefusal};
+use sndlib_rows::{DemandRow, Ends, LinkWords, NetKind, NetRefusal, ReadNetEnd, Word, number_of};
 use std::alloc::Global;
-
-/// The numbers of the two ends of a link or a demand.
-#[derive(Clone, Copy, Debug)]
-pub struct Ends {
-    pub source: u16,
-    pub target: u16,
-}
 
 fn unknown(line: u32) -> ReadNetEnd
     ensures { result ≡ ReadNetEnd.Refused (record { line = line; kind = NetKind.UnknownNode }) }

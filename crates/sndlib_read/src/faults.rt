@@ -3,11 +3,13 @@
 ghost use Rattle.std.specs.Prelude.{◌≡◌, map, slice_get};
 ghost use Rattle.sndlib_grammar.specs.Faults.{is_bad as is_bad_lem, is_bad_longest as is_bad_longest_lem, line_of, first_of, bad_of_demand};
 ghost use Rattle.sndlib_read.specs.Numbering.{too_many_of, bad_of_stored, bad_of};
-ghost use Rattle.sndlib_read.specs.Views.{word_view, node_view, link_view, demand_view, kept_view};
+ghost use Rattle.sndlib_read.specs.Views.{demand_view, kept_view};
+ghost use Rattle.sndlib_rows.specs.Views.{word_view, node_view, link_view};
 
-use crate::kept::{DemandWords, Kept, LinkWords, NodeWords, Word};
+use crate::kept::{DemandWords, Kept};
 use mcf_limits::{MAX_DEMANDS, MAX_LINKS, MAX_NODES};
 use sndlib_grammar::is_number;
+use sndlib_rows::{LinkWords, NodeWords, Word};
 
 const UNLIMITED: &[u8] = b"UNLIMITED";
 

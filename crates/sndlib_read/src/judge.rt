@@ -15,14 +15,11 @@ use crate::ends::{demand_rows, link_ends};
 use crate::faults::{bad_number, too_many};
 use crate::kept::Kept;
 use crate::names::names_of_rows;
-use crate::net::RawNet;
-use crate::part::NetPart;
-use crate::refusal::ReadNetEnd;
 use crate::text::read_words;
 use mcf_limits::MAX_NET_BYTES;
 use sndlib_grammar::{NetKind, NetRefusal, end_line};
+use sndlib_rows::{NetPart, RawNet, ReadNetEnd};
 use std::alloc::Global;
-use std::sync::Arc;
 
 fn refusal(kind: NetKind, line: u32) -> ReadNetEnd
     ensures { result ≡ ReadNetEnd.Refused (record { line = line; kind = kind }) }
@@ -63,12 +60,8 @@ fn judge<'a>(alloc: Global, rows: Kept<'a>, end: u32) -> Result<RawNet<'a>, Read
         skipped: rows.skipped,
         end_line: end,
     };
-    match Arc::new(alloc, part) {
-        Ok(part) => Ok(RawNet {
-            part,
-            demands,
-            demand_names: names.demands,
-        }),
+    match RawNet::new(alloc, part, demands, names.demands) {
+        Ok(net) => Ok(net),
         Err(_) => Err(ReadNetEnd::Memory),
     }
 }

@@ -9,12 +9,12 @@ ghost use Rattle.sndlib_grammar.specs.Reading.{scan, at_start};
 ghost use Rattle.sndlib_read.specs.Steps.{Steps, Keeps};
 ghost use Rattle.sndlib_read.specs.Views.{sofar_view};
 
-use crate::kept::{Kept, Word};
-use crate::refusal::ReadNetEnd;
+use crate::kept::Kept;
 use crate::sofar::Sofar;
 use sndlib_grammar::{
     Mode, NetKind, NetRefusal, Part, Token, TokenKind, Tokens, closed, named, opened,
 };
+use sndlib_rows::{ReadNetEnd, Word};
 use std::alloc::Global;
 
 fn refused(kind: NetKind, line: u32) -> ReadNetEnd

@@ -6,11 +6,13 @@ ghost use Rattle.sndlib_grammar.specs.Faults.{or_else, line_of, is_bad as is_bad
 ghost use Rattle.sndlib_grammar.specs.Reading.{at_start, demand_of};
 ghost use Rattle.sndlib_read.specs.Stored.{partial, add_node, add_link, add_demand, add_module, link_from, put_left, put_right, put_word};
 ghost use Rattle.std.specs.Prelude.{◌≤◌};
-ghost use Rattle.sndlib_read.specs.Views.{sofar_view, draft_view, demand_view, link_view, word_view, slices_view, kept_view};
+ghost use Rattle.sndlib_read.specs.Views.{sofar_view, draft_view, demand_view, kept_view};
+ghost use Rattle.sndlib_rows.specs.Views.{link_view, word_view, slices_view};
 
-use crate::kept::{DemandWords, Kept, LinkWords, NodeWords, Word};
+use crate::kept::{DemandWords, Kept};
 use mcf_limits::{MAX_DEMANDS, MAX_LINKS, MAX_NODES};
 use sndlib_grammar::{Mode, is_number};
+use sndlib_rows::{LinkWords, NodeWords, Word};
 use std::alloc::{AllocError, Global};
 use std::mem;
 

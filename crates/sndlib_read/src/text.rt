@@ -6,10 +6,10 @@ ghost use Rattle.sndlib_grammar.specs.Text.{header, read_of, tokens_of, end_of};
 ghost use Rattle.sndlib_read.specs.Steps.{Keeps};
 
 use crate::kept::Kept;
-use crate::refusal::ReadNetEnd;
 use crate::scan::scan_tokens;
 use mcf_limits::MAX_NET_BYTES;
 use sndlib_grammar::{NetKind, NetRefusal, Tokens, end_line};
+use sndlib_rows::ReadNetEnd;
 use std::alloc::Global;
 
 const HEADER: &[u8] = b"?SNDlib native format; type: network;";

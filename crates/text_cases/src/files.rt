@@ -5,7 +5,7 @@ ghost use Rattle.mcf_limits.specs.declared.TheConstants.{MAX_NET_BYTES};
 
 use anyhow::{Result, ensure};
 use mcf_limits::MAX_NET_BYTES;
-use sndlib_read::{NetKind, NetRefusal};
+use sndlib_rows::{NetKind, NetRefusal};
 use std::fs;
 
 /// The text of a network.

@@ -13,7 +13,7 @@ use crate::sizes::{unit_of, units_of_size};
 use crate::{LinkMode, NetOptions, Sign};
 use flow_model::Cell;
 use mcf_limits::MAX_DECIMALS;
-use sndlib_read::{LinkRow, NetKind, RawNet};
+use sndlib_rows::{LinkRow, NetKind, RawNet};
 use std::alloc::{AllocError, Global};
 
 // The cell of a link that goes that way.

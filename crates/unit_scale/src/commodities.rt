@@ -12,7 +12,7 @@ use crate::sizes::unit_of;
 use flow_model::Commodity;
 use mcf_limits::{MAX_DECIMALS, MAX_TOTAL, MAX_UNITS};
 use sndlib_grammar::is_number;
-use sndlib_read::{DemandRow, NetKind, RawNet};
+use sndlib_rows::{DemandRow, NetKind, RawNet};
 use std::alloc::{AllocError, Global};
 
 /// The commodities, the number of the demand of each, and how many demands were left out.

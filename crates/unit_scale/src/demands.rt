@@ -1,7 +1,7 @@
 //! The amounts of demands.
 
 ghost use Rattle.std.specs.Prelude.{◌≡◌, true, false, MatchOption};
-ghost use Rattle.sndlib_read.specs.RowViews.{demand_row_view};
+ghost use Rattle.sndlib_rows.specs.RowViews.{demand_row_view};
 ghost use Rattle.unit_scale.specs.Sizes.{is_fine_demand};
 ghost use Rattle.unit_scale.specs.Scaling.{first_line};
 ghost use Rattle.unit_scale.specs.Stages.{Stage, AreDemandSizes};
@@ -11,7 +11,7 @@ ghost use Rattle.unit_scale.specs.Seen.{seen_demand, seen_amount};
 use crate::refusal::{ScaleEnd, refused};
 use crate::short::{MILLIONTHS, MOST};
 use crate::sizes::{either, word_size};
-use sndlib_read::{DemandRow, NetKind, RawNet};
+use sndlib_rows::{DemandRow, NetKind, RawNet};
 use std::alloc::Global;
 
 /// The amount of a demand in millionths: itself where no number is over the limit, and else one of the same last `MAX_DECIMALS` digits.

@@ -6,7 +6,7 @@ ghost use Rattle.unit_scale.specs.Sizes.{is_fine, is_over, value, every_other, g
 ghost use Rattle.unit_scale.specs.Seen.{seen, seen_size, seen_link, bytes_of};
 ghost use Rattle.unit_scale.specs.Scaling.{first_line};
 ghost use Rattle.unit_scale.specs.Stages.{Stage, AreLinkSizes};
-ghost use Rattle.sndlib_read.specs.RowViews.{link_row_view};
+ghost use Rattle.sndlib_rows.specs.RowViews.{link_row_view};
 ghost use Rattle.sndlib_grammar.specs.declared.refusal.NetKind.TheVariants.{TooFine as TooFineIs};
 
 use crate::ModuleMode;
@@ -14,7 +14,7 @@ use crate::largest::largest;
 use crate::refusal::{ScaleEnd, refused};
 use crate::short::MOST;
 use crate::sizes::{either, word_size};
-use sndlib_read::{LinkRow, NetKind, RawNet};
+use sndlib_rows::{LinkRow, NetKind, RawNet};
 use std::alloc::Global;
 
 /// The capacity of a link in millionths: itself where no number is over the limit, and else one of the same last `MAX_DECIMALS` digits.

@@ -3,7 +3,7 @@
 ghost use Rattle.std.specs.Prelude.{◌≡◌};
 ghost use Rattle.unit_scale.specs.Sorts.{end_at};
 
-use sndlib_read::{NetKind, NetRefusal};
+use sndlib_rows::{NetKind, NetRefusal};
 
 /// Why rows give no network: they are refused, or memory ran out.
 #[derive(Clone, Copy, Debug, PartialEq, Eq)]

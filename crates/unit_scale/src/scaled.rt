@@ -12,7 +12,7 @@ use crate::links::link_sizes;
 use crate::refusal::{RowEnd, RowSort, ScaleEnd, at_row, refused};
 use crate::sizes::least_decimals;
 use flow_model::Net;
-use sndlib_read::{NetKind, RawNet};
+use sndlib_rows::{NetKind, RawNet};
 use std::alloc::Global;
 use std::marker::Model;
 

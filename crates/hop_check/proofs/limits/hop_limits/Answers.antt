@@ -4,7 +4,7 @@ use Rattle.std.proofs.lemmas.List.{take_all, length-map}
 use Rattle.mcf_limits.specs.declared.TheConstants.{MAX_HOPS}
 use Rattle.sndlib_grammar.specs.Rows.{NetDemand, demand_at}
 use Rattle.sndlib_grammar.specs.declared.refusal.NetKind.TheVariants.{HopTooFar}
-use Rattle.sndlib_read.specs.RowViews.{demand_row_view}
+use Rattle.sndlib_rows.specs.RowViews.{demand_row_view}
 use Rattle.unit_scale.specs.Scaling.{first_line, refused}
 use Rattle.hop_check.specs.Limits.{limit_of, is_far}
 use Rattle.hop_check.proofs.FarLimits.{far_by, near_by, map-more, All-push}

@@ -1,8 +1,8 @@
 use Rattle.std.proofs.Common.{◌≡◌, ℕ, ◌+◌, ◌∷◌, ◌++◌, [], List, Bor, Option, ap, sym, subst, ◌∙◌, map, drop, get_or}
 use Rattle.sndlib_grammar.specs.Grammar.{Word}
 use Rattle.sndlib_grammar.specs.Faults.{line_of, first_repeated}
-use Rattle.sndlib_read.specs.Views.{bytes_of}
-use Rattle.sndlib_read.proofs.Naming.{not_true, not_false, if_false}
+use Rattle.sndlib_rows.specs.Views.{bytes_of}
+use Rattle.sndlib_rows.proofs.Naming.{not_true, not_false, if_false}
 use Rattle.matrix_batch.specs.declared.list_refusal.ListKind.TheVariants.{Duplicate}
 use Rattle.matrix_batch.specs.declared.read_end.ReadListEnd.{ReadListEnd}
 use Rattle.matrix_batch.specs.Lists.{at_line}

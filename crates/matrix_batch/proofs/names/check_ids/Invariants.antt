@@ -1,6 +1,6 @@
 use Rattle.std.proofs.Common.{◌≡◌, [], map, drop}
 use Rattle.sndlib_grammar.specs.Faults.{first_repeated}
-use Rattle.sndlib_read.specs.Names.{names_of}
+use Rattle.sndlib_rows.specs.Names.{names_of}
 use Rattle.matrix_batch.specs.Stored.{demand_ids}
 use Rattle.matrix_batch.specs.ReadViews.{demand_view}
 use Rattle.matrix_batch.proofs.names.check_ids.Given as goal

@@ -1,7 +1,7 @@
 use Rattle.std.proofs.Common.{◌≡◌, ℕ, ◌+◌, ◌∷◌, ◌++◌, [], List, Bor, None, refl, ap, sym, subst, ◌∙◌, map, drop}
 use Rattle.sndlib_grammar.specs.Faults.{line_of, first_repeated}
-use Rattle.sndlib_read.specs.Views.{bytes_of}
-use Rattle.sndlib_read.proofs.Naming.{not_true, not_false, if_false}
+use Rattle.sndlib_rows.specs.Views.{bytes_of}
+use Rattle.sndlib_rows.proofs.Naming.{not_true, not_false, if_false}
 use Rattle.matrix_batch.specs.declared.list_refusal.ListKind.TheVariants.{Duplicate}
 use Rattle.matrix_batch.specs.Faults.{repeated}
 use Rattle.matrix_batch.specs.declared.kept.DemandWords.{DemandWords}

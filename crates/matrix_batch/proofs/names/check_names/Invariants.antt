@@ -1,5 +1,5 @@
 use Rattle.std.proofs.Common.{◌≡◌, [], map, drop}
-use Rattle.sndlib_read.specs.Names.{names_of}
+use Rattle.sndlib_rows.specs.Names.{names_of}
 use Rattle.matrix_batch.specs.Faults.{repeated}
 use Rattle.matrix_batch.specs.ReadViews.{entry_view}
 use Rattle.matrix_batch.proofs.names.check_names.Given as goal

@@ -1,6 +1,6 @@
 use Rattle.std.proofs.Common.{sym, ◌∙◌}
 use Rattle.sndlib_grammar.specs.Rows.{names_of_nodes}
-use Rattle.sndlib_read.proofs.RowAt.{source_unknown, target_unknown}
+use Rattle.sndlib_rows.proofs.RowAt.{source_unknown, target_unknown}
 use Rattle.matrix_batch.specs.ReadViews.{word_view}
 use Rattle.matrix_batch.proofs.Numbering.{both_known_row}
 use Rattle.matrix_batch.proofs.numbers.demand_row.Goals as goal

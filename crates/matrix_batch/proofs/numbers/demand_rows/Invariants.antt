@@ -1,7 +1,7 @@
 use Rattle.std.proofs.Common.{◌≡◌, drop, take, map}
 use Rattle.sndlib_grammar.specs.Faults.{first_of, unknown_of_demand}
 use Rattle.sndlib_grammar.specs.Rows.{names_of_nodes, net_demand}
-use Rattle.sndlib_read.specs.RowViews.{demand_row_view}
+use Rattle.sndlib_rows.specs.RowViews.{demand_row_view}
 use Rattle.matrix_batch.specs.ReadViews.{demand_view}
 use Rattle.matrix_batch.proofs.numbers.demand_rows.Given as goal
 

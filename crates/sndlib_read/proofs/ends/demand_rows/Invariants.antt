@@ -1,8 +1,8 @@
 use Rattle.std.proofs.Common.{◌≡◌, take, drop}
 use Rattle.std.specs.Prelude.{map}
 use Rattle.sndlib_grammar.specs.Faults.{first_of, unknown_of_demand}
-use Rattle.sndlib_read.specs.Names.{names_of}
-use Rattle.sndlib_read.specs.Parts.{row_of}
+use Rattle.sndlib_rows.specs.Names.{names_of}
+use Rattle.sndlib_read.specs.Ends.{row_of}
 use Rattle.sndlib_read.specs.Views.{demand_view}
 use Rattle.sndlib_read.proofs.ends.demand_rows.Given as goal
 

@@ -1,7 +1,7 @@
 use Rattle.std.proofs.Common.{sym, ◌∙◌}
-use Rattle.sndlib_read.proofs.RowAt.{source_unknown, target_unknown, both_known}
-use Rattle.sndlib_read.specs.Names.{names_of}
-use Rattle.sndlib_read.specs.Views.{word_view}
+use Rattle.sndlib_rows.proofs.RowAt.{source_unknown, target_unknown, both_known}
+use Rattle.sndlib_rows.specs.Names.{names_of}
+use Rattle.sndlib_rows.specs.Views.{word_view}
 use Rattle.sndlib_read.proofs.ends.ends_of.Goals as goal
 
 pub returns-in-None : goal.returns-in-None

@@ -1,9 +1,10 @@
 use Rattle.std.proofs.Common.{◌≡◌, take, drop}
 use Rattle.std.specs.Prelude.{map}
 use Rattle.sndlib_grammar.specs.Faults.{first_of}
-use Rattle.sndlib_read.specs.Numbering.{unknown_of_stored, link_ends_of}
-use Rattle.sndlib_read.specs.Names.{names_of}
-use Rattle.sndlib_read.specs.Views.{link_view}
+use Rattle.sndlib_read.specs.Numbering.{unknown_of_stored}
+use Rattle.sndlib_rows.specs.Numbering.{link_ends_of}
+use Rattle.sndlib_rows.specs.Names.{names_of}
+use Rattle.sndlib_rows.specs.Views.{link_view}
 use Rattle.sndlib_read.proofs.ends.link_ends.Given as goal
 
 abbrev pub invariant-loop-link : goal.invariant-loop-link

@@ -1,6 +1,6 @@
 use Rattle.std.proofs.Common.{◌≡◌, drop}
 use Rattle.std.specs.Prelude.{map}
-use Rattle.sndlib_read.specs.Views.{link_view}
+use Rattle.sndlib_rows.specs.Views.{link_view}
 use Rattle.sndlib_grammar.specs.Faults.{first_of}
 use Rattle.sndlib_read.specs.Numbering.{bad_of_stored}
 use Rattle.sndlib_read.proofs.faults.bad_in_links.Given as goal

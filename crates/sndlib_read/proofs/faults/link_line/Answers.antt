@@ -1,5 +1,5 @@
-use Rattle.sndlib_read.specs.Stored.{StoredLink}
-use Rattle.sndlib_read.specs.Views.{link_view}
+use Rattle.sndlib_rows.specs.Stored.{StoredLink}
+use Rattle.sndlib_rows.specs.Views.{link_view}
 use Rattle.sndlib_read.proofs.RowLines.{row_line, no_row_line}
 use Rattle.sndlib_read.proofs.faults.link_line.Goals as goal
 

@@ -1,5 +1,5 @@
-use Rattle.sndlib_read.specs.Stored.{StoredNode}
-use Rattle.sndlib_read.specs.Views.{node_view}
+use Rattle.sndlib_rows.specs.Stored.{StoredNode}
+use Rattle.sndlib_rows.specs.Views.{node_view}
 use Rattle.sndlib_read.proofs.RowLines.{row_line, no_row_line}
 use Rattle.sndlib_read.proofs.faults.node_line.Goals as goal
 

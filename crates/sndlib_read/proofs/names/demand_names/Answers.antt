@@ -3,8 +3,9 @@ use Rattle.std.proofs.Common.{List, refl, ap, subst, ◌∙◌}
 use Rattle.std.specs.Prelude.{map}
 use Rattle.sndlib_read.specs.declared.kept.DemandWords.{DemandWords}
 use Rattle.sndlib_grammar.specs.Grammar.{DemandEntry}
-use Rattle.sndlib_read.specs.Views.{word_view, demand_view}
-use Rattle.sndlib_read.specs.Names.{AreNamed}
+use Rattle.sndlib_read.specs.Views.{demand_view}
+use Rattle.sndlib_rows.specs.Views.{word_view}
+use Rattle.sndlib_rows.specs.Names.{AreNamed}
 use Rattle.sndlib_read.proofs.RowLines.{map-swap}
 use Rattle.sndlib_read.proofs.names.demand_names.Goals as goal
 

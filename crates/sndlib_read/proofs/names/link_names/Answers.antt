@@ -1,10 +1,10 @@
 use Rattle.sndlib_grammar.specs.Grammar.{Word}
 use Rattle.std.proofs.Common.{List, refl, ap, subst, ◌∙◌}
 use Rattle.std.specs.Prelude.{map}
-use Rattle.sndlib_read.specs.declared.kept.LinkWords.{LinkWords}
-use Rattle.sndlib_read.specs.Stored.{StoredLink}
-use Rattle.sndlib_read.specs.Views.{word_view, link_view}
-use Rattle.sndlib_read.specs.Names.{AreNamed}
+use Rattle.sndlib_rows.specs.declared.kept.LinkWords.{LinkWords}
+use Rattle.sndlib_rows.specs.Stored.{StoredLink}
+use Rattle.sndlib_rows.specs.Views.{word_view, link_view}
+use Rattle.sndlib_rows.specs.Names.{AreNamed}
 use Rattle.sndlib_read.proofs.RowLines.{map-swap}
 use Rattle.sndlib_read.proofs.names.link_names.Goals as goal
 

@@ -1,10 +1,10 @@
 use Rattle.sndlib_grammar.specs.Grammar.{Word}
 use Rattle.std.proofs.Common.{List, refl, ap, subst, ◌∙◌}
 use Rattle.std.specs.Prelude.{map}
-use Rattle.sndlib_read.specs.declared.kept.NodeWords.{NodeWords}
-use Rattle.sndlib_read.specs.Stored.{StoredNode}
-use Rattle.sndlib_read.specs.Views.{word_view, node_view}
-use Rattle.sndlib_read.specs.Names.{AreNamed}
+use Rattle.sndlib_rows.specs.declared.kept.NodeWords.{NodeWords}
+use Rattle.sndlib_rows.specs.Stored.{StoredNode}
+use Rattle.sndlib_rows.specs.Views.{word_view, node_view}
+use Rattle.sndlib_rows.specs.Names.{AreNamed}
 use Rattle.sndlib_read.proofs.RowLines.{map-swap}
 use Rattle.sndlib_read.proofs.names.node_names.Goals as goal
 

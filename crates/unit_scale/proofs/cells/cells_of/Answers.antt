@@ -1,6 +1,6 @@
 use Rattle.std.proofs.Common.{sym, refl, get_or}
 use Rattle.sndlib_grammar.specs.Rows.{link_at}
-use Rattle.sndlib_read.specs.RowViews.{link_row_view}
+use Rattle.sndlib_rows.specs.RowViews.{link_row_view}
 use Rattle.unit_scale.proofs.CellSteps.{cells_step, cells_found, no_size}
 use Rattle.unit_scale.proofs.cells.cells_of.Goals as goal
 

@@ -1,5 +1,5 @@
 use Rattle.std.proofs.Common.{◌+◌, get_or, refl, subst, sym}
-use Rattle.sndlib_read.specs.RowViews.{demand_row_view}
+use Rattle.sndlib_rows.specs.RowViews.{demand_row_view}
 use Rattle.unit_scale.specs.Stages.{KeptSofar, kept_view}
 use Rattle.unit_scale.proofs.Keeping.{InKept, kept_step, kept_found, no_amount}
 use Rattle.unit_scale.proofs.commodities.kept_demands.Goals as goal
