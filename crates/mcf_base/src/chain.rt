@@ -97,36 +97,3 @@ fn call<T, F: Fn(usize, &mut [T])>(work: &F, start: usize, chunk: &mut [T])
 {
     work(start, chunk);
 }
-
-#[cfg(test)]
-mod tests {
-    use super::*;
-
-    fn place(start: usize, part: &mut [usize]) {
-        for (k, x) in part.iter_mut().enumerate() {
-            *x = start.saturating_add(k);
-        }
-    }
-
-    #[test]
-    fn each_place_is_written_once(rt: HostRuntime) {
-        let mut places = [9usize; 10];
-        for_each_chunk_mut(
-            &rt,
-            &mut places,
-            3,
-            &|start: usize, part: &mut [usize]| { place(start, part) },
-        );
-        assert_eq!(rt;
-            places.as_slice(),
-            [0, 1, 2, 3, 4, 5, 6, 7, 8, 9].as_slice()
-        );
-        let mut none: [usize; 0] = [];
-        for_each_chunk_mut(
-            &rt,
-            &mut none,
-            3,
-            &|start: usize, part: &mut [usize]| { place(start, part) },
-        );
-    }
-}

@@ -1,5 +1,6 @@
 //! Whole runs in which a read or a write fails, room ends, a worker is held, or one line of a certificate is another; and tables of the
-//! commands that make something of a certificate: `upgrade`, `tighten`, `sweep`, and `sweepsolve` beside it.
+//! commands that make something of a certificate: `upgrade`, `tighten`, `sweep`, and `sweepsolve` beside it. Calls that are
+//! shared out among threads, as such runs make them.
 #![tactic(auto)]
 
 #[cfg(test)]
@@ -8,6 +9,8 @@ mod certificates;
 mod faults;
 #[cfg(test)]
 mod held_workers;
+#[cfg(test)]
+mod shared_calls;
 #[cfg(test)]
 mod sweep_solves;
 #[cfg(test)]
