@@ -11,7 +11,7 @@ use Rattle.cert_lines.specs.declared.refusal.CertRefusal.{CertRefusal}
 use Rattle.cert_lines.specs.Forms.{◌>>=◌, begins, is_full}
 use Rattle.cert_text.specs.Reading.{Place, at_line, has_more, line_from, next_line, rows_from, fixed_line, bytes_of, closing}
 use Rattle.cert_writer.specs.Text.{end_line}
-use Rattle.cert_judge.proofs.Steps.{bind_ok, done, ok_is, passed, at_ok}
+use Rattle.cert_text.proofs.Steps.{bind_ok, done, ok_is, passed, at_ok}
 use Rattle.cert_inverse.proofs.HeadTakes.{joined, fixed_takes}
 
 -- the bytes from one place on are those of the lines, and then those from the other place on

@@ -15,7 +15,7 @@ use Rattle.cert_lines.specs.HeadLines.{first_counts, last_counts, behind_net, fo
 use Rattle.cert_lines.specs.Spelling.{counts_words}
 use Rattle.cert_lines.proofs.NumberLaws.{number_takes}
 use Rattle.cert_lines.proofs.NumberSteps.{both_true}
-use Rattle.cert_judge.proofs.Steps.{bind_ok, done, ok_is, some_is, passed}
+use Rattle.cert_text.proofs.Steps.{bind_ok, done, ok_is, some_is, passed}
 use Rattle.cert_inverse.proofs.Words.{same_bytes, named_takes}
 
 -- the value of a step that is there

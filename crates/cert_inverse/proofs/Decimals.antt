@@ -19,7 +19,7 @@ use Rattle.cert_lines.specs.Forms.{◌>>=◌, stroke_parts, is_full}
 use Rattle.cert_lines.specs.Numbers.{number_within, is_micro, micro_value, decimal_within}
 use Rattle.cert_lines.proofs.NumberLaws.{number_takes, number_again}
 use Rattle.cert_lines.proofs.NumberSteps.{both_true, digit_at, digits_behind}
-use Rattle.cert_judge.proofs.Steps.{bind_ok, done, ok_is, passed}
+use Rattle.cert_text.proofs.Steps.{bind_ok, done, ok_is, passed}
 use Rattle.cert_inverse.proofs.Words.{full_word}
 
 pub full_number : (n : ℕ) → n ≤ MAX_PART → is_full (decimal n) ≡ true

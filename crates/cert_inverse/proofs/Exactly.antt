@@ -13,7 +13,7 @@ use Rattle.cert_text.specs.Reading.{Gives}
 use Rattle.cert_text.specs.Whole.{paper_in}
 use Rattle.cert_text.proofs.LineSteps.{text_bytes}
 use Rattle.cert_judge.specs.Fits.{FitsPaper, HasLinkWord, read}
-use Rattle.cert_judge.proofs.Steps.{ok_is}
+use Rattle.cert_text.proofs.Steps.{ok_is}
 use Rattle.cert_inverse.specs.Inverse.{AreInForms, AreCitable, IsCitable, IsTextOf, IsReading, form_said, paper_text}
 use Rattle.cert_inverse.proofs.TextAgain.{reads_back}
 use Rattle.cert_inverse.proofs.TextTakes.{is_read}

@@ -17,8 +17,8 @@ use Rattle.cert_lines.specs.HeadLines.{verdict_line, gap_line, phases_line, scal
 use Rattle.cert_lines.specs.Spelling.{verdict_words, gap_words, phases_words, scale_words, value_words}
 use Rattle.cert_lines.proofs.NumberLaws.{number_takes}
 use Rattle.cert_text.specs.Reading.{fixed_line, mode_line}
-use Rattle.cert_judge.proofs.Steps.{bind_ok, done, ok_is, some_is, passed}
-use Rattle.cert_judge.proofs.LineFits.{decimal_fits}
+use Rattle.cert_text.proofs.Steps.{bind_ok, done, ok_is, some_is, passed}
+use Rattle.cert_text.proofs.LineFits.{decimal_fits}
 use Rattle.cert_inverse.proofs.Words.{same_bytes, one_takes, two_takes}
 use Rattle.cert_inverse.proofs.Decimals.{decimal_takes, fraction_takes}
 

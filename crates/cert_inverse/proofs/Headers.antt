@@ -20,7 +20,7 @@ use Rattle.cert_text.specs.declared.opening.Opening.{Opening}
 use Rattle.cert_text.specs.Reading.{Place, has_more, bytes_of}
 use Rattle.cert_text.specs.Papers.{form_of, header_of, header, header_by}
 use Rattle.cert_writer.specs.Text.{end_line, from_counts, path_lines}
-use Rattle.cert_judge.proofs.Steps.{done, ok_is, passed}
+use Rattle.cert_text.proofs.Steps.{done, ok_is, passed}
 use Rattle.cert_inverse.specs.Inverse.{AreInForms, form_said, form_word, paper_text}
 use Rattle.cert_inverse.proofs.Words.{same_bytes}
 use Rattle.cert_inverse.proofs.HeadTakes.{joined}

@@ -15,7 +15,7 @@ use Rattle.cert_lines.specs.Numbers.{number_within}
 use Rattle.cert_lines.specs.Rows.{length_row, cells_from, path_row, potentials_from, of_that_many, potential_row}
 use Rattle.cert_lines.specs.Spelling.{length_words, potential_words, path_words}
 use Rattle.cert_lines.proofs.NumberLaws.{number_takes}
-use Rattle.cert_judge.proofs.Steps.{bind_ok, done, ok_is, some_is, passed}
+use Rattle.cert_text.proofs.Steps.{bind_ok, done, ok_is, some_is, passed}
 use Rattle.cert_inverse.proofs.Words.{place_takes, two_takes, list_takes, row_takes}
 
 length_number : (word : List ℕ) (n : ℕ) → number_within MAX_LENGTH word ≡ Ok n → word ≡ decimal n

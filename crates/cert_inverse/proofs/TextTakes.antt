@@ -25,7 +25,7 @@ use Rattle.cert_text.specs.Reading.{Place, next_line, mode_line, rows_from, byte
 use Rattle.cert_text.specs.Papers.{modes_at, scale_at, opening_at, counted_at, values_at, dual_at, routing_at, routing_from, proof_at, proof_from, header}
 use Rattle.cert_text.specs.Whole.{paper_at, paper_in}
 use Rattle.cert_writer.specs.Text.{end_line}
-use Rattle.cert_judge.proofs.Steps.{bind_ok, done, ok_is}
+use Rattle.cert_text.proofs.Steps.{bind_ok, done, ok_is}
 use Rattle.cert_judge.proofs.PaperFits.{WordedFits, paper_ok}
 use Rattle.cert_inverse.specs.Inverse.{AreInForms, form_said, form_word, kind_of, paper_text}
 use Rattle.cert_inverse.proofs.Headers.{header_words, forms_are, header_take, header_said}

@@ -22,7 +22,7 @@ use Rattle.cert_text.proofs.FirstLines.{certificate_known, head_header, known_he
 use Rattle.cert_judge.specs.Chain.{AreStages}
 use Rattle.cert_judge.specs.Papers.{options_of, nothing_more, rest_on, paper_on, IsReadOf}
 use Rattle.cert_judge.proofs.Stages.{read_stages, stages_read}
-use Rattle.cert_judge.proofs.Steps.{bind_ok, done, ok_is}
+use Rattle.cert_text.proofs.Steps.{bind_ok, done, ok_is}
 
 differ : (p : Proof) (r : RoutingIs) → Full p ≡ Routing r → ⊥
 differ p r e = cc

@@ -1,10 +1,8 @@
 pub mod Fitting
 pub mod Judgements
 pub mod KnownHeaders
-pub mod LineFits
 pub mod NewFits
 pub mod PaperFacts
 pub mod PaperFits
 pub mod Seconds
 pub mod Stages
-pub mod Steps

@@ -31,8 +31,8 @@ use Rattle.cert_text.specs.Papers.{modes_at, scale_at, opening_at, counted_at, v
 use Rattle.cert_text.specs.Whole.{paper_at, paper_in}
 use Rattle.cert_writer.specs.Text.{FitsRouting, FitsProof}
 use Rattle.cert_judge.specs.Fits.{FitsForm, FitsPaper, HasLinkWord}
-use Rattle.cert_judge.proofs.Steps.{bind_ok, done, ok_is, some_is, passed, next_fits, rows_fit}
-use Rattle.cert_judge.proofs.LineFits.{gap_fits, phases_fit, scale_fits, value_fits, length_fits, path_fits, potential_fits}
+use Rattle.cert_text.proofs.Steps.{bind_ok, done, ok_is, some_is, passed, next_fits, rows_fit}
+use Rattle.cert_text.proofs.LineFits.{gap_fits, phases_fit, scale_fits, value_fits, length_fits, path_fits, potential_fits}
 
 abbrev Scale : Type 0
 Scale = ℕ × (ℕ × ℕ)

@@ -35,7 +35,7 @@ use Rattle.cert_judge.specs.Second.{IsSecondText, ReadsOn, SecondsAreOfOneNetwor
 use Rattle.cert_judge.proofs.KnownHeaders.{certificate_both, no_routing}
 use Rattle.cert_judge.proofs.PaperFacts.{paper_of, says_modes, scaled_options}
 use Rattle.cert_judge.proofs.Stages.{read_stages, stages_read}
-use Rattle.cert_judge.proofs.Steps.{bind_ok, done, ok_is}
+use Rattle.cert_text.proofs.Steps.{bind_ok, done, ok_is}
 
 -- ---- modes
 

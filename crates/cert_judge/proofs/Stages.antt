@@ -8,7 +8,7 @@ use Rattle.cert_lines.specs.declared.refusal.CertRefusal.{CertRefusal}
 use Rattle.cert_lines.specs.Forms.{◌>>=◌}
 use Rattle.cert_judge.specs.declared.refusal.Refusal.{Refusal}
 use Rattle.cert_judge.specs.Chain.{of_net, of_text, unless, read_on, IsSaid, AreStages}
-use Rattle.cert_judge.proofs.Steps.{bind_ok, done, ok_is}
+use Rattle.cert_text.proofs.Steps.{bind_ok, done, ok_is}
 
 net_ok : {A : Type 0} (r : Result A NetRefusal) (x : A) → of_net r ≡ Ok x → r ≡ Ok x
 net_ok (Ok y) x e = ap (λ z. Ok z) (ok_is {E = Refusal} y x e)

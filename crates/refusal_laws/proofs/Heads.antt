@@ -27,7 +27,7 @@ use Rattle.cert_text.specs.Reading.{Place, next_line, bytes_of, has_more}
 use Rattle.cert_text.specs.Papers.{header}
 use Rattle.cert_text.specs.Whole.{mode_in, link_mode_line, module_mode_line, verdict_at, modes_behind, said_head, opened_by, head_by, head_in}
 use Rattle.cert_text.proofs.LineSteps.{text_bytes, has_line}
-use Rattle.cert_judge.proofs.Steps.{bind_ok, some_is}
+use Rattle.cert_text.proofs.Steps.{bind_ok, some_is}
 use Rattle.cert_inverse.specs.Inverse.{form_word, link_word_in, read_head}
 use Rattle.cert_inverse.proofs.Words.{same_bytes, one_takes}
 use Rattle.cert_inverse.proofs.Clean.{clean}

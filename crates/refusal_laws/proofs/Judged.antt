@@ -25,7 +25,7 @@ use Rattle.cert_judge.specs.declared.refusal.Refusal.{Refusal}
 use Rattle.cert_judge.specs.Papers.{options_of, nothing_more, rest_on}
 use Rattle.cert_judge.specs.Chain.{of_net, of_text, unless, read_on, IsSaid}
 use Rattle.cert_judge.specs.Judgement.{IsSaidOf, OnPaper, IsJudgement, refused as said_refusal}
-use Rattle.cert_judge.proofs.Steps.{bind_ok, ok_is, next_fits}
+use Rattle.cert_text.proofs.Steps.{bind_ok, ok_is, next_fits}
 use Rattle.cert_inverse.specs.Inverse.{form_said}
 use Rattle.cert_inverse.proofs.Headers.{header_said}
 use Rattle.cert_inverse.proofs.NetworkWords.{citable_both, is_scaled}

@@ -10,7 +10,7 @@ use Rattle.cert_lines.specs.declared.refusal.CertRefusal.{CertRefusal}
 use Rattle.cert_lines.specs.Forms.{◌>>=◌, begins, is_full}
 use Rattle.cert_text.specs.Reading.{Place, at_line, has_more, line_from, next_line, rows_from, fixed_line, bytes_of, closing}
 use Rattle.cert_writer.specs.Text.{end_line}
-use Rattle.cert_judge.proofs.Steps.{next_fits}
+use Rattle.cert_text.proofs.Steps.{next_fits}
 use Rattle.cert_inverse.proofs.HeadTakes.{joined, fixed_takes}
 use Rattle.cert_inverse.proofs.Between.{text_of-both, first_line, next_between}
 use Rattle.refusal_laws.proofs.Steps.{done, Is, then_is, is_more}

@@ -18,7 +18,7 @@ use Rattle.cert_lines.specs.Spelling.{verdict_words, links_words, modules_words,
 use Rattle.cert_text.specs.Reading.{Place, next_line, mode_line, rows_from, closing}
 use Rattle.cert_text.specs.Papers.{modes_at, scale_at, opening_at, values_at, dual_at, routing_at, proof_at, routing_from, proof_from, counted_at}
 use Rattle.cert_writer.specs.Text.{end_line, FitsRouting, FitsProof}
-use Rattle.cert_judge.proofs.LineFits.{gap_fits, phases_fit, scale_fits, value_fits, length_fits, path_fits, potential_fits}
+use Rattle.cert_text.proofs.LineFits.{gap_fits, phases_fit, scale_fits, value_fits, length_fits, path_fits, potential_fits}
 use Rattle.cert_inverse.proofs.HeadTakes.{joined, verdict_takes, mode_takes, gap_takes, phases_takes, scale_takes, value_takes}
 use Rattle.cert_inverse.proofs.CountTakes.{counts_take}
 use Rattle.cert_inverse.proofs.RowTakes.{path_takes, length_takes, potential_takes}

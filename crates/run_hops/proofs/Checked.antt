@@ -37,8 +37,8 @@ use Rattle.hop_check.specs.Conditions.{HopHolds}
 use Rattle.hop_check.specs.Limits.{limits_of}
 use Rattle.run_texts.specs.Heads.{header_at, run_head}
 use Rattle.run_texts.specs.HopsText.{hops_text, hops_lines, from_figures, FitsHops}
-use Rattle.run_texts.proofs.CleanLines.{hops_clean}
-use Rattle.run_texts.proofs.TextsAgain.{hops_read_back}
+use Rattle.run_inverse.proofs.CleanLines.{hops_clean}
+use Rattle.run_inverse.proofs.TextsAgain.{hops_read_back}
 use Rattle.run_hops.specs.Check.{SaysHops, too_far, rest_of}
 use Rattle.net_solve.specs.Asked.{turn_options_for}
 use Rattle.run_hops.specs.Laws.{SolvedHopsCheck, valid_of}

@@ -36,8 +36,8 @@ use Rattle.throughput.specs.declared.part_proof.PartProof.{PartProof}
 use Rattle.throughput.specs.Conditions.{PartHolds}
 use Rattle.run_texts.specs.Heads.{header_at, run_head}
 use Rattle.run_texts.specs.PartText.{part_text, part_lines, from_totals, FitsPart}
-use Rattle.run_texts.proofs.CleanLines.{part_clean}
-use Rattle.run_texts.proofs.TextsAgain.{part_read_back}
+use Rattle.run_inverse.proofs.CleanLines.{part_clean}
+use Rattle.run_inverse.proofs.TextsAgain.{part_read_back}
 use Rattle.run_parts.specs.Check.{SaysPart, rest_of}
 use Rattle.net_solve.specs.Asked.{turn_options_for}
 use Rattle.run_parts.specs.Laws.{SolvedPartsCheck, valid_of}

@@ -1,9 +1,4 @@
-pub mod CleanLines
-pub mod Exactly
-pub mod Fitting
-pub mod HopsTakes
-pub mod LayerLaws
-pub mod PartTakes
-pub mod PartsTake
-pub mod TextsAgain
+pub mod HopsFit
+pub mod PartFits
+pub mod PartsFit
 pub mod Writable

@@ -1,7 +1,7 @@
 -- A certificate with hop limits, read line by line with the first fault that is met.
-use Rattle.std.specs.Prelude.{◌≡◌, ◌↔◌, ℕ, Bool, List, length, Option, Some, None, Result, Ok, nat_eq, codes, if◌then◌else◌}
+use Rattle.std.specs.Prelude.{ℕ, Bool, List, length, Option, Some, None, Result, Ok, nat_eq, codes, if◌then◌else◌}
 use Rattle.mcf_limits.specs.declared.TheConstants.{MAX_HOPS}
-use Rattle.text_lines.specs.Lines.{Line, lines_of}
+use Rattle.text_lines.specs.Lines.{Line}
 use Rattle.cert_lines.specs.Sheet.{Sheet, place_of}
 use Rattle.cert_lines.specs.declared.refusal.CertKind.{CertKind}
 use Rattle.cert_lines.specs.declared.refusal.CertKind.TheVariants.{Syntax, UnknownName}
@@ -11,12 +11,10 @@ use Rattle.cert_lines.specs.Numbers.{number_within}
 use Rattle.cert_lines.specs.Rows.{potentials_from}
 use Rattle.cert_text.specs.Reading.{Place, rows_at, closing}
 use Rattle.cert_text.specs.Papers.{opening_at, scale_at, values_at}
-use Rattle.cert_inverse.specs.Inverse.{IsCitable}
 use Rattle.hop_check.specs.LayerRows.{Layer}
 use Rattle.hop_check.specs.declared.hop_proof.HopProof.{HopProof}
 use Rattle.run_texts.specs.Heads.{header_at}
 use Rattle.run_texts.specs.Rows.{flows_at}
-use Rattle.run_texts.specs.HopsText.{hops_text, FitsHops}
 
 -- the parts of a row behind two words, where that many words follow
 abbrev pub with_count : ℕ → Option (List ℕ × List ℕ × Line) → Option (List ℕ × List ℕ × Line)
@@ -58,13 +56,3 @@ hops_in sheet lines = do
   place ← header_at (codes "mcf-hops 1") lines
   opening ← opening_at sheet place
   hops_from sheet opening
-
--- a text is read as a certificate exactly where it is that certificate's text, within the limits
-abbrev pub HopsAreRead : Type 0
-HopsAreRead = (sheet : Sheet) (text : List ℕ) (h : HopProof) → IsCitable sheet
-    → (hops_in sheet (lines_of text) ≡ Ok h) ↔ (FitsHops sheet h × (text ≡ hops_text sheet h))
-
--- two certificates of one text are equal
-abbrev pub HopTextsAreUnique : Type 0
-HopTextsAreUnique = (sheet : Sheet) (h other : HopProof) → IsCitable sheet → FitsHops sheet h
-    → FitsHops sheet other → hops_text sheet h ≡ hops_text sheet other → h ≡ other

@@ -1,7 +1,6 @@
 pub mod Heads
 pub mod HopsRead
 pub mod HopsText
-pub mod OfNetwork
 pub mod PartRead
 pub mod PartText
 pub mod Rows

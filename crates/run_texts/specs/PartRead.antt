@@ -1,8 +1,8 @@
 -- A certificate of a total, read line by line with the first fault that is met.
-use Rattle.std.specs.Prelude.{◌≡◌, ◌↔◌, ℕ, Bool, List, Result, Ok, codes}
+use Rattle.std.specs.Prelude.{ℕ, Bool, List, Result, Ok, codes}
 use Rattle.mcf_limits.specs.declared.TheConstants.{MAX_LENGTH}
 use Rattle.gap_fraction.specs.declared.fraction.TheConstants.{MAX_PART}
-use Rattle.text_lines.specs.Lines.{Line, lines_of}
+use Rattle.text_lines.specs.Lines.{Line}
 use Rattle.flow_paths.specs.declared.certificate.Printed.{Printed}
 use Rattle.cert_lines.specs.Sheet.{Sheet}
 use Rattle.cert_lines.specs.declared.refusal.CertKind.{CertKind}
@@ -13,11 +13,9 @@ use Rattle.cert_lines.specs.Numbers.{number_within}
 use Rattle.cert_lines.specs.HeadLines.{value_line}
 use Rattle.cert_text.specs.Reading.{Place, next_line, closing}
 use Rattle.cert_text.specs.Papers.{opening_at, scale_at}
-use Rattle.cert_inverse.specs.Inverse.{IsCitable}
 use Rattle.throughput.specs.declared.part_proof.PartProof.{PartProof}
 use Rattle.run_texts.specs.Heads.{header_at}
 use Rattle.run_texts.specs.Rows.{flows_at}
-use Rattle.run_texts.specs.PartText.{part_text, FitsPart}
 
 -- `threshold` and a number
 unfoldable pub threshold_line : Line → Result ℕ CertKind
@@ -55,13 +53,3 @@ part_in sheet lines = do
   place ← header_at (codes "mcf-throughput 1") lines
   opening ← opening_at sheet place
   part_from sheet opening
-
--- a text is read as a certificate exactly where it is that certificate's text, within the limits
-abbrev pub PartsAreRead : Type 0
-PartsAreRead = (sheet : Sheet) (text : List ℕ) (p : PartProof) → IsCitable sheet
-    → (part_in sheet (lines_of text) ≡ Ok p) ↔ (FitsPart sheet p × (text ≡ part_text sheet p))
-
--- two certificates of one text are equal
-abbrev pub PartTextsAreUnique : Type 0
-PartTextsAreUnique = (sheet : Sheet) (p other : PartProof) → IsCitable sheet → FitsPart sheet p
-    → FitsPart sheet other → part_text sheet p ≡ part_text sheet other → p ≡ other

@@ -5,7 +5,6 @@ mod head_writer;
 mod heads;
 mod hops_reader;
 mod hops_writer;
-mod laws;
 mod layer_rows;
 mod part_reader;
 mod part_writer;
@@ -14,9 +13,5 @@ mod rows;
 pub use heads::{hops_head, part_head};
 pub use hops_reader::read_hops_text;
 pub use hops_writer::write_hops;
-pub use laws::{
-    hop_texts_are_unique, hops_are_of_the_network, hops_are_read, part_texts_are_unique,
-    parts_are_of_the_network, parts_are_read,
-};
 pub use part_reader::read_part_text;
 pub use part_writer::write_part;

@@ -1,5 +1,5 @@
 use Rattle.text_lines.specs.Lines.{lines_of}
-use Rattle.run_texts.proofs.Exactly.{hops_given}
+use Rattle.run_texts.proofs.HopsFit.{hops_given}
 use Rattle.run_texts.proofs.hops_reader.read_hops_text.Goals as goal
 
 pub returns-clause-fits : goal.returns-clause-fits

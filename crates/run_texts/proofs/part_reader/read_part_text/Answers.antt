@@ -1,5 +1,5 @@
 use Rattle.text_lines.specs.Lines.{lines_of}
-use Rattle.run_texts.proofs.Exactly.{part_given}
+use Rattle.run_texts.proofs.PartFits.{part_given}
 use Rattle.run_texts.proofs.part_reader.read_part_text.Goals as goal
 
 pub returns-clause-fits : goal.returns-clause-fits

@@ -1,5 +1,5 @@
--- Layer rows and thresholds: what is read was spelled so, within the limits, and what is spelled is read.
-use Rattle.std.proofs.Common.{◌≡◌, ℕ, ◌+◌, ◌≤◌, Bool, true, false, cond, List, [], ◌∷◌, length, get_or, Option, Some, None, Ok, refl, ap, subst, ◌∙◌, arith}
+-- Layer rows and thresholds: what is read was spelled so, and what is spelled is read.
+use Rattle.std.proofs.Common.{◌≡◌, ℕ, ◌≤◌, true, List, [], ◌∷◌, length, get_or, Ok, refl, ap, ◌∙◌, arith}
 use Rattle.std.specs.Prelude.{codes, nat_eq, map}
 use Rattle.std.specs.List.{AllByRecursion, list_all}
 use Rattle.std.specs.Fmt.{decimal}
@@ -15,8 +15,7 @@ use Rattle.cert_lines.specs.Numbers.{number_within}
 use Rattle.cert_lines.specs.Rows.{potentials_from}
 use Rattle.cert_lines.specs.Spelling.{IsClear}
 use Rattle.cert_lines.proofs.NumberLaws.{number_takes, number_again}
-use Rattle.cert_judge.proofs.Steps.{bind_ok, done, ok_is, some_is, place_within}
-use Rattle.cert_judge.proofs.LineFits.{number_fits, values_fit}
+use Rattle.cert_text.proofs.Steps.{bind_ok, done, ok_is, some_is}
 use Rattle.cert_inverse.proofs.Words.{place_takes, place_again, full_name, one_takes, one_again, row_takes, row_again}
 use Rattle.cert_inverse.proofs.Decimals.{full_number}
 use Rattle.hop_check.specs.LayerRows.{Layer}
@@ -24,6 +23,7 @@ use Rattle.run_texts.specs.HopsText.{layer_words, FitsLayer}
 use Rattle.run_texts.specs.HopsRead.{with_count, layer_row}
 use Rattle.run_texts.specs.PartText.{threshold_words}
 use Rattle.run_texts.specs.PartRead.{threshold_line}
+use Rattle.run_texts.proofs.PartsFit.{of_count}
 
 -- ---- thresholds
 
@@ -34,35 +34,14 @@ threshold_takes line n e =
     one_takes (codes "threshold") line a.0 (some_is Syntax (one_behind (codes "threshold") line) a.0 a.1)
     ∙ ap (λ (w : List ℕ). codes "threshold" ∷ w ∷ []) (number_takes MAX_LENGTH a.0 n (omega arith) a.2).0
 
-pub threshold_fits : (line : Line) (n : ℕ) → threshold_line line ≡ Ok n → n ≤ MAX_LENGTH
-unfolding threshold_line
-threshold_fits line n e =
-    let a = bind_ok (or_fault Syntax (one_behind (codes "threshold") line)) (λ word. number_within MAX_LENGTH word) n e in
-    number_fits MAX_LENGTH a.0 n a.2
-
 pub threshold_again : (n : ℕ) → n ≤ MAX_LENGTH → threshold_line (threshold_words n) ≡ Ok n
 unfolding threshold_line
 threshold_again n le = rw (one_again (codes "threshold") (decimal n) (full_number n (omega arith))) (number_again MAX_LENGTH n (omega arith) le)
 
 -- ---- layers
 
-same : (x y : ℕ) → nat_eq x y ≡ true → x ≡ y
-same x y h = grind (arith, nat_tests)
-
 equal : (a b : ℕ) → a ≡ b → nat_eq a b ≡ true
 equal a b e = grind (arith, nat_tests)
-
-abbrev Parts : Type 0
-Parts = List ℕ × List ℕ × Line
-
--- parts of which that many words follow are parts, and that many words follow
-of_count : (count : ℕ) (o : Option Parts) (parts : Parts) → with_count count o ≡ Some parts → (o ≡ Some parts) × (length parts.2 ≡ count)
-of_count count None parts e = absurd cc
-of_count count (Some p) parts e = by (nat_eq (length p.2) count) refl e
-  where
-    by : (b : Bool) → nat_eq (length p.2) count ≡ b → cond b (Some p) None ≡ Some parts → (Some p ≡ Some parts) × (length parts.2 ≡ count)
-    by true h k = let q : p ≡ parts = cc in (k, subst (λ (z : Parts). length z.2 ≡ count) q (same (length p.2) count h))
-    by false h k = absurd cc
 
 values_take : (words : Line) (values : List ℕ) → potentials_from words ≡ Ok values → words ≡ map decimal values
 unfolding potentials_from
@@ -74,13 +53,9 @@ values_take (word ∷ words) values e =
     ∙ ap (λ (ws : Line). decimal a.0 ∷ ws) (values_take words b.0 b.1)
     ∙ ap (map decimal) (ok_is {E = CertKind} (a.0 ∷ b.0) values b.2)
 
--- the line is that row's, which is within its limits
-abbrev IsLayerLine : Sheet → Line → Layer → Type 0
-IsLayerLine sheet line r = (line ≡ layer_words sheet r) × FitsLayer sheet r
-
-layer_is : (sheet : Sheet) (line : Line) (r : Layer) → layer_row sheet line ≡ Ok r → IsLayerLine sheet line r
+pub layer_takes : (sheet : Sheet) (line : Line) (r : Layer) → layer_row sheet line ≡ Ok r → line ≡ layer_words sheet r
 unfolding layer_row
-layer_is sheet line r e =
+layer_takes sheet line r e =
     let form = with_count (length sheet.nodes) (row_behind (codes "layer") line) in
     let made = λ (n i : ℕ) (vs : List ℕ). done {A = Layer} {E = CertKind} (record { node = n; index = i; values = vs }) in
     let a = bind_ok (or_fault Syntax form) (λ parts. or_fault UnknownName (place_of sheet.nodes parts.0) >>= λ n. number_within MAX_HOPS parts.1 >>= λ i. potentials_from parts.2 >>= λ vs. made n i vs) r e in
@@ -89,20 +64,11 @@ layer_is sheet line r e =
     let f = bind_ok (potentials_from a.0.2) (λ vs. made b.0 d.0 vs) r d.2 in
     let parts = of_count (length sheet.nodes) (row_behind (codes "layer") line) a.0 (some_is Syntax form a.0 a.1) in
     let named = some_is UnknownName (place_of sheet.nodes a.0.0) b.0 b.1 in
-    let v = values_fit a.0.2 f.0 f.1 in
-    subst (IsLayerLine sheet line) (ok_is {E = CertKind} (record { node = b.0; index = d.0; values = f.0 }) r f.2) (
-      row_takes (codes "layer") line a.0 parts.0
-          ∙ ap (λ (w : List ℕ). codes "layer" ∷ w ∷ a.0.1 ∷ a.0.2) (place_takes sheet.nodes a.0.0 b.0 named)
-          ∙ ap (λ (w : List ℕ). codes "layer" ∷ node_word sheet b.0 ∷ w ∷ a.0.2) (number_takes MAX_HOPS a.0.1 d.0 (omega arith) d.1).0
-          ∙ ap (λ (ws : Line). codes "layer" ∷ node_word sheet b.0 ∷ decimal d.0 ∷ ws) (values_take a.0.2 f.0 f.1),
-      record { node = place_within sheet.nodes a.0.0 b.0 named; index = number_fits MAX_HOPS a.0.1 d.0 d.1; count = v.0 ∙ parts.1; values = v.1 },
-    )
-
-pub layer_takes : (sheet : Sheet) (line : Line) (r : Layer) → layer_row sheet line ≡ Ok r → line ≡ layer_words sheet r
-layer_takes sheet line r e = (layer_is sheet line r e).0
-
-pub layer_fits : (sheet : Sheet) (line : Line) (r : Layer) → layer_row sheet line ≡ Ok r → FitsLayer sheet r
-layer_fits sheet line r e = (layer_is sheet line r e).1
+    row_takes (codes "layer") line a.0 parts.0
+    ∙ ap (λ (w : List ℕ). codes "layer" ∷ w ∷ a.0.1 ∷ a.0.2) (place_takes sheet.nodes a.0.0 b.0 named)
+    ∙ ap (λ (w : List ℕ). codes "layer" ∷ node_word sheet b.0 ∷ w ∷ a.0.2) (number_takes MAX_HOPS a.0.1 d.0 (omega arith) d.1).0
+    ∙ ap (λ (ws : Line). codes "layer" ∷ node_word sheet b.0 ∷ decimal d.0 ∷ ws) (values_take a.0.2 f.0 f.1)
+    ∙ ap (layer_words sheet) (ok_is {E = CertKind} (record { node = b.0; index = d.0; values = f.0 }) r f.2)
 
 full_values : (values : List ℕ) → AllByRecursion (λ n. n ≤ MAX_LENGTH) values → list_all is_full (map decimal values) ≡ true
 full_values [] h = refl

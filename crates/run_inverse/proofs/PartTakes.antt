@@ -1,4 +1,4 @@
--- Certificates of a total: what is read was spelled so, within the limits.
+-- Certificates of a total: what is read was spelled so.
 use Rattle.std.proofs.Common.{◌≡◌, ℕ, Bool, List, [], ◌∷◌, ◌++◌, Ok, refl, sym, ap, subst, ◌∙◌, append_assoc}
 use Rattle.std.specs.Prelude.{codes, map}
 use Rattle.std.proofs.lemmas.List.Concat.{flat_map-cons}
@@ -10,25 +10,17 @@ use Rattle.cert_lines.specs.Spelling.{length_words, potential_words, path_words}
 use Rattle.cert_text.specs.Reading.{Place, bytes_of, closing}
 use Rattle.cert_text.specs.Papers.{scale_at, opening_at}
 use Rattle.cert_writer.specs.Text.{end_line}
-use Rattle.cert_judge.proofs.Steps.{bind_ok, done, ok_is}
+use Rattle.cert_text.proofs.Steps.{bind_ok, done, ok_is}
 use Rattle.cert_inverse.proofs.Between.{closing_takes}
 use Rattle.cert_inverse.proofs.TextTakes.{Scale, scale_lines, scale_take, opened_lines, opening_take, goes_to}
 use Rattle.throughput.specs.declared.part_proof.PartProof.{PartProof}
 use Rattle.run_texts.specs.Heads.{head_lines, header_at}
 use Rattle.run_texts.specs.Rows.{flows_at}
-use Rattle.run_texts.specs.PartText.{total_lines, part_text, FitsPart}
+use Rattle.run_texts.specs.PartText.{total_lines, part_text}
 use Rattle.run_texts.specs.PartRead.{totals_at, part_from, part_in}
-use Rattle.run_texts.proofs.PartsTake.{Flows, flow_lines, flows_take, Totals, totals_lines, totals_take, header_take, scale_ok, opening_ok}
-
-abbrev made : Bool × ℕ → Scale → Totals → Flows → PartProof
-made o s v f = record {
-  closed = o.0;
-  gap = o.1;
-  routing = record { phases = s.0; scale_cap = s.1.0; scale_load = s.1.1; paths = f.0 };
-  lower = v.0;
-  upper = v.1;
-  bound = record { threshold = v.2; dual = f.1 };
-}
+use Rattle.run_texts.proofs.PartsFit.{Flows, Totals}
+use Rattle.run_texts.proofs.PartFits.{made}
+use Rattle.run_inverse.proofs.PartsTake.{flow_lines, flows_take, totals_lines, totals_take, header_take}
 
 -- the lines behind the first
 abbrev behind_header : Sheet → PartProof → List Line
@@ -36,10 +28,9 @@ behind_header sheet p =
     opened_lines sheet (p.closed, p.gap) ++ (scale_lines (p.routing.phases, (p.routing.scale_cap, p.routing.scale_load)) ++ (totals_lines (p.lower, p.upper, p.bound.threshold)
     ++ (flow_lines sheet (p.routing.paths, p.bound.dual) ++ end_line ∷ [])))
 
--- within the limits, and spelled so behind the header
-record IsBehind (sheet : Sheet) (place : Place) (p : PartProof) : Type 0 where
-  fits : FitsPart sheet p
-  bytes : bytes_of place.rest ≡ text_of (behind_header sheet p)
+-- spelled so behind the header
+abbrev IsBehind : Sheet → Place → PartProof → Type 0
+IsBehind sheet place p = bytes_of place.rest ≡ text_of (behind_header sheet p)
 
 part_behind : (sheet : Sheet) (place : Place) (p : PartProof) → (opening_at sheet place >>= part_from sheet) ≡ Ok p → IsBehind sheet place p
 unfolding part_from
@@ -50,26 +41,14 @@ part_behind sheet place p e =
     let c = bind_ok (totals_at b.0.1) (λ totals. flows_at sheet totals.1 >>= λ flows. closing flows.1 >>= λ last. end a.0.0 b.0.0 totals.0 flows.0) p b.2 in
     let d = bind_ok (flows_at sheet c.0.1) (λ flows. closing flows.1 >>= λ last. end a.0.0 b.0.0 c.0.0 flows.0) p c.2 in
     let g = bind_ok (closing d.0.1) (λ last. end a.0.0 b.0.0 c.0.0 d.0.0) p d.2 in
-    let s = scale_ok a.0.1 b.0 b.1 in
     let v = totals_take b.0.1 c.0 c.1 in
     let flows = flows_take sheet c.0.1 d.0 d.1 in
     let last : List Line = end_line ∷ [] in
-    let from_flows = goes_to (flow_lines sheet d.0.0) last c.0.1 d.0.1 flows.between (closing_takes d.0.1 g.0 g.1) in
-    let from_totals = goes_to (totals_lines c.0.0) (flow_lines sheet d.0.0 ++ last) b.0.1 c.0.1 v.between from_flows in
+    let from_flows = goes_to (flow_lines sheet d.0.0) last c.0.1 d.0.1 flows (closing_takes d.0.1 g.0 g.1) in
+    let from_totals = goes_to (totals_lines c.0.0) (flow_lines sheet d.0.0 ++ last) b.0.1 c.0.1 v from_flows in
     let from_scale = goes_to (scale_lines b.0.0) (totals_lines c.0.0 ++ (flow_lines sheet d.0.0 ++ last)) a.0.1 b.0.1 (scale_take a.0.1 b.0 b.1) from_totals in
     let from_opening = goes_to (opened_lines sheet a.0.0) (scale_lines b.0.0 ++ (totals_lines c.0.0 ++ (flow_lines sheet d.0.0 ++ last))) place a.0.1 (opening_take sheet place a.0 a.1) from_scale in
-    subst (IsBehind sheet place) (ok_is {E = CertRefusal} (made a.0.0 b.0.0 c.0.0 d.0.0) p g.2) (record {
-      fits = record {
-        gap = opening_ok sheet place a.0 a.1;
-        routing = record { phases = s.0; scale_cap = s.1; scale_load = s.2; paths = flows.paths };
-        lower = v.lower;
-        upper = v.upper;
-        threshold = v.threshold;
-        lengths = flows.lengths;
-        potentials = flows.potentials;
-      };
-      bytes = from_opening;
-    })
+    subst (IsBehind sheet place) (ok_is {E = CertRefusal} (made a.0.0 b.0.0 c.0.0 d.0.0) p g.2) from_opening
 
 -- the header, and the lines behind it
 whole_is : (sheet : Sheet) (p : PartProof) → spelled (codes "mcf-throughput" ∷ codes "1" ∷ []) ++ text_of (behind_header sheet p) ≡ part_text sheet p
@@ -82,11 +61,10 @@ whole_is sheet p =
     sym (flat_map-cons spelled (codes "mcf-throughput" ∷ codes "1" ∷ []) (behind_header sheet p))
     ∙ ap (λ (ls : List Line). text_of (head_lines (codes "mcf-throughput") sheet p.closed ++ (total_lines p ++ ls))) rows
 
--- what was read is within the limits, and the lines are of its text
-pub part_take : (sheet : Sheet) (lines : List Line) (p : PartProof) → part_in sheet lines ≡ Ok p → FitsPart sheet p × (bytes_of lines ≡ part_text sheet p)
+-- the lines are of the text of what was read
+pub part_take : (sheet : Sheet) (lines : List Line) (p : PartProof) → part_in sheet lines ≡ Ok p → bytes_of lines ≡ part_text sheet p
 unfolding part_in
 part_take sheet lines p e =
     let first : Line = codes "mcf-throughput" ∷ codes "1" ∷ [] in
     let a = bind_ok (header_at (codes "mcf-throughput 1") lines) (λ place. opening_at sheet place >>= part_from sheet) p e in
-    let b = part_behind sheet a.0 p a.2 in
-    (b.fits, header_take (codes "mcf-throughput 1") first lines a.0 refl a.1 ∙ ap (λ (l : List ℕ). spelled first ++ l) b.bytes ∙ whole_is sheet p)
+    header_take (codes "mcf-throughput 1") first lines a.0 refl a.1 ∙ ap (λ (l : List ℕ). spelled first ++ l) (part_behind sheet a.0 p a.2) ∙ whole_is sheet p

@@ -11,7 +11,7 @@ use Rattle.cert_judge.proofs.Fitting.{IsSized, sized, routing_fits, proof_fits}
 use Rattle.hop_check.specs.LayerRows.{Layer}
 use Rattle.hop_check.specs.Conditions.{IsLayerOf}
 use Rattle.run_texts.specs.HopsText.{FitsLayer}
-use Rattle.run_texts.specs.OfNetwork.{HopsAreOfTheNetwork, PartsAreOfTheNetwork}
+use Rattle.run_inverse.specs.OfNetwork.{HopsAreOfTheNetwork, PartsAreOfTheNetwork}
 
 along : {X : Type 0} {P Q : X → Type 0} → ((x : X) → P x → Q x) → (xs : List X) → AllByRecursion P xs → AllByRecursion Q xs
 along f [] h = tt

@@ -19,7 +19,7 @@ use Rattle.cert_lines.specs.HeadLines.{gap_line, phases_line, scale_line, fracti
 use Rattle.cert_lines.specs.Rows.{length_row, cells_from, path_row, potentials_from, of_that_many, potential_row}
 use Rattle.cert_lines.specs.Spelling.{FitsValue, FitsLength, FitsPotential, FitsPath}
 use Rattle.cert_lines.proofs.NumberSteps.{micro_small}
-use Rattle.cert_judge.proofs.Steps.{bind_ok, done, ok_is, some_is, passed, place_within}
+use Rattle.cert_text.proofs.Steps.{bind_ok, done, ok_is, some_is, passed, place_within}
 
 le_of : (x y : ℕ) → nat_le x y ≡ true → x ≤ y
 le_of x y e = grind (arith, nat_tests)

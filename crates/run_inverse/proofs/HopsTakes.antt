@@ -1,4 +1,4 @@
--- Certificates with hop limits: what is read was spelled so, within the limits.
+-- Certificates with hop limits: what is read was spelled so.
 use Rattle.std.proofs.Common.{◌≡◌, ℕ, Bool, List, [], ◌∷◌, ◌++◌, Ok, refl, sym, ap, subst, ◌∙◌, append_assoc}
 use Rattle.std.specs.Prelude.{codes, map}
 use Rattle.std.proofs.lemmas.List.Concat.{flat_map-cons}
@@ -11,30 +11,19 @@ use Rattle.cert_lines.specs.Spelling.{length_words, potential_words, path_words}
 use Rattle.cert_text.specs.Reading.{Place, rows_from, bytes_of, closing}
 use Rattle.cert_text.specs.Papers.{scale_at, opening_at, values_at}
 use Rattle.cert_writer.specs.Text.{figure_lines, end_line}
-use Rattle.cert_judge.proofs.Steps.{bind_ok, done, ok_is, rows_fit}
+use Rattle.cert_text.proofs.Steps.{bind_ok, done, ok_is}
 use Rattle.cert_inverse.proofs.Between.{rows_between, closing_takes}
 use Rattle.cert_inverse.proofs.TextTakes.{Scale, scale_lines, scale_take, value_lines, values_take, opened_lines, opening_take, goes_to}
 use Rattle.hop_check.specs.LayerRows.{Layer}
 use Rattle.hop_check.specs.declared.hop_proof.HopProof.{HopProof}
 use Rattle.run_texts.specs.Heads.{head_lines, header_at}
 use Rattle.run_texts.specs.Rows.{flows_at}
-use Rattle.run_texts.specs.HopsText.{layer_words, hops_lines, hops_text, FitsLayer, FitsHops}
+use Rattle.run_texts.specs.HopsText.{layer_words, hops_lines, hops_text}
 use Rattle.run_texts.specs.HopsRead.{layer_row, hops_from, hops_in}
-use Rattle.run_texts.proofs.LayerLaws.{layer_takes, layer_fits}
-use Rattle.run_texts.proofs.PartsTake.{Flows, flow_lines, flows_take, header_take, scale_ok, values_ok, opening_ok}
-
-abbrev made : Bool × ℕ → Scale → Printed × Printed → Flows → List Layer → HopProof
-made o s v f ls = record {
-  proof = record {
-    closed = o.0;
-    gap = o.1;
-    routing = record { phases = s.0; scale_cap = s.1.0; scale_load = s.1.1; paths = f.0 };
-    lower = v.0;
-    upper = v.1;
-    dual = f.1;
-  };
-  layers = ls;
-}
+use Rattle.run_texts.proofs.PartsFit.{Flows}
+use Rattle.run_texts.proofs.HopsFit.{made}
+use Rattle.run_inverse.proofs.LayerLaws.{layer_takes}
+use Rattle.run_inverse.proofs.PartsTake.{flow_lines, flows_take, header_take}
 
 -- the lines behind the first
 abbrev behind_header : Sheet → HopProof → List Line
@@ -42,10 +31,9 @@ behind_header sheet h =
     opened_lines sheet (h.proof.closed, h.proof.gap) ++ (scale_lines (h.proof.routing.phases, (h.proof.routing.scale_cap, h.proof.routing.scale_load)) ++ (value_lines (h.proof.lower, h.proof.upper)
     ++ (flow_lines sheet (h.proof.routing.paths, h.proof.dual) ++ (map (layer_words sheet) h.layers ++ end_line ∷ []))))
 
--- within the limits, and spelled so behind the header
-record IsBehind (sheet : Sheet) (place : Place) (h : HopProof) : Type 0 where
-  fits : FitsHops sheet h
-  bytes : bytes_of place.rest ≡ text_of (behind_header sheet h)
+-- spelled so behind the header
+abbrev IsBehind : Sheet → Place → HopProof → Type 0
+IsBehind sheet place h = bytes_of place.rest ≡ text_of (behind_header sheet h)
 
 hops_behind : (sheet : Sheet) (place : Place) (h : HopProof) → (opening_at sheet place >>= hops_from sheet) ≡ Ok h → IsBehind sheet place h
 unfolding hops_from
@@ -58,30 +46,15 @@ hops_behind sheet place h e =
     let d = bind_ok (flows_at sheet c.0.1) (λ flows. layer flows.1 >>= λ layers. closing layers.1 >>= λ last. end a.0.0 b.0.0 c.0.0 flows.0 layers.0) h c.2 in
     let f = bind_ok (layer d.0.1) (λ layers. closing layers.1 >>= λ last. end a.0.0 b.0.0 c.0.0 d.0.0 layers.0) h d.2 in
     let g = bind_ok (closing f.0.1) (λ last. end a.0.0 b.0.0 c.0.0 d.0.0 f.0.0) h f.2 in
-    let s = scale_ok a.0.1 b.0 b.1 in
-    let v = values_ok b.0.1 c.0 c.1 in
     let flows = flows_take sheet c.0.1 d.0 d.1 in
     let last : List Line = map (layer_words sheet) f.0.0 ++ end_line ∷ [] in
     let rows = rows_between (codes "layer") (layer_row sheet) (layer_words sheet) (layer_takes sheet) d.0.1 f.0 f.1 in
     let from_layers = goes_to (map (layer_words sheet) f.0.0) (end_line ∷ []) d.0.1 f.0.1 rows (closing_takes f.0.1 g.0 g.1) in
-    let from_flows = goes_to (flow_lines sheet d.0.0) last c.0.1 d.0.1 flows.between from_layers in
+    let from_flows = goes_to (flow_lines sheet d.0.0) last c.0.1 d.0.1 flows from_layers in
     let from_values = goes_to (value_lines c.0.0) (flow_lines sheet d.0.0 ++ last) b.0.1 c.0.1 (values_take b.0.1 c.0 c.1) from_flows in
     let from_scale = goes_to (scale_lines b.0.0) (value_lines c.0.0 ++ (flow_lines sheet d.0.0 ++ last)) a.0.1 b.0.1 (scale_take a.0.1 b.0 b.1) from_values in
     let from_opening = goes_to (opened_lines sheet a.0.0) (scale_lines b.0.0 ++ (value_lines c.0.0 ++ (flow_lines sheet d.0.0 ++ last))) place a.0.1 (opening_take sheet place a.0 a.1) from_scale in
-    subst (IsBehind sheet place) (ok_is {E = CertRefusal} (made a.0.0 b.0.0 c.0.0 d.0.0 f.0.0) h g.2) (record {
-      fits = record {
-        proof = record {
-          gap = opening_ok sheet place a.0 a.1;
-          routing = record { phases = s.0; scale_cap = s.1; scale_load = s.2; paths = flows.paths };
-          lower = v.0;
-          upper = v.1;
-          lengths = flows.lengths;
-          potentials = flows.potentials;
-        };
-        layers = rows_fit (FitsLayer sheet) (codes "layer") (layer_row sheet) (layer_fits sheet) d.0.1.at d.0.1.rest f.0 f.1;
-      };
-      bytes = from_opening;
-    })
+    subst (IsBehind sheet place) (ok_is {E = CertRefusal} (made a.0.0 b.0.0 c.0.0 d.0.0 f.0.0) h g.2) from_opening
 
 -- the header, and the lines behind it
 whole_is : (sheet : Sheet) (h : HopProof) → spelled (codes "mcf-hops" ∷ codes "1" ∷ []) ++ text_of (behind_header sheet h) ≡ hops_text sheet h
@@ -94,11 +67,10 @@ whole_is sheet h =
     sym (flat_map-cons spelled (codes "mcf-hops" ∷ codes "1" ∷ []) (behind_header sheet h))
     ∙ ap (λ (ls : List Line). text_of (head_lines (codes "mcf-hops") sheet h.proof.closed ++ (figure_lines h.proof ++ ls))) rows
 
--- what was read is within the limits, and the lines are of its text
-pub hops_take : (sheet : Sheet) (lines : List Line) (h : HopProof) → hops_in sheet lines ≡ Ok h → FitsHops sheet h × (bytes_of lines ≡ hops_text sheet h)
+-- the lines are of the text of what was read
+pub hops_take : (sheet : Sheet) (lines : List Line) (h : HopProof) → hops_in sheet lines ≡ Ok h → bytes_of lines ≡ hops_text sheet h
 unfolding hops_in
 hops_take sheet lines h e =
     let first : Line = codes "mcf-hops" ∷ codes "1" ∷ [] in
     let a = bind_ok (header_at (codes "mcf-hops 1") lines) (λ place. opening_at sheet place >>= hops_from sheet) h e in
-    let b = hops_behind sheet a.0 h a.2 in
-    (b.fits, header_take (codes "mcf-hops 1") first lines a.0 refl a.1 ∙ ap (λ (l : List ℕ). spelled first ++ l) b.bytes ∙ whole_is sheet h)
+    header_take (codes "mcf-hops 1") first lines a.0 refl a.1 ∙ ap (λ (l : List ℕ). spelled first ++ l) (hops_behind sheet a.0 h a.2) ∙ whole_is sheet h

@@ -30,8 +30,8 @@ use Rattle.run_texts.specs.HopsText.{layer_words, hops_lines, hops_text, FitsLay
 use Rattle.run_texts.specs.HopsRead.{layer_row, hops_from, hops_in}
 use Rattle.run_texts.specs.PartText.{threshold_words, total_lines, part_lines, part_text, FitsPart}
 use Rattle.run_texts.specs.PartRead.{threshold_line, totals_at, part_from, part_in}
-use Rattle.run_texts.proofs.LayerLaws.{layer_again, threshold_again}
-use Rattle.run_texts.proofs.CleanLines.{hops_clean, part_clean}
+use Rattle.run_inverse.proofs.LayerLaws.{layer_again, threshold_again}
+use Rattle.run_inverse.proofs.CleanLines.{hops_clean, part_clean}
 
 -- the first line, where another follows
 hops_header : (line : Line) (lines : List Line) → header_at (codes "mcf-hops 1") ((codes "mcf-hops" ∷ codes "1" ∷ []) ∷ line ∷ lines) ≡ Ok (place 2 (line ∷ lines))

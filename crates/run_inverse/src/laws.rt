@@ -1,8 +1,7 @@
 //! Laws of both texts, each proved for all names, all texts and all certificates.
 
-ghost use Rattle.run_texts.specs.HopsRead.{HopsAreRead, HopTextsAreUnique};
-ghost use Rattle.run_texts.specs.PartRead.{PartsAreRead, PartTextsAreUnique};
-ghost use Rattle.run_texts.specs.OfNetwork.{HopsAreOfTheNetwork, PartsAreOfTheNetwork};
+ghost use Rattle.run_inverse.specs.Inverse.{HopsAreRead, HopTextsAreUnique, PartsAreRead, PartTextsAreUnique};
+ghost use Rattle.run_inverse.specs.OfNetwork.{HopsAreOfTheNetwork, PartsAreOfTheNetwork};
 
 /// A text is read as a certificate with hop limits exactly where it is that certificate's text, and the certificate is
 /// within the limits. So what is written is read back as the same, and what is read was written so.
