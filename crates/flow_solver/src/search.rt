@@ -13,6 +13,7 @@ ghost use Rattle.flow_solver.specs.Search.{HasRouted, IsBoundRoom, IsSearch, pha
 use crate::PathHistory;
 use crate::hands::{forget_all, new_hands};
 use crate::prepared::Prepared;
+use dijkstra_paths::Tree;
 use dual_bound::{Bounded, Row, bound_in, source_rows};
 use flow_model::{Net, Setting};
 use load_table::Loads;
@@ -66,12 +67,18 @@ pub fn new_search(alloc: Global, net: &Net, workers: u16) -> Result<Search, Allo
     })
 }
 
-/// One phase over words of its own. `Err` is for want of memory.
+/// The tree of each row.
+fn trees_of(alloc: Global, rows: &[Row]) -> Result<Vec<&Tree>, AllocError> {
+    rows.iter().map(|row| &row.tree).collect(alloc)
+}
+
+/// One phase over words of its own. Searches begin at the trees of the rows, which the bound before has left. `Err` is for want of memory.
 fn phase_over<G: Gate, R: Threads + Sync>(
     rt: &R,
     alloc: Global,
     on: &Prepared<'_>,
     setting: Setting,
+    room: &BoundRoom,
     loads: &mut [u64],
     hands: &mut [Hand],
     gate: &G,
@@ -91,12 +98,14 @@ fn phase_over<G: Gate, R: Threads + Sync>(
     ensures back { AreSameWorkers hands.old hands.new }
     ensures turns { (k : ℕ) (d : _) → k < length hands.old → (slice_index_or hands.new k d).turn ≡ None }
 {
+    let trees = trees_of(alloc, &room.rows)?;
     let input = PhaseInput {
         net: on.net,
         groups: on.groups,
         graph: on.graph,
         powers: on.powers,
         setting,
+        trees: &trees,
     };
     let words = Loads::new(alloc, on.net, on.groups, setting, loads, hands.len() as u16)?;
     match phase(rt, alloc, &input, words, loads, hands, gate) {
@@ -129,6 +138,7 @@ pub fn route<G: Gate, R: Threads + Sync>(
         alloc,
         on,
         setting,
+        &search.room,
         &mut search.loads,
         &mut search.hands,
         gate,
