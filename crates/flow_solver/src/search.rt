@@ -12,6 +12,7 @@ ghost use Rattle.flow_solver.specs.Search.{HasRouted, IsBoundRoom, IsSearch, pha
 
 use crate::PathHistory;
 use crate::hands::{forget_all, new_hands};
+use crate::noted::Sought;
 use crate::prepared::Prepared;
 use dijkstra_paths::Tree;
 use dual_bound::{Bounded, Row, bound_in, source_rows};
@@ -30,13 +31,14 @@ pub struct BoundRoom {
     pub rows: Vec<Row>,
 }
 
-/// What some phases have made: the load of each cell, and who routed what; and room for bounds.
+/// What some phases have made: the load of each cell, and who routed what; room for bounds, and what was sought of the rows.
 #[derive(Drop)]
 pub struct Search {
     pub loads: Vec<u64>,
     pub room: BoundRoom,
     pub hands: Vec<Hand>,
     pub history: PathHistory,
+    pub sought: Vec<Sought>,
 }
 
 /// So many zeros.
@@ -64,6 +66,7 @@ pub fn new_search(alloc: Global, net: &Net, workers: u16) -> Result<Search, Allo
         },
         hands: new_hands(alloc, net, workers)?,
         history: PathHistory::new(alloc, net),
+        sought: Vec::new(alloc),
     })
 }
 
@@ -143,7 +146,9 @@ pub fn route<G: Gate, R: Threads + Sync>(
         &mut search.hands,
         gate,
     )?;
-    search.history.add_phase(rt, alloc, on.net, &search.hands)?;
+    search
+        .history
+        .add_phase(rt, alloc, on.net, &search.hands, &mut search.sought)?;
     Ok(())
 }
 
