@@ -75,8 +75,8 @@ fn blank_trees(alloc: Global, nodes: u16) -> Result<Vec<Tree>, AllocError> {
     Ok(trees)
 }
 
-/// Finds the least distances from a node, from its tree on where this is one from there.
-fn search_by(graph: &Graph, lengths: &[u64], from: u16, tree: &Tree, front: &mut Front)
+/// Finds the least distances from a node, from a tree on where this is one from there.
+fn search_by(graph: &Graph, lengths: &[u64], from: u16, tree: Option<&Tree>, front: &mut Front)
     requires lengths { AreLengths graph.now.cells lengths.now }
     requires front { IsFront graph.now.nodes front.old }
     requires from { from < graph.now.nodes }
@@ -85,7 +85,11 @@ fn search_by(graph: &Graph, lengths: &[u64], from: u16, tree: &Tree, front: &mut
     ensures done { (u : ℕ) → u < length front.new.dist.items → slice_index front.new.dist.items u < MAX_LENGTH
         → IsDone graph.now.cells lengths.now front.new.dist.items u }
 {
-    match tree.earlier(from) {
+    let earlier = match tree {
+        Some(tree) => tree.earlier(from),
+        None => None,
+    };
+    match earlier {
         Some(earlier) => search_on(graph, lengths, from, earlier, front),
         None => search(graph, lengths, from, front),
     }
@@ -108,7 +112,7 @@ fn search_along(
     ensures done { (u : ℕ) → u < length front.new.dist.items → slice_index front.new.dist.items u < MAX_LENGTH
         → IsDone graph.now.cells lengths.now front.new.dist.items u }
 {
-    search_by(graph, lengths, from, tree, front);
+    search_by(graph, lengths, from, Some(&*tree), front);
     tree.follow(from, front, room);
 }
 
@@ -217,6 +221,24 @@ impl Scratch {
         let _nodes = graph.nodes();
         self.from = from;
         search_along(graph, lengths, from, tree, &mut self.room, &mut self.front);
+    }
+
+    /// The same from a tree that is left as it is, where there is one. As with `search_from` it is a hint alone.
+    pub fn search_near(&mut self, graph: &Graph, lengths: &[u64], from: u16, tree: Option<&Tree>)
+        requires lengths { AreLengths graph.now.cells lengths.now }
+        requires nodes { self.old.nodes ≡ graph.now.nodes }
+        requires from { from < self.old.nodes }
+        ensures nodes { self.new.nodes ≡ self.old.nodes }
+        ensures cells { self.new.cells ≡ self.old.cells }
+        ensures least { (v : ℕ) → v < self.new.nodes
+            → IsLeast graph.now.cells lengths.now from v (dist_at self.new v) }
+        ensures paths { (v : ℕ) → v < self.new.nodes
+            → IsPath graph.now.cells lengths.now self.new.nodes from v (dist_at self.new v) (path_at self.new v) }
+        ensures near { IsNear graph.now.cells lengths.now self.new }
+    {
+        let _nodes = graph.nodes();
+        self.from = from;
+        search_by(graph, lengths, from, tree, &mut self.front);
     }
 
     /// The least distance of the node, if it was reached.

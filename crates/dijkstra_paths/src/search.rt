@@ -12,6 +12,9 @@ use crate::{Arc, Graph};
 use flow_model::Cell;
 use mcf_limits::{MAX_LENGTH, MAX_NODES};
 
+/// Up to so many cells for each node it pays to look at all ways to a node.
+const FEW_CELLS: usize = 2;
+
 /// The cell by which a node was reached, and the node before it.
 #[derive(Clone, Copy)]
 pub struct Step {
@@ -183,6 +186,90 @@ fn keep_steps(
     }
 }
 
+/// Gives the node the distance over an arc's other end, if that is shorter than what is known and the cell goes that way.
+#[inline(always)]
+fn look_over(
+    graph: &Graph,
+    lengths: &[u64],
+    from: u16,
+    node: u16,
+    arc: Arc,
+    dist: &mut [u64],
+    steps: &mut [Step],
+)
+    requires lengths { AreLengths graph.now.cells lengths.now }
+    requires nodes { length dist.old ≡ graph.now.nodes }
+    requires ends { (node < length dist.old) × (arc.to < length dist.old) × (arc.cell < length lengths.now) }
+    requires passes { PassesOver graph.now.cells arc.cell node arc.to }
+    requires tree { IsTree graph.now.cells lengths.now from dist.old steps.old }
+    ensures tree { IsTree graph.now.cells lengths.now from dist.new steps.new }
+    ensures nodes { length dist.new ≡ length dist.old }
+{
+    let there = dist[arc.to as usize] + lengths[arc.cell as usize];
+    if there >= dist[node as usize] {
+        return;
+    }
+    let step = Step {
+        cell: arc.cell,
+        from: arc.to,
+    };
+    keep_step(graph, lengths, from, node, step, dist, steps);
+}
+
+/// Gives the node the distance over the nearest node around it, if that is shorter than what is known.
+#[inline(always)]
+fn look_round(
+    graph: &Graph,
+    lengths: &[u64],
+    from: u16,
+    node: u16,
+    dist: &mut [u64],
+    steps: &mut [Step],
+)
+    requires lengths { AreLengths graph.now.cells lengths.now }
+    requires nodes { length dist.old ≡ graph.now.nodes }
+    requires tree { IsTree graph.now.cells lengths.now from dist.old steps.old }
+    ensures tree { IsTree graph.now.cells lengths.now from dist.new steps.new }
+    ensures nodes { length dist.new ≡ length dist.old }
+{
+    if node >= graph.nodes() {
+        return;
+    }
+    let arcs = graph.out(node);
+    for arc in arcs {
+        look_over(graph, lengths, from, node, *arc, dist, steps);
+    }
+}
+
+/// As `keep_steps`, over the nearest of the nodes that have a distance so far and not over the step of before alone. Mostly these
+/// are the least distances, so few nodes are opened then.
+#[inline(always)]
+fn look_along(
+    graph: &Graph,
+    lengths: &[u64],
+    from: u16,
+    earlier: &[Kept],
+    dist: &mut [u64],
+    steps: &mut [Step],
+)
+    requires lengths { AreLengths graph.now.cells lengths.now }
+    requires nodes { length dist.old ≡ graph.now.nodes }
+    requires tree { IsTree graph.now.cells lengths.now from dist.old steps.old }
+    ensures tree { IsTree graph.now.cells lengths.now from dist.new steps.new }
+    ensures nodes { length dist.new ≡ length dist.old }
+{
+    for kept in earlier {
+        keep_step(graph, lengths, from, kept.node, kept.step, dist, steps);
+        look_round(graph, lengths, from, kept.node, dist, steps);
+    }
+}
+
+/// Whether nodes have so few ways that it pays to look at all of them.
+#[inline(always)]
+fn is_sparse(graph: &Graph) -> bool {
+    graph.cells().len() <= FEW_CELLS * graph.nodes() as usize
+}
+
 /// Opens the node from which the way over the cell is shorter than what is known, if it is a positive cell with such a
 /// way, and gives the number of open nodes.
 #[inline(always)]
@@ -288,7 +375,11 @@ fn begin(
 {
     clear(dist);
     dist[from as usize] = 0;
-    keep_steps(graph, lengths, from, earlier, dist, steps);
+    if is_sparse(graph) {
+        look_along(graph, lengths, from, earlier, dist, steps);
+    } else {
+        keep_steps(graph, lengths, from, earlier, dist, steps);
+    }
 }
 
 /// Finds the least distances from a node.

@@ -5,6 +5,7 @@ use Rattle.std.proofs.lemmas.Bool.{cases_eq, cases_lt}
 use Rattle.flow_model.specs.Routing.{Row}
 use Rattle.flow_paths.specs.PathRows.{row_at, HasNoRow, IsFirstRow, Adds}
 use Rattle.flow_solver.specs.declared.places.Place.{Place}
+use Rattle.flow_solver.specs.declared.noted.Sought.{Sought}
 use Rattle.flow_solver.specs.Rows.{AreApart, IsRowOf}
 use Rattle.flow_solver.specs.Adding.{path_at, IsRowFor, KeepsRows}
 use Rattle.flow_solver.proofs.Adds.{added}
@@ -73,13 +74,14 @@ still_found old new places k None keeps apart below found = still_none old new k
 still_found old new places k (Some n) keeps apart below found = still_first old new k (path_at places k) n keeps apart found.is
 
 -- the rows of the first commodities have been found
-abbrev pub AreFound : List Row → List Place → ℕ → ℕ → List (Option ℕ) → Type 0
-AreFound rows places first n found = (i : ℕ) → i < n → IsRowFor rows places (first + i) (get_or found i None)
+abbrev pub AreFound : List Row → List Place → ℕ → ℕ → List Sought → Type 0
+AreFound rows places first n sought = (i : ℕ) (d : Sought) → i < n → IsRowFor rows places (first + i) (get_or sought i d).row
 
 -- the row of one commodity more
-pub found_more : (rows : List Row) (places : List Place) (first i : ℕ) (found : List (Option ℕ)) (row : Option ℕ) → i < length found → AreFound rows places first i found → IsRowFor rows places (first + i) row
-    → AreFound rows places first (i + 1) (set found i row)
-found_more rows places first i found row inside h here k l = elim (cases_eq k i) [
-  | inl e ↦ subst (λ (n : ℕ). IsRowFor rows places (first + n) (get_or (set found i row) n None)) (sym e) (subst (IsRowFor rows places (first + i)) (sym (get_or-set_same found i row None inside)) here)
-  | inr n ↦ subst (IsRowFor rows places (first + k)) (sym (get_or-set_other found i k row None n)) (h k (omega arith))
+pub found_more : (rows : List Row) (places : List Place) (first i : ℕ) (sought : List Sought) (one : Sought) → i < length sought → AreFound rows places first i sought → IsRowFor rows places (first + i) one.row
+    → AreFound rows places first (i + 1) (set sought i one)
+found_more rows places first i sought one inside h here k d l = elim (cases_eq k i) [
+  | inl e ↦ subst (λ (n : ℕ). IsRowFor rows places (first + n) (get_or (set sought i one) n d).row) (sym e)
+      (subst (λ (s : Sought). IsRowFor rows places (first + i) s.row) (sym (get_or-set_same sought i one d inside)) here)
+  | inr n ↦ subst (λ (s : Sought). IsRowFor rows places (first + k) s.row) (sym (get_or-set_other sought i k one d n)) (h k d (omega arith))
 ]

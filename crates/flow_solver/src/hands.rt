@@ -15,7 +15,7 @@ fn new_hand(alloc: Global, net: &Net, worker: u16) -> Result<Hand, AllocError>
     let cells = net.cells().len() as u16;
     Ok(Hand {
         worker,
-        scratch: Scratch::with_trees(alloc, net.nodes(), cells)?,
+        scratch: Scratch::new(alloc, net.nodes(), cells)?,
         routes: Routes::new(alloc),
         turn: None,
     })

@@ -3,7 +3,8 @@
 ghost use Rattle.std.specs.Prelude.{◌≡◌};
 
 use crate::entries::Entries;
-use crate::found::found_rows;
+use crate::found::find_each;
+use crate::noted::Sought;
 use crate::places::{Place, places_of};
 use flow_model::Net;
 use flow_paths::{PathStore, new_numbers, order_of, stored};
@@ -13,10 +14,6 @@ use solver_run::Entry;
 use std::alloc::{AllocError, Global};
 use std::marker::Model;
 use std::thread::Threads;
-
-/// In how many of the last phases a commodity's row is looked for before its hash. On real networks they have nine of
-/// ten paths and more.
-const LATE_PHASES: u32 = 8;
 
 /// Path rows with weights, and for each phase an entry for each commodity, which names a row. Contracts see how
 /// many commodities there are, the rows, and a list of phases.
@@ -46,12 +43,12 @@ impl Model for PathHistory {
 }
 
 impl PathHistory {
-    ghost use Rattle.std.specs.Prelude.{◌≡◌, ℕ, ⊤, ◌+◌, ◌*◌, ◌<◌, ◌≤◌, ◌++◌, ◌∷◌, [], List, None, OnOk, OnErr, IfOk, MatchOption, length, map, slice_index_or};
+    ghost use Rattle.std.specs.Prelude.{◌≡◌, ℕ, ◌+◌, ◌*◌, ◌<◌, ◌≤◌, ◌++◌, ◌∷◌, [], List, OnOk, OnErr, IfOk, MatchOption, length, map, slice_index_or};
     ghost use Rattle.flow_model.specs.Network.{Network};
     ghost use Rattle.flow_paths.specs.PathRows.{row_at, HasNoRow, IsFirstRow, Adds};
     ghost use Rattle.flow_core.specs.Phase.{Routed};
     ghost use Rattle.solver_run.specs.History.{routed_in, AreRowsOf};
-    ghost use Rattle.flow_solver.specs.Rows.{phases_kept, AreApart, AreRowsFor, IsRowOf};
+    ghost use Rattle.flow_solver.specs.Rows.{phases_kept, AreApart, AreRowsFor};
     ghost use Rattle.flow_solver.specs.Routes.{IsRoutedOnce, HaveRouted};
     ghost use Rattle.flow_solver.specs.Adding.{IsRowFor, KeepsRows, AreBegun, AreNamed};
 
@@ -73,32 +70,12 @@ impl PathHistory {
         self.entries.phases()
     }
 
-    /// A row that the commodity had in one of the last phases, where that is of this path.
-    fn late_row(&self, k: u32, path: &[u16]) -> Option<u32>
-        requires { k < self.now.commodities }
-        ensures { MatchOption result ⊤ (λ n. IsRowOf self.now.rows k path.now n) }
+    /// Looks for the first row of this commodity and path, where no two rows are alike.
+    pub(crate) fn seek(&self, k: u32, path: &[u16], one: &mut Sought)
+        requires { AreApart self.now.rows }
+        ensures { MatchOption one.new.row (HasNoRow self.now.rows k path.now) (IsFirstRow self.now.rows k path.now) }
     {
-        let phases = self.entries.phases();
-        for back in 0..phases.min(LATE_PHASES) {
-            let row = self.entries.entry(phases - 1 - back, k).row;
-            if self.paths.has_path(row, k, path) {
-                return Some(row);
-            }
-        }
-        None
-    }
-
-    /// The first row of this commodity and path, where no two rows are alike. Mostly a commodity takes the path of the
-    /// phase before or of one of those before that, so their rows are looked at first.
-    pub(crate) fn find(&self, k: u32, path: &[u16]) -> Option<u32>
-        requires k { k < self.now.commodities }
-        requires apart { AreApart self.now.rows }
-        ensures { MatchOption result (HasNoRow self.now.rows k path.now) (IsFirstRow self.now.rows k path.now) }
-    {
-        match self.late_row(k, path) {
-            Some(row) => Some(row),
-            None => self.paths.find(k, path),
-        }
+        one.seek(&self.paths, k, path);
     }
 
     /// Adds a path to the rows: its row grows where it was found, and else there is none, so one is appended.
@@ -135,15 +112,15 @@ impl PathHistory {
         alloc: Global,
         net: &Net,
         places: &[Place],
-        found: &[Option<u32>],
+        found: &[Sought],
     ) -> Result<Vec<Entry>, AllocError>
         requires rows { AreRowsFor net.now self.old.history self.old.rows }
         requires phases { length self.old.history < MAX_PHASES }
         requires work { length net.now.commodities * (length self.old.history + 1) ≤ MAX_WORK }
         requires count { length places.now ≡ length net.now.commodities }
         requires found_count { length found.now ≡ length net.now.commodities }
-        requires found { (k : ℕ) → k < length net.now.commodities
-            → IsRowFor self.old.rows places.now k (slice_index_or found.now k None) }
+        requires found { (k : ℕ) (d : _) → k < length net.now.commodities
+            → IsRowFor self.old.rows places.now k (slice_index_or found.now k d).row }
         ensures commodities { self.new.commodities ≡ self.old.commodities }
         ensures history { self.new.history ≡ self.old.history }
         ensures keeps { KeepsRows self.old.rows self.new.rows }
@@ -154,7 +131,12 @@ impl PathHistory {
         let commodities = net.commodities();
         let mut entries = Vec::with_capacity(alloc, commodities.len())?;
         for k in 0..commodities.len() {
-            let row = self.add_path(found[k], k as u32, places[k].path, commodities[k].amount)?;
+            let row = self.add_path(
+                found[k].row,
+                k as u32,
+                places[k].path,
+                commodities[k].amount,
+            )?;
             entries.push(Entry {
                 worker: places[k].hand,
                 row,
@@ -174,6 +156,7 @@ impl PathHistory {
         alloc: Global,
         net: &Net,
         hands: &[Hand],
+        sought: &mut Vec<Sought>,
     ) -> Result<(), AllocError>
         requires commodities { self.old.commodities ≡ length net.now.commodities }
         requires rows { AreRowsFor net.now self.old.history self.old.rows }
@@ -189,8 +172,8 @@ impl PathHistory {
         ensures err { OnErr result (phases_kept self.new ≡ phases_kept self.old) }
     {
         let places = places_of(alloc, net, hands)?;
-        let found = found_rows(rt, alloc, hands.len(), self, &places)?;
-        let entries = self.name_rows(alloc, net, &places, &found)?;
+        find_each(rt, alloc, hands.len(), self, &places, sought)?;
+        let entries = self.name_rows(alloc, net, &places, sought)?;
         self.entries.push(&entries)?;
         Ok(())
     }

@@ -12,7 +12,9 @@ ghost use Rattle.flow_solver.specs.Search.{HasRouted, IsBoundRoom, IsSearch, pha
 
 use crate::PathHistory;
 use crate::hands::{forget_all, new_hands};
+use crate::noted::Sought;
 use crate::prepared::Prepared;
+use dijkstra_paths::Tree;
 use dual_bound::{Bounded, Row, bound_in, source_rows};
 use flow_model::{Net, Setting};
 use load_table::Loads;
@@ -29,13 +31,14 @@ pub struct BoundRoom {
     pub rows: Vec<Row>,
 }
 
-/// What some phases have made: the load of each cell, and who routed what; and room for bounds.
+/// What some phases have made: the load of each cell, and who routed what; room for bounds, and what was sought of the rows.
 #[derive(Drop)]
 pub struct Search {
     pub loads: Vec<u64>,
     pub room: BoundRoom,
     pub hands: Vec<Hand>,
     pub history: PathHistory,
+    pub sought: Vec<Sought>,
 }
 
 /// So many zeros.
@@ -63,15 +66,22 @@ pub fn new_search(alloc: Global, net: &Net, workers: u16) -> Result<Search, Allo
         },
         hands: new_hands(alloc, net, workers)?,
         history: PathHistory::new(alloc, net),
+        sought: Vec::new(alloc),
     })
 }
 
-/// One phase over words of its own. `Err` is for want of memory.
+/// The tree of each row.
+fn trees_of(alloc: Global, rows: &[Row]) -> Result<Vec<&Tree>, AllocError> {
+    rows.iter().map(|row| &row.tree).collect(alloc)
+}
+
+/// One phase over words of its own. Searches begin at the trees of the rows, which the bound before has left. `Err` is for want of memory.
 fn phase_over<G: Gate, R: Threads + Sync>(
     rt: &R,
     alloc: Global,
     on: &Prepared<'_>,
     setting: Setting,
+    room: &BoundRoom,
     loads: &mut [u64],
     hands: &mut [Hand],
     gate: &G,
@@ -91,12 +101,14 @@ fn phase_over<G: Gate, R: Threads + Sync>(
     ensures back { AreSameWorkers hands.old hands.new }
     ensures turns { (k : ℕ) (d : _) → k < length hands.old → (slice_index_or hands.new k d).turn ≡ None }
 {
+    let trees = trees_of(alloc, &room.rows)?;
     let input = PhaseInput {
         net: on.net,
         groups: on.groups,
         graph: on.graph,
         powers: on.powers,
         setting,
+        trees: &trees,
     };
     let words = Loads::new(alloc, on.net, on.groups, setting, loads, hands.len() as u16)?;
     match phase(rt, alloc, &input, words, loads, hands, gate) {
@@ -129,11 +141,14 @@ pub fn route<G: Gate, R: Threads + Sync>(
         alloc,
         on,
         setting,
+        &search.room,
         &mut search.loads,
         &mut search.hands,
         gate,
     )?;
-    search.history.add_phase(rt, alloc, on.net, &search.hands)?;
+    search
+        .history
+        .add_phase(rt, alloc, on.net, &search.hands, &mut search.sought)?;
     Ok(())
 }
 

@@ -74,7 +74,7 @@ pub const DEFAULT_PHASES: u64 = 1000;
 pub const DEFAULT_WORKERS: u16 = 4;
 
 /// The commodities from which on a run takes the default workers where no number is asked; with fewer it takes one.
-pub const FEW_COMMODITIES: u64 = 1000;
+pub const FEW_COMMODITIES: u64 = 4000;
 
 /// The step of the lengths where none is asked.
 pub const DEFAULT_STEP: u32 = 8192;

@@ -2,12 +2,13 @@
 
 ghost use Rattle.std.specs.Prelude.{◌≡◌};
 
-use dijkstra_paths::Graph;
+use dijkstra_paths::{Graph, Tree};
 use fixed_exp::Powers;
 use flow_model::{Groups, Net, Setting};
 use load_table::Loads;
 
-/// What a phase is of: a network with its groups and its graph, the powers that lengths are made of, and the setting.
+/// What a phase is of: a network with its groups and its graph, the powers that lengths are made of, and the setting. The trees are
+/// of earlier searches, one for each group's source in the order of groups; they are hints, so there may be fewer, or others.
 #[derive(Drop)]
 pub struct PhaseInput<'a> {
     pub net: &'a Net,
@@ -15,6 +16,7 @@ pub struct PhaseInput<'a> {
     pub graph: &'a Graph,
     pub powers: &'a Powers,
     pub setting: Setting,
+    pub trees: &'a [&'a Tree],
     ghost groups_are: { groups.now ≡ net.now },
     ghost graph_is: { graph.now ≡ net.now },
 }

@@ -46,6 +46,7 @@ returns-clause-search g c =
       room = old.room;
       hands = with_items (with_items old.hands c.forget_all.new.hands) c.phase_over.new.hands;
       history = c.add_phase.new.self;
+      sought = c.add_phase.new.sought;
     } in
     let routed : IsRoutedPhase net c.args.setting old.loads.items new.loads.items c.phase_over.new.hands =
     subst (λ (xs : List ℕ). IsRoutedPhase net c.args.setting old.loads.items xs c.phase_over.new.hands) (sym loads)
@@ -74,6 +75,7 @@ returns-clause-routed g c =
       room = old.room;
       hands = with_items (with_items old.hands c.forget_all.new.hands) c.phase_over.new.hands;
       history = c.add_phase.new.self;
+      sought = c.add_phase.new.sought;
     } in
     let routed : IsRoutedPhase net c.args.setting old.loads.items new.loads.items c.phase_over.new.hands =
     subst (λ (xs : List ℕ). IsRoutedPhase net c.args.setting old.loads.items xs c.phase_over.new.hands) (sym loads)

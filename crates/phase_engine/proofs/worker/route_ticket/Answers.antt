@@ -14,8 +14,8 @@ use Rattle.phase_engine.proofs.worker.route_ticket.Goals as goal
 pub read_all-requires-clause-fresh : goal.read_all-requires-clause-fresh
 read_all-requires-clause-fresh c = claimed-fresh c.args.g c.args.pass.now.view.hands c.requires.claimed
 
-pub search-requires-clause-from : goal.search-requires-clause-from
-search-requires-clause-from c =
+pub search_near-requires-clause-from : goal.search_near-requires-clause-from
+search_near-requires-clause-from c =
     let at = c.source-source.ensures ∙ ap (λ (m : Network). get_or (group_sources m) c.args.g 0) c.args.input.now.groups_are in
     let inside = source-inside c.args.input.now.net.now c.args.g c.requires.group in
     omega (arith, c.requires.nodes)
@@ -42,20 +42,20 @@ route_group-requires-clause-members c =
 pub route_group-requires-clause-found : goal.route_group-requires-clause-found
 route_group-requires-clause-found c =
     let net = c.args.input.now.net.now in
-    let s = c.search.new.self in
+    let s = c.search_near.new.self in
     let ms : c.members.result.now ≡ members_of net c.args.g = c.members.ensures ∙ ap (λ (m : Network). members_of m c.args.g) c.args.input.now.groups_are in
-    let search = search-is net c.args.input.now.graph.now c.args.input.now.groups.now c.lengths.result.now c.source-source.result c.args.g s c.args.input.now.graph_is c.args.input.now.groups_are c.source-source.ensures c.search.ensures.least c.search.ensures.paths in
-    let nodes : s.nodes ≡ net.nodes = c.search.ensures.nodes ∙ c.requires.nodes in
+    let search = search-is net c.args.input.now.graph.now c.args.input.now.groups.now c.lengths.result.now c.source-source.result c.args.g s c.args.input.now.graph_is c.args.input.now.groups_are c.source-source.ensures c.search_near.ensures.least c.search_near.ensures.paths in
+    let nodes : s.nodes ≡ net.nodes = c.search_near.ensures.nodes ∙ c.requires.nodes in
     subst (All (λ k. HasPath net.cells s (to_at net k))) (sym ms) (found-all net c.lengths.result.now c.args.g s c.requires.network c.requires.no_cut search nodes)
 
 pub returns-clause-complete : goal.returns-clause-complete
 returns-clause-complete c =
     let net = c.args.input.now.net.now in
     let t = c.args.loads.now.terms in
-    let s = c.search.new.self in
+    let s = c.search_near.new.self in
     let reads = c.read_all.new.reads.items in
-    let search = search-is net c.args.input.now.graph.now c.args.input.now.groups.now c.lengths.result.now c.source-source.result c.args.g s c.args.input.now.graph_is c.args.input.now.groups_are c.source-source.ensures c.search.ensures.least c.search.ensures.paths in
-    let nodes : s.nodes ≡ net.nodes = c.search.ensures.nodes ∙ c.requires.nodes in
+    let search = search-is net c.args.input.now.graph.now c.args.input.now.groups.now c.lengths.result.now c.source-source.result c.args.g s c.args.input.now.graph_is c.args.input.now.groups_are c.source-source.ensures c.search_near.ensures.least c.search_near.ensures.paths in
+    let nodes : s.nodes ≡ net.nodes = c.search_near.ensures.nodes ∙ c.requires.nodes in
     let all : length reads ≡ length net.cells = c.read_all.ensures.count ∙ ap (λ (m : Network). length m.cells) c.requires.loads in
     let n : c.update.new.self.net ≡ net = c.update.ensures.net ∙ c.requires.table.0 in
     let set : c.update.new.self.setting ≡ t.setting = c.update.ensures.setting ∙ c.requires.table.1 in

@@ -1,4 +1,4 @@
-use Rattle.std.proofs.Common.{◌≡◌, ◌+◌, ◌<◌, ◌≤◌, List, [], ◌∷◌, ◌++◌, length, get_or, ap, ◌∙◌, subst, length-append, None}
+use Rattle.std.proofs.Common.{◌≡◌, ◌+◌, ◌<◌, ◌≤◌, List, [], ◌∷◌, ◌++◌, length, get_or, ap, ◌∙◌, subst, length-append}
 use Rattle.std.proofs.lemmas.List.Elements.{All-get_or}
 use Rattle.std.proofs.lemmas.Option.{slice_get-get_or}
 use Rattle.mcf_limits.specs.declared.TheConstants.{MAX_UNITS}
@@ -18,7 +18,7 @@ pub add_path-requires-clause-found : goal.add_path-requires-clause-found
 add_path-requires-clause-found c =
     let k = c.loop-k.k in
     let l : k < length c.args.net.now.commodities = subst (λ (t : List Commodity). k < length t) c.commodities-commodities.ensures.value c.loop-k-test.true in
-    still_found c.args.self.now.rows c.loop-k.self.rows c.args.places.now k (get_or c.args.found.now k None) c.loop-k.invariant.keeps c.loop-k.invariant.begun.apart c.loop-k.invariant.below (c.requires.found k l)
+    still_found c.args.self.now.rows c.loop-k.self.rows c.args.places.now k _ c.loop-k.invariant.keeps c.loop-k.invariant.begun.apart c.loop-k.invariant.below (c.requires.found k l _)
 
 pub add_path-requires-clause-weight : goal.add_path-requires-clause-weight
 unfolding no_commodity
