@@ -65,7 +65,7 @@ fn mark_of(path: &[u16]) -> u32 {
     }
     [path[0], path[count / 2], path[count - 1]]
         .iter()
-        .fold(count as u32, |mark, cell| {
+        .fold((count % 512) as u32, |mark, cell| {
             mark.wrapping_mul(0x9e37_79b1)
                 .wrapping_add(u32::from(*cell))
         })
