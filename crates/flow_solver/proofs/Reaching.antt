@@ -204,7 +204,7 @@ next-reached net o r new f later kept is unmet after h same fits bound shows val
     }
 
 -- the room for bounds has no bearing
-pub other-room : (net : Network) (s : Search) (room : BoundRoom) → IsBoundRoom net room → IsSearch net s → IsSearch net (record { loads = s.loads; room = room; hands = s.hands; history = s.history })
+pub other-room : (net : Network) (s : Search) (room : BoundRoom) → IsBoundRoom net room → IsSearch net s → IsSearch net (record { loads = s.loads; room = room; hands = s.hands; history = s.history; sought = s.sought })
 other-room net s room fits is = record {
   loads = is.loads;
   small = is.small;
@@ -214,7 +214,7 @@ other-room net s room fits is = record {
   rows = is.rows;
 }
 
-pub routed-other : (net : Network) (setting : Setting) (old s : Search) (room : BoundRoom) → HasRouted net setting old s → HasRouted net setting old (record { loads = s.loads; room = room; hands = s.hands; history = s.history })
+pub routed-other : (net : Network) (setting : Setting) (old s : Search) (room : BoundRoom) → HasRouted net setting old s → HasRouted net setting old (record { loads = s.loads; room = room; hands = s.hands; history = s.history; sought = s.sought })
 routed-other net setting old s room r = record {
   entries = r.entries;
   phases = r.phases;

@@ -30,7 +30,7 @@ returns-clause-reached g c =
     let s = c.route.new.search in
     let room = c.bound_of.new.room in
     let search : IsSearch net s = c.in_ok-route.ensures.search in
-    let new : Search = record { loads = s.loads; room = room; hands = s.hands; history = s.history } in
+    let new : Search = record { loads = s.loads; room = room; hands = s.hands; history = s.history; sought = s.sought } in
     let f = c.measured-fill.result in
     let routed : HasRouted net (record { first = true; ref_cap = 0; ref_load = 1; step = o.step }) old s =
     subst (λ (x : Setting). HasRouted net x old s) c.setting_at_first-setting.ensures c.in_ok-route.ensures.routed in

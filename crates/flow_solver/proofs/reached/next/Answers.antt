@@ -28,7 +28,7 @@ returns-clause-reached g c =
     let s = c.route.new.search in
     let room = c.bound_of.new.room in
     let search : IsSearch net s = c.in_ok-route.ensures.search in
-    let new : Search = record { loads = s.loads; room = room; hands = s.hands; history = s.history } in
+    let new : Search = record { loads = s.loads; room = room; hands = s.hands; history = s.history; sought = s.sought } in
     let later = c.in_ok-later.later in
     let routed : HasRouted net (record { first = false; ref_cap = r.reference.cap; ref_load = r.reference.load; step = o.step }) r.search s =
     subst (λ (x : Setting). HasRouted net x r.search s) c.setting_after_first-setting.ensures c.in_ok-route.ensures.routed in

@@ -18,7 +18,7 @@ pub add_path-requires-clause-found : goal.add_path-requires-clause-found
 add_path-requires-clause-found c =
     let k = c.loop-k.k in
     let l : k < length c.args.net.now.commodities = subst (λ (t : List Commodity). k < length t) c.commodities-commodities.ensures.value c.loop-k-test.true in
-    still_found c.args.self.now.rows c.loop-k.self.rows c.args.places.now k _ c.loop-k.invariant.keeps c.loop-k.invariant.begun.apart c.loop-k.invariant.below (c.requires.found k l _)
+    still_found c.args.self.now.rows c.loop-k.self.rows c.args.places.now k _ c.loop-k.invariant.keeps c.loop-k.invariant.begun.apart c.loop-k.invariant.below (c.requires.found k _ l)
 
 pub add_path-requires-clause-weight : goal.add_path-requires-clause-weight
 unfolding no_commodity
