@@ -46,29 +46,37 @@ impl NotedRows {
         found
     }
 
-    /// Notes a row in the place of that which was noted first.
-    fn note(&mut self, mark: u32, row: u32) {
-        let place = self.next as usize % NOTED_ROWS;
-        self.marks[place] = mark;
-        self.rows[place] = row;
-        self.next = (place as u8 + 1) % NOTED_ROWS as u8;
+    /// Notes a row, if there is one, in the place of that which was noted first.
+    fn note(&mut self, mark: u32, row: Option<u32>) {
+        if let Some(row) = row {
+            let place = self.next as usize % NOTED_ROWS;
+            self.marks[place] = mark;
+            self.rows[place] = row;
+            self.next = (place as u8 + 1) % NOTED_ROWS as u8;
+        }
     }
 }
 
-/// A mark of a path: others mostly have another one. It is made of its first, middle and last cell and their number alone, so that
-/// it takes the same short time for each path.
+/// A mark of a path: others mostly have another one. It is made of five of its cells and their number alone, so that it takes the
+/// same short time for each path.
 #[inline(always)]
 fn mark_of(path: &[u16]) -> u32 {
     let count = path.len();
     if count == 0 {
         return 0;
     }
-    [path[0], path[count / 2], path[count - 1]]
-        .iter()
-        .fold((count % 512) as u32, |mark, cell| {
-            mark.wrapping_mul(0x9e37_79b1)
-                .wrapping_add(u32::from(*cell))
-        })
+    [
+        path[0],
+        path[count / 4],
+        path[count / 2],
+        path[count / 2 + count / 4],
+        path[count - 1],
+    ]
+    .iter()
+    .fold((count % 512) as u32, |mark, cell| {
+        mark.wrapping_mul(0x9e37_79b1)
+            .wrapping_add(u32::from(*cell))
+    })
 }
 
 /// The row of a commodity and its path that was looked for last, if there is one, and those that were found of late.
@@ -96,7 +104,7 @@ impl Sought {
         self.row = noted_row(paths, self.noted.row_of(mark), k, path);
         if self.row.is_none() {
             self.row = paths.find(k, path);
-            self.noted.note(mark, self.row.unwrap_or(NO_ROW));
+            self.noted.note(mark, self.row);
         }
     }
 }

@@ -1,5 +1,6 @@
-use Rattle.std.proofs.Common.{◌≡◌, ℕ, ◌≤◌, List, length, sym, ap, ◌∙◌, subst, arith, false}
+use Rattle.std.proofs.Common.{◌≡◌, ℕ, ◌+◌, ◌≤◌, List, length, sym, ap, ◌∙◌, subst, arith, false}
 use Rattle.std.specs.Prelude.{All}
+use Rattle.std.proofs.Math.Nat.{mul-le-mul_left}
 use Rattle.mcf_limits.specs.declared.TheConstants.{MAX_LENGTH, MAX_PHASES}
 use Rattle.flow_model.specs.declared.setting.Setting.{Setting}
 use Rattle.flow_model.specs.Lengths.{lengths_of}
@@ -9,6 +10,13 @@ use Rattle.flow_solver.specs.Search.{phase_count, IsSearch, HasRouted}
 use Rattle.flow_solver.proofs.Routing.{loads-size}
 use Rattle.flow_solver.proofs.Reaching.{count-more, loads-limit, next-reached, other-room, routed-other}
 use Rattle.flow_solver.proofs.reached.next.Goals as goal
+
+pub route-requires-clause-work : goal.route-requires-clause-work
+route-requires-clause-work g c κs within =
+    let net = c.args.on.now.net.now in
+    let more : phase_count c.args.reached.search + 1 ≤ c.args.options.now.phases = omega (arith, c.requires.budget) in
+    let times = mul-le-mul_left (length net.commodities) more in
+    omega (arith, times, c.requires.options.work)
 
 pub bound_of-requires-clause-loads : goal.bound_of-requires-clause-loads
 bound_of-requires-clause-loads g c κs within = ap (λ (xs : List ℕ). length xs) c.deref.ensures.value ∙ loads-size c.args.on.now.net.now c.route.new.search c.in_ok-route.ensures.search
