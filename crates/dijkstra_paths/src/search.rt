@@ -11,6 +11,7 @@ use crate::queue::{pop, put};
 use crate::{Arc, Graph};
 use flow_model::Cell;
 use mcf_limits::{MAX_LENGTH, MAX_NODES};
+use std::hint::select_unpredictable;
 
 /// Up to so many cells for each node it pays to look at all ways to a node.
 const FEW_CELLS: usize = 2;
@@ -186,59 +187,49 @@ fn keep_steps(
     }
 }
 
-/// Gives the node the distance over an arc's other end, if that is shorter than what is known and the cell goes that way.
+/// How far it is to a node over an arc's other end, as far as distances are known.
 #[inline(always)]
-fn look_over(
-    graph: &Graph,
-    lengths: &[u64],
-    from: u16,
-    node: u16,
-    arc: Arc,
-    dist: &mut [u64],
-    steps: &mut [Step],
-)
-    requires lengths { AreLengths graph.now.cells lengths.now }
-    requires nodes { length dist.old ≡ graph.now.nodes }
-    requires ends { (node < length dist.old) × (arc.to < length dist.old) × (arc.cell < length lengths.now) }
-    requires passes { PassesOver graph.now.cells arc.cell node arc.to }
-    requires tree { IsTree graph.now.cells lengths.now from dist.old steps.old }
-    ensures tree { IsTree graph.now.cells lengths.now from dist.new steps.new }
-    ensures nodes { length dist.new ≡ length dist.old }
+fn way_over(lengths: &[u64], arc: Arc, dist: &[u64]) -> u64
+    requires { (arc.to < length dist.now) × (arc.cell < length lengths.now) }
 {
-    let there = dist[arc.to as usize] + lengths[arc.cell as usize];
-    if there >= dist[node as usize] {
-        return;
-    }
-    let step = Step {
-        cell: arc.cell,
-        from: arc.to,
-    };
-    keep_step(graph, lengths, from, node, step, dist, steps);
+    dist[arc.to as usize].saturating_add(lengths[arc.cell as usize])
 }
 
-/// Gives the node the distance over the nearest node around it, if that is shorter than what is known.
+/// How far it is over an earlier step, or the greatest number where that is over no node or cell.
 #[inline(always)]
-fn look_round(
-    graph: &Graph,
-    lengths: &[u64],
-    from: u16,
-    node: u16,
-    dist: &mut [u64],
-    steps: &mut [Step],
-)
+fn way_of(lengths: &[u64], step: Step, dist: &[u64]) -> u64 {
+    let (from, cell) = (step.from as usize, step.cell as usize);
+    if from < dist.len() && cell < lengths.len() {
+        dist[from].saturating_add(lengths[cell])
+    } else {
+        u64::MAX
+    }
+}
+
+/// Of an earlier step to a node and the ways over its arcs the shortest, as far as distances are known: a guess, which is looked at
+/// when it is kept.
+#[inline(always)]
+fn nearest_step(graph: &Graph, lengths: &[u64], kept: Kept, dist: &[u64]) -> Step
     requires lengths { AreLengths graph.now.cells lengths.now }
-    requires nodes { length dist.old ≡ graph.now.nodes }
-    requires tree { IsTree graph.now.cells lengths.now from dist.old steps.old }
-    ensures tree { IsTree graph.now.cells lengths.now from dist.new steps.new }
-    ensures nodes { length dist.new ≡ length dist.old }
+    requires nodes { length dist.now ≡ graph.now.nodes }
 {
-    if node >= graph.nodes() {
-        return;
+    if kept.node >= graph.nodes() {
+        return kept.step;
     }
-    let arcs = graph.out(node);
+    let mut step = kept.step;
+    let mut best = way_of(lengths, step, dist);
+    let arcs = graph.out(kept.node);
     for arc in arcs {
-        look_over(graph, lengths, from, node, *arc, dist, steps);
+        let there = way_over(lengths, *arc, dist);
+        // no branch: which way is the shortest follows no pattern
+        let nearer = there < best;
+        step = Step {
+            cell: select_unpredictable(nearer, arc.cell, step.cell),
+            from: select_unpredictable(nearer, arc.to, step.from),
+        };
+        best = select_unpredictable(nearer, there, best);
     }
+    step
 }
 
 /// As `keep_steps`, over the nearest of the nodes that have a distance so far and not over the step of before alone. Mostly these
@@ -259,8 +250,8 @@ fn look_along(
     ensures nodes { length dist.new ≡ length dist.old }
 {
     for kept in earlier {
-        keep_step(graph, lengths, from, kept.node, kept.step, dist, steps);
-        look_round(graph, lengths, from, kept.node, dist, steps);
+        let step = nearest_step(graph, lengths, *kept, dist);
+        keep_step(graph, lengths, from, kept.node, step, dist, steps);
     }
 }
 
@@ -294,11 +285,12 @@ fn open_over(
     ensures way { (u x : ℕ) → 1 ≤ cell.now.cap → Goes cell.now u x
         → (slice_index dist.now x ≤ slice_index dist.now u + long) ⊎ (slice_index place.new u < result) }
 {
-    if cell.cap == 0 {
-        return count;
-    }
     let tail = dist[cell.tail as usize];
     let head = dist[cell.head as usize];
+    // one comparison for both ways, since mostly neither end is nearer over the cell
+    if tail.abs_diff(head) <= long || cell.cap == 0 {
+        return count;
+    }
     if tail + long < head {
         return put(order, place, keys, count, cell.tail, tail);
     }
