@@ -7,3 +7,15 @@ pub mod Batched
 pub mod Swept
 pub mod Tightened
 pub mod Laws
+pub mod CertKinds
+pub mod HeadKinds
+pub mod Heads
+pub mod Judged
+pub mod JudgedKinds
+pub mod Lines
+pub mod PaperKinds
+pub mod Papers
+pub mod Routings
+pub mod ScriptKinds
+pub mod Scripts
+pub mod Seconds

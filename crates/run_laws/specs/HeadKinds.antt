@@ -1,0 +1,45 @@
+-- What the kind of a refusal says of the line at which the first lines of a text are refused.
+use Rattle.std.specs.Prelude.{◌≡◌, ◌≢◌, ◌⊎◌, ℕ, ◌+◌, ◌<◌, Bool, List, [], ◌∷◌, ◌++◌, length, None}
+use Rattle.std.specs.List.{join_with_byte}
+use Rattle.text_lines.specs.Lines.{Line}
+use Rattle.unit_scale.specs.declared.modes.LinkMode.{LinkMode}
+use Rattle.unit_scale.specs.declared.modes.ModuleMode.{ModuleMode}
+use Rattle.cert_lines.specs.declared.form.Form.{Form}
+use Rattle.cert_lines.specs.declared.refusal.CertKind.TheVariants.{NoHeader, Syntax}
+use Rattle.cert_lines.specs.declared.refusal.CertRefusal.{CertRefusal}
+use Rattle.cert_lines.specs.Spelling.{verdict_words}
+use Rattle.cert_text.specs.declared.opening.Opening.{Opening}
+use Rattle.cert_text.specs.Papers.{form_of}
+use Rattle.cert_inverse.specs.Inverse.{link_word_in}
+use Rattle.run_laws.specs.Heads.{links_line, modules_line}
+use Rattle.run_laws.specs.PaperKinds.{Role, verdict, links, modules, StandsAt, Says}
+
+-- a line that has to be so says no verdict; or no mode of links for which the form has a word; or no mode of
+-- modules
+abbrev pub SaysNothing : Form → Role → Line → Type 0
+SaysNothing form verdict line = (closed : Bool) → join_with_byte 32 line ≢ join_with_byte 32 (verdict_words closed)
+SaysNothing form links line =
+    (mode : LinkMode) → ¬ ((line ≡ links_line form mode) × (0 < length (link_word_in form mode)))
+SaysNothing form modules line = (mode : ModuleMode) → line ≢ modules_line mode
+SaysNothing form role line = ⊥
+
+-- what is wrong with the line, behind a first line that says this: it is the last, without a line feed; or it has
+-- one, and does not say what it has to
+abbrev pub IsSilent : Opening → Line → List Line → ℕ → Type 0
+IsSilent o line after number =
+    (after ≡ []) ⊎ ((after ≢ []) × (role : Role) × StandsAt o.kind role number × SaysNothing o.form role line)
+
+-- a refusal of that line: it is the first and no header; or the first is one, and this is no line of a head
+abbrev pub IsHeadReason : List Line → Line → List Line → CertRefusal → Type 0
+IsHeadReason lines line after r =
+    ((r.line ≡ 1) × (form_of line ≡ None) × (r.kind ≡ NoHeader))
+    ⊎ ((r.kind ≡ Syntax) × (o : Opening) × Says lines o × IsSilent o line after r.line)
+
+-- the refusal is of this line, for such a reason
+pub record IsHeadRefusedFor (lines : List Line) (r : CertRefusal) : Type 0 where
+  pub before : List Line
+  pub line : Line
+  pub after : List Line
+  pub parts : lines ≡ before ++ line ∷ after
+  pub count : r.line ≡ length before + 1
+  pub reason : IsHeadReason lines line after r
