@@ -1,9 +1,18 @@
-//! Open nodes, the one of least distance first: a binary heap in the front of a list of all nodes, with each node's place.
+//! Open nodes, the one of least distance first and of those the one of the least number: a binary heap in the front of a list of all
+//! nodes, with each node's place.
 
 ghost use Rattle.std.specs.Prelude.{◌≡◌, ◌+◌, ◌-◌, ◌*◌, ◌<◌, ◌≤◌, length, slice_index, slice_set, IfSome};
 ghost use Rattle.dijkstra_paths.specs.Heap.{AreInverse, HasHole, SameOpen};
 
 use mcf_limits::MAX_NODES;
+
+/// Whether an open node comes before another one: by its key, and where both have the same by its number. So equal distances are told
+/// apart in the same way whatever was open before, and of equally short ways the one over the lower node is taken.
+#[inline(always)]
+fn is_before(key: u64, node: u16, other_key: u64, other: u16) -> bool {
+    // no branch on the comparison, which is as good as random
+    (key < other_key) | ((key == other_key) & (node < other))
+}
 
 /// Puts the node into the free place.
 #[inline(always)]
@@ -19,7 +28,7 @@ fn fill(order: &mut [u16], place: &mut [u16], keys: &mut [u64], at: usize, node:
     place[node as usize] = at as u16;
 }
 
-/// Moves the node up from the free place, past those of greater keys.
+/// Moves the node up from the free place, past those that come after it.
 #[inline(always)]
 fn rise(
     order: &mut [u16],
@@ -40,7 +49,7 @@ fn rise(
     ensures others { SameOpen place.old count place.new count node }
 {
     let mut at = hole;
-    while at > 0 && key < keys[(at - 1) / 2] {
+    while at > 0 && is_before(key, node, keys[(at - 1) / 2], order[(at - 1) / 2]) {
         let up = (at - 1) / 2;
         let other = order[up];
         order[at] = other;
@@ -51,11 +60,19 @@ fn rise(
     fill(order, place, keys, at, node, key);
 }
 
-/// The child of the free place that has the lesser key, where that is less than the given one.
+/// The child of the free place that comes before the other, where it comes before the given node too.
 #[inline(always)]
-fn lesser_child(keys: &[u64], at: usize, count: usize, key: u64) -> Option<usize>
-    requires within { count ≤ length keys.now }
-    requires small { length keys.now ≤ MAX_NODES }
+fn first_child(
+    order: &[u16],
+    keys: &[u64],
+    at: usize,
+    count: usize,
+    node: u16,
+    key: u64,
+) -> Option<usize>
+    requires within { count ≤ length order.now }
+    requires keys { length keys.now ≡ length order.now }
+    requires small { length order.now ≤ MAX_NODES }
     requires at { at < count }
     ensures below { IfSome result (λ child. at < child) }
     ensures inside { IfSome result (λ child. child < count) }
@@ -65,16 +82,19 @@ fn lesser_child(keys: &[u64], at: usize, count: usize, key: u64) -> Option<usize
         return None;
     }
     let right = left + 1;
-    // no branch on the comparison, which is as good as random
     let child = if right < count {
-        left + (keys[right] < keys[left]) as usize
+        left + is_before(keys[right], order[right], keys[left], order[left]) as usize
     } else {
         left
     };
-    if keys[child] < key { Some(child) } else { None }
+    if is_before(keys[child], order[child], key, node) {
+        Some(child)
+    } else {
+        None
+    }
 }
 
-/// Moves the node down from the first place, past those of lesser keys.
+/// Moves the node down from the first place, past those that come before it.
 #[inline(always)]
 fn sink(order: &mut [u16], place: &mut [u16], keys: &mut [u64], count: usize, node: u16, key: u64)
     requires hole { HasHole order.old place.old 0 node }
@@ -87,7 +107,7 @@ fn sink(order: &mut [u16], place: &mut [u16], keys: &mut [u64], count: usize, no
     ensures others { SameOpen place.old count place.new count node }
 {
     let mut at = 0;
-    while let Some(child) = lesser_child(keys, at, count, key) {
+    while let Some(child) = first_child(order, keys, at, count, node, key) {
         let other = order[child];
         order[at] = other;
         keys[at] = keys[child];
@@ -130,7 +150,7 @@ pub fn put(
     count + 1
 }
 
-/// Takes out the open node of least key.
+/// Takes out the open node that comes first.
 #[inline(always)]
 pub fn pop(order: &mut [u16], place: &mut [u16], keys: &mut [u64], count: usize) -> u16
     requires inverse { AreInverse order.old place.old }

@@ -138,7 +138,7 @@ fn clear(dist: &mut [u64])
     }
 }
 
-/// Gives the node the distance over an earlier step to it, where that goes and is shorter than what is known.
+/// Gives the node the distance over an earlier step to it, where that goes and is shorter than what is known, and says whether it goes.
 #[inline(always)]
 fn keep_step(
     graph: &Graph,
@@ -148,7 +148,7 @@ fn keep_step(
     step: Step,
     dist: &mut [u64],
     steps: &mut [Step],
-)
+) -> bool
     requires lengths { AreLengths graph.now.cells lengths.now }
     requires nodes { length dist.old ≡ graph.now.nodes }
     requires tree { IsTree graph.now.cells lengths.now from dist.old steps.old }
@@ -157,13 +157,14 @@ fn keep_step(
 {
     let _ = from;
     if !graph.passes(step.cell, step.from, node) {
-        return;
+        return false;
     }
     let there = dist[step.from as usize] + lengths[step.cell as usize];
     if there < dist[node as usize] {
         dist[node as usize] = there;
         steps[node as usize] = step;
     }
+    true
 }
 
 /// Gives nodes the distances along an earlier tree, in its order: nodes before those that were reached from them.
@@ -232,8 +233,8 @@ fn nearest_step(graph: &Graph, lengths: &[u64], kept: Kept, dist: &[u64]) -> Ste
     step
 }
 
-/// As `keep_steps`, over the nearest of the nodes that have a distance so far and not over the step of before alone. Mostly these
-/// are the least distances, so few nodes are opened then.
+/// As `keep_steps`, over the nearest of the nodes that have a distance so far and not over the step of before alone, unless the cell
+/// from there goes the other way alone. Mostly these are the least distances, so few nodes are opened then.
 #[inline(always)]
 fn look_along(
     graph: &Graph,
@@ -250,8 +251,10 @@ fn look_along(
     ensures nodes { length dist.new ≡ length dist.old }
 {
     for kept in earlier {
-        let step = nearest_step(graph, lengths, *kept, dist);
-        keep_step(graph, lengths, from, kept.node, step, dist, steps);
+        let nearest = nearest_step(graph, lengths, *kept, dist);
+        if !keep_step(graph, lengths, from, kept.node, nearest, dist, steps) {
+            keep_step(graph, lengths, from, kept.node, kept.step, dist, steps);
+        }
     }
 }
 
