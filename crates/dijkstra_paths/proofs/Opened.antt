@@ -1,13 +1,16 @@
 -- The nodes from which a way on is shorter are opened.
-use Rattle.std.proofs.Common.{◌≡◌, ◌⊎◌, inl, inr, ℕ, ◌+◌, ◌<◌, ◌≤◌, List, length, length-set, get_or, set, refl, sym, subst, ◌∙◌, arith}
+use Rattle.std.proofs.Common.{◌≡◌, ◌⊎◌, inl, inr, ℕ, ◌+◌, ◌<◌, ◌≤◌, Bool, true, false, cond, List, length, length-set, get_or, set, refl, sym, subst, ◌∙◌, arith}
+use Rattle.std.specs.Prelude.{IsTrue}
 use Rattle.std.proofs.lemmas.Option.{slice_get_within, get_or_from_slice_get}
 use Rattle.std.proofs.lemmas.Bool.{cases_eq}
 use Rattle.flow_model.specs.declared.net.Cell.{Cell}
 use Rattle.flow_model.specs.Network.{Network, IsCell, IsNetwork}
+use Rattle.flow_model.specs.Lengths.{AreLengths}
 use Rattle.flow_model.specs.Walk.{PassesOver}
 use Rattle.dijkstra_paths.specs.declared.search.Step.{Step}
-use Rattle.dijkstra_paths.specs.Tree.{IsTree}
-use Rattle.dijkstra_paths.proofs.Relaxed.{at-same, at-other}
+use Rattle.dijkstra_paths.specs.declared.search.Way.{Way}
+use Rattle.dijkstra_paths.specs.Tree.{GoBothWays, IsTree, IsWay}
+use Rattle.dijkstra_paths.proofs.Relaxed.{at-same, at-other, pass-inside, tree-relaxed}
 use Rattle.mcf_limits.specs.declared.TheConstants.{MAX_LENGTH}
 
 -- a way over a positive cell begins at a node
@@ -35,6 +38,36 @@ tree-first cells lengths from dist steps sl lf far =
       start = at-same dist from from 0 refl lf;
       reached = λ v l apart near. absurd (omega (arith, at-other dist from v 0 apart, far v (omega (arith, same))));
     }
+
+-- what holds of the one and of the other
+pub one-of : (P : Way → Type 0) (first : Bool) (one other : Way) → P one → P other → P (cond first one other)
+one-of P true one other p q = p
+one-of P false one other p q = q
+
+-- where cells go both ways, so does a way over one
+pass-back : (cells : List Cell) (c u x : ℕ) → GoBothWays cells → PassesOver cells c u x → PassesOver cells c x u
+pass-back cells c u x both p =
+    let within : c < length cells = slice_get_within cells c p.0 p.1 in
+    let is : get_or cells c p.0 ≡ p.0 = get_or_from_slice_get cells c p.0 p.0 p.1 in
+    let goes : IsTrue p.0.both = subst (λ (k : Cell). IsTrue k.both) is (both c p.0 within) in (
+      p.0,
+      p.1,
+      p.2,
+      elim p.3 [
+        | inl g ↦ inr (goes, g.1, g.0)
+        | inr g ↦ inl (g.2, g.1)
+      ],
+    )
+
+-- over a shorter way to it the node is reached
+pub nearer-way : (net : Network) (lengths : List ℕ) (from node : ℕ) (dist : List ℕ) (steps : List Step) (way : Way) → IsNetwork net → AreLengths net.cells lengths → GoBothWays net.cells
+    → length dist ≡ net.nodes → IsTree net.cells lengths from dist steps → node < net.nodes → (way.long ≡ get_or dist node 0) ⊎ IsWay net.cells lengths dist node way → way.long < get_or dist node 0
+    → IsTree net.cells lengths from (set dist node way.long) (set steps node (record { cell = way.cell; from = way.from }))
+nearer-way net lengths from node dist steps way n lens both nodes tree inside of less = elim of [
+  | inl e ↦ absurd (omega arith)
+  | inr w ↦ let ends = pass-inside net way.cell node way.from n w.back in
+      tree-relaxed net.cells lengths from way.from dist steps way.cell node way.long lens tree (omega (arith, ends.0)) (omega arith) (pass-back net.cells way.cell node way.from both w.back) w.long less
+]
 
 -- the way over a cell is no shorter than what is known, or the node before it is open
 abbrev pub IsTaken : List ℕ → List ℕ → ℕ → ℕ → ℕ → ℕ → Type 0

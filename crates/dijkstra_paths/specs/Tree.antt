@@ -1,11 +1,12 @@
 -- What a search keeps: a tree of steps with distances.
-use Rattle.std.specs.Prelude.{◌≡◌, ◌≢◌, ℕ, ◌+◌, ◌<◌, ◌≤◌, List, length, slice_index, slice_index_or}
+use Rattle.std.specs.Prelude.{◌≡◌, ◌≢◌, ℕ, ◌+◌, ◌<◌, ◌≤◌, List, All, IsTrue, length, slice_index, slice_index_or}
 use Rattle.flow_model.specs.declared.net.Cell.{Cell}
 use Rattle.flow_model.specs.Walk.{PassesOver}
 use Rattle.dijkstra_paths.specs.declared.graph.Arc.{Arc}
 use Rattle.dijkstra_paths.specs.declared.search.Step.{Step}
 use Rattle.dijkstra_paths.specs.declared.search.Front.{Front}
 use Rattle.dijkstra_paths.specs.declared.search.FrontSlices.{FrontSlices}
+use Rattle.dijkstra_paths.specs.declared.search.Way.{Way}
 use Rattle.dijkstra_paths.specs.Heap.{AreInverse}
 use Rattle.mcf_limits.specs.declared.TheConstants.{MAX_LENGTH}
 
@@ -17,6 +18,15 @@ pub record IsReached (cells : List Cell) (lengths dist : List ℕ) (step : Step)
   pub passes : PassesOver cells step.cell step.from v
   pub before : step.from < length dist
   pub far : slice_index dist step.from + slice_index lengths step.cell ≤ slice_index dist v
+
+-- it is a way to the node over a cell at it, from a node whose distance is known so far
+pub record IsWay (cells : List Cell) (lengths dist : List ℕ) (node : ℕ) (way : Way) : Type 0 where
+  pub back : PassesOver cells way.cell node way.from
+  pub long : way.long ≡ slice_index dist way.from + slice_index lengths way.cell
+
+-- each cell goes both ways
+abbrev pub GoBothWays : List Cell → Type 0
+GoBothWays cells = All (λ (cell : Cell). IsTrue cell.both) cells
 
 -- every node with a distance below MAX_LENGTH but the first was reached
 pub record IsTree (cells : List Cell) (lengths : List ℕ) (from : ℕ) (dist : List ℕ) (steps : List Step) : Type 0 where

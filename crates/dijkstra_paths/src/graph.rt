@@ -5,6 +5,7 @@ ghost use Rattle.std.specs.Option.{option_to_list};
 ghost use Rattle.flow_model.specs.Network.{IsNetwork};
 ghost use Rattle.flow_model.specs.Walk.{Goes, PassesOver};
 ghost use Rattle.dijkstra_paths.specs.Arcs.{arcs_over, arcs_from};
+ghost use Rattle.dijkstra_paths.specs.Tree.{GoBothWays};
 
 use flow_model::{Cell, Net};
 use mcf_limits::MAX_CELLS;
@@ -24,24 +25,26 @@ pub struct Arc {
 pub struct Graph {
     net: Snapshot<Net>,
     nodes: u16,
+    goes_back: bool,
     cells: Vec<Cell>,
     first: Vec<u32>,
     arcs: Vec<Arc>,
 }
 
 impl Model for Graph {
-    ghost use Rattle.std.specs.Prelude.{◌≡◌};
+    ghost use Rattle.std.specs.Prelude.{◌≡◌, IsTrue};
     ghost use Rattle.flow_model.specs.Network.{Network, IsNetwork};
 
     ghost Value = { Network };
 
     ghost use Rattle.dijkstra_paths.specs.Arcs.{AreArcs};
+    ghost use Rattle.dijkstra_paths.specs.Tree.{GoBothWays};
 
     ghost view = { λ g. g.net.value };
 
     ghost invariant = { λ g. IsNetwork g.net.value × (g.nodes ≡ g.net.value.nodes) ×
         AreArcs g.net.value.cells g.net.value.nodes g.first.items g.arcs.items ×
-        (g.cells.items ≡ g.net.value.cells) };
+        (g.cells.items ≡ g.net.value.cells) × (IsTrue g.goes_back → GoBothWays g.net.value.cells) };
 }
 
 /// The arc over this cell from the node, if one may go over it from there.
@@ -63,6 +66,18 @@ fn arc_of(cell: &Cell, number: u16, from: u16) -> Option<Arc>
     } else {
         None
     }
+}
+
+/// Whether each cell goes both ways.
+fn go_both_ways(cells: &[Cell]) -> bool
+    ensures { IsTrue result → GoBothWays cells.now }
+{
+    for cell in cells {
+        if !cell.both {
+            return false;
+        }
+    }
+    true
 }
 
 /// Whether one may go over this cell from one node to the other.
@@ -114,6 +129,7 @@ impl Graph {
         Ok(Graph {
             net: Snapshot::of(net),
             nodes: net.nodes(),
+            goes_back: go_both_ways(cells),
             cells: Vec::from_slice(alloc, cells)?,
             first,
             arcs,
@@ -125,6 +141,14 @@ impl Graph {
         ensures net { IsNetwork self.now }
     {
         self.nodes
+    }
+
+    /// Whether each cell goes both ways.
+    #[inline(always)]
+    pub(crate) fn goes_both_ways(&self) -> bool
+        ensures { IsTrue result → GoBothWays self.now.cells }
+    {
+        self.goes_back
     }
 
     /// The cells of the network.

@@ -1,11 +1,11 @@
 //! The search: nodes are opened as they come nearer, and each goes on to the nodes after it.
 
-ghost use Rattle.std.specs.Prelude.{◌≡◌, ◌⊎◌, ℕ, ◌+◌, ◌*◌, ◌^◌, ◌<◌, ◌≤◌, All, false, IsTrue, length, slice_index, slice_set};
+ghost use Rattle.std.specs.Prelude.{◌≡◌, ◌⊎◌, ℕ, ◌+◌, ◌*◌, ◌^◌, ◌<◌, ◌≤◌, All, false, IsTrue, if◌then◌else◌, length, slice_index, slice_set};
 ghost use Rattle.std.specs.List.{sum_by};
 ghost use Rattle.flow_model.specs.Walk.{Goes, PassesOver};
 ghost use Rattle.flow_model.specs.Lengths.{AreLengths};
 ghost use Rattle.dijkstra_paths.specs.Heap.{AreInverse};
-ghost use Rattle.dijkstra_paths.specs.Tree.{AreFront, AreOpen, AreSameSlices, IsFront, IsTree, IsDone, IsUnderWay};
+ghost use Rattle.dijkstra_paths.specs.Tree.{AreFront, AreOpen, AreSameSlices, GoBothWays, IsFront, IsTree, IsDone, IsUnderWay, IsWay};
 
 use crate::queue::{pop, put};
 use crate::{Arc, Graph};
@@ -138,7 +138,7 @@ fn clear(dist: &mut [u64])
     }
 }
 
-/// Gives the node the distance over an earlier step to it, where that goes and is shorter than what is known, and says whether it goes.
+/// Gives the node the distance over an earlier step to it, where that goes and is shorter than what is known.
 #[inline(always)]
 fn keep_step(
     graph: &Graph,
@@ -148,7 +148,7 @@ fn keep_step(
     step: Step,
     dist: &mut [u64],
     steps: &mut [Step],
-) -> bool
+)
     requires lengths { AreLengths graph.now.cells lengths.now }
     requires nodes { length dist.old ≡ graph.now.nodes }
     requires tree { IsTree graph.now.cells lengths.now from dist.old steps.old }
@@ -157,14 +157,13 @@ fn keep_step(
 {
     let _ = from;
     if !graph.passes(step.cell, step.from, node) {
-        return false;
+        return;
     }
     let there = dist[step.from as usize] + lengths[step.cell as usize];
     if there < dist[node as usize] {
         dist[node as usize] = there;
         steps[node as usize] = step;
     }
-    true
 }
 
 /// Gives nodes the distances along an earlier tree, in its order: nodes before those that were reached from them.
@@ -188,53 +187,92 @@ fn keep_steps(
     }
 }
 
-/// How far it is to a node over an arc's other end, as far as distances are known.
-#[inline(always)]
-fn way_over(lengths: &[u64], arc: Arc, dist: &[u64]) -> u64
-    requires { (arc.to < length dist.now) × (arc.cell < length lengths.now) }
-{
-    dist[arc.to as usize].saturating_add(lengths[arc.cell as usize])
+/// A way to a node: the cell at its end, the node before that, and how long it is.
+#[derive(Clone, Copy)]
+struct Way {
+    cell: u16,
+    from: u16,
+    long: u64,
 }
 
-/// How far it is over an earlier step, or the greatest number where that is over no node or cell.
+/// The one way or the other, without a branch.
 #[inline(always)]
-fn way_of(lengths: &[u64], step: Step, dist: &[u64]) -> u64 {
-    let (from, cell) = (step.from as usize, step.cell as usize);
-    if from < dist.len() && cell < lengths.len() {
-        dist[from].saturating_add(lengths[cell])
-    } else {
-        u64::MAX
+fn either(first: bool, one: Way, other: Way) -> Way
+    ensures { result ≡ (if first then one else other) }
+{
+    Way {
+        cell: select_unpredictable(first, one.cell, other.cell),
+        from: select_unpredictable(first, one.from, other.from),
+        long: select_unpredictable(first, one.long, other.long),
     }
 }
 
-/// Of an earlier step to a node and the ways over its arcs the shortest, as far as distances are known: a guess, which is looked at
-/// when it is kept.
+/// The shortest of what is known of a node and the ways to it over the cells at it, as far as distances are known. Of equally short
+/// ones it is the first, or that over the cell of the earlier step.
 #[inline(always)]
-fn nearest_step(graph: &Graph, lengths: &[u64], kept: Kept, dist: &[u64]) -> Step
+fn shortest_way(graph: &Graph, lengths: &[u64], kept: Kept, dist: &[u64]) -> Way
     requires lengths { AreLengths graph.now.cells lengths.now }
     requires nodes { length dist.now ≡ graph.now.nodes }
+    requires node { kept.node < graph.now.nodes }
+    requires bound { (v : ℕ) → v < length dist.now → slice_index dist.now v ≤ MAX_LENGTH }
+    ensures { (result.long ≡ slice_index dist.now kept.node)
+        ⊎ IsWay graph.now.cells lengths.now dist.now kept.node result }
 {
-    if kept.node >= graph.nodes() {
-        return kept.step;
-    }
-    let mut step = kept.step;
-    let mut best = way_of(lengths, step, dist);
+    let mut way = Way {
+        cell: 0,
+        from: 0,
+        long: dist[kept.node as usize],
+    };
     let arcs = graph.out(kept.node);
     for arc in arcs {
-        let there = way_over(lengths, *arc, dist);
-        // no branch: which way is the shortest follows no pattern
-        let nearer = there < best;
-        step = Step {
-            cell: select_unpredictable(nearer, arc.cell, step.cell),
-            from: select_unpredictable(nearer, arc.to, step.from),
+        let long = dist[arc.to as usize] + lengths[arc.cell as usize];
+        let other = Way {
+            cell: arc.cell,
+            from: arc.to,
+            long,
         };
-        best = select_unpredictable(nearer, there, best);
+        // the earlier step's way comes first where it is as short as another: no way is of length 0
+        let first = u64::from(arc.cell == kept.step.cell);
+        // no branch: which way is the shortest follows no pattern
+        way = either(long - first < way.long, other, way);
     }
-    step
+    way
 }
 
-/// As `keep_steps`, over the nearest of the nodes that have a distance so far and not over the step of before alone, unless the cell
-/// from there goes the other way alone. Mostly these are the least distances, so few nodes are opened then.
+/// Gives the node the distance over the shortest of the ways to it over the cells at it, where that is shorter than what is known.
+#[inline(always)]
+fn come_near(
+    graph: &Graph,
+    lengths: &[u64],
+    from: u16,
+    kept: Kept,
+    dist: &mut [u64],
+    steps: &mut [Step],
+)
+    requires lengths { AreLengths graph.now.cells lengths.now }
+    requires both { GoBothWays graph.now.cells }
+    requires nodes { length dist.old ≡ graph.now.nodes }
+    requires tree { IsTree graph.now.cells lengths.now from dist.old steps.old }
+    ensures tree { IsTree graph.now.cells lengths.now from dist.new steps.new }
+    ensures nodes { length dist.new ≡ length dist.old }
+{
+    let _ = from;
+    let node = kept.node as usize;
+    if kept.node >= graph.nodes() {
+        return;
+    }
+    let way = shortest_way(graph, lengths, kept, dist);
+    if way.long < dist[node] {
+        dist[node] = way.long;
+        steps[node] = Step {
+            cell: way.cell,
+            from: way.from,
+        };
+    }
+}
+
+/// As `keep_steps`, over the nearest of the nodes that have a distance so far and not over the step of before alone. Mostly these
+/// are the least distances, so few nodes are opened then. Each cell has to go both ways.
 #[inline(always)]
 fn look_along(
     graph: &Graph,
@@ -245,16 +283,14 @@ fn look_along(
     steps: &mut [Step],
 )
     requires lengths { AreLengths graph.now.cells lengths.now }
+    requires both { GoBothWays graph.now.cells }
     requires nodes { length dist.old ≡ graph.now.nodes }
     requires tree { IsTree graph.now.cells lengths.now from dist.old steps.old }
     ensures tree { IsTree graph.now.cells lengths.now from dist.new steps.new }
     ensures nodes { length dist.new ≡ length dist.old }
 {
     for kept in earlier {
-        let nearest = nearest_step(graph, lengths, *kept, dist);
-        if !keep_step(graph, lengths, from, kept.node, nearest, dist, steps) {
-            keep_step(graph, lengths, from, kept.node, kept.step, dist, steps);
-        }
+        come_near(graph, lengths, from, *kept, dist, steps);
     }
 }
 
@@ -370,7 +406,7 @@ fn begin(
 {
     clear(dist);
     dist[from as usize] = 0;
-    if is_sparse(graph) {
+    if graph.goes_both_ways() && is_sparse(graph) {
         look_along(graph, lengths, from, earlier, dist, steps);
     } else {
         keep_steps(graph, lengths, from, earlier, dist, steps);

@@ -1,5 +1,5 @@
 -- What is reached with the first phase, and with one phase more.
-use Rattle.std.proofs.Common.{◌≡◌, ◌≢◌, ℕ, zero, suc, ◌+◌, ◌*◌, ◌<◌, ◌≤◌, Bool, true, false, nat_eq, cond, List, [], ◌∷◌, ◌++◌, length, get_or, take, refl, sym, ap, ◌∙◌, subst, arith, ne_eqb}
+use Rattle.std.proofs.Common.{◌≡◌, ◌≢◌, ℕ, zero, suc, ◌+◌, ◌<◌, ◌≤◌, Bool, true, false, nat_eq, cond, List, [], ◌∷◌, ◌++◌, length, get_or, take, refl, sym, ap, ◌∙◌, subst, arith, ne_eqb}
 use Rattle.std.specs.Prelude.{All, map}
 use Rattle.std.proofs.Math.Seq.{take-length}
 use Rattle.std.proofs.lemmas.List.{length-append}
@@ -18,35 +18,31 @@ use Rattle.flow_paths.proofs.Least.{least-push}
 use Rattle.flow_core.specs.Phase.{Routed}
 use Rattle.dual_bound.specs.declared.bounds.Bounded.{Bounded}
 use Rattle.dual_bound.specs.Bounds.{IsBoundOf, ShowsBound}
-use Rattle.mcf_limits.specs.declared.TheConstants.{MAX_LENGTH, MAX_PHASES, MAX_TOTAL, MAX_UNITS}
+use Rattle.mcf_limits.specs.declared.TheConstants.{MAX_LENGTH, MAX_UNITS}
 use Rattle.solver_run.specs.declared.options.SolveOptions.{SolveOptions}
 use Rattle.solver_run.specs.History.{routed_in, loads_after, fill_after, lower_after, first_setting, later_setting, setting_after, AreRoutedBy}
 use Rattle.solver_run.specs.Run.{no_dual, least_dual, IsClosedAfter, ArePhases}
 use Rattle.flow_solver.specs.declared.search.Search.{Search}
-use Rattle.flow_solver.specs.declared.search.BoundRoom.{BoundRoom}
 use Rattle.flow_solver.specs.declared.reached.Reached.{Reached}
-use Rattle.flow_solver.specs.Search.{phases_in, phase_count, IsBoundRoom, IsSearch, HasRouted}
+use Rattle.flow_solver.specs.Search.{phases_in, phase_count, IsSearch, HasRouted}
 use Rattle.flow_solver.specs.Reached.{AllDivide, IsReached, IsMet}
 use Rattle.flow_solver.proofs.Nexts.{phases-more, next-of, no-phases, reference-kept, fill-kept}
-use Rattle.flow_solver.proofs.Routing.{count-of, loads-size}
+use Rattle.flow_solver.proofs.Routing.{count-of}
 
 -- the fullest cell of some loads is within the limits
-pub fill-fits : (net : Network) (s : Search) (f : Fill) → IsNetwork net → IsSearch net s → phase_count s ≤ MAX_PHASES → (c : ℕ) × (c < length net.cells) × (1 ≤ get_or s.loads.items c 0)
-    → fullness f ≡ fill net.cells s.loads.items → IsFill f
-fill-fits net s f n is few some same =
+pub fill-fits : (net : Network) (loads : List ℕ) (f : Fill) → IsNetwork net → length loads ≡ length net.cells → All (λ (x : ℕ). x ≤ MAX_LENGTH) loads
+    → (c : ℕ) × (c < length net.cells) × (1 ≤ get_or loads c 0) → fullness f ≡ fill net.cells loads → IsFill f
+fill-fits net loads f n size small some same =
     let cap = ap (λ (x : Fraction). x.num) same in
     let load = ap (λ (x : Fraction). x.den) same in
-    let positive = fill-positive net.cells s.loads.items some.0 (loads-size net s is) some.1 some.2 in
-    let caps = fill-cap MAX_UNITS net.cells s.loads.items (omega arith) (λ k d l. (n.cells k d l).cap) in
-    let loads = fill-load (phase_count s * MAX_TOTAL) net.cells s.loads.items is.small in
+    let positive = fill-positive net.cells loads some.0 size some.1 some.2 in
+    let caps = fill-cap MAX_UNITS net.cells loads (omega arith) (λ k d l. (n.cells k d l).cap) in
+    let most = fill-load MAX_LENGTH net.cells loads small in
     record {
       some = omega arith;
       load = omega arith;
       cap = omega arith;
     }
-
-pub loads-limit : (net : Network) (s : Search) → IsSearch net s → phase_count s ≤ MAX_PHASES → All (λ (x : ℕ). x ≤ MAX_LENGTH) s.loads.items
-loads-limit net s is few = λ k d l. (let small : get_or s.loads.items k d ≤ phase_count s * MAX_TOTAL = is.small k d l in omega arith)
 
 -- one phase more
 pub count-more : (net : Network) (setting : Setting) (old new : Search) → HasRouted net setting old new → phase_count new ≡ phase_count old + 1
@@ -203,23 +199,6 @@ next-reached net o r new f later kept is unmet after h same fits bound shows val
           (of-both (λ (b : Bounded). (lengths : List ℕ) × ShowsBound net lengths b.dual) (fraction_le r.kept.value later.value) r.kept later is.shows shows);
     }
 
--- the room for bounds has no bearing
-pub other-room : (net : Network) (s : Search) (room : BoundRoom) → IsBoundRoom net room → IsSearch net s → IsSearch net (record { loads = s.loads; room = room; hands = s.hands; history = s.history; sought = s.sought })
-other-room net s room fits is = record {
-  loads = is.loads;
-  small = is.small;
-  room = fits;
-  hands = is.hands;
-  commodities = is.commodities;
-  rows = is.rows;
-}
-
-pub routed-other : (net : Network) (setting : Setting) (old s : Search) (room : BoundRoom) → HasRouted net setting old s → HasRouted net setting old (record { loads = s.loads; room = room; hands = s.hands; history = s.history; sought = s.sought })
-routed-other net setting old s room r = record {
-  entries = r.entries;
-  phases = r.phases;
-  hands = r.hands;
-  workers = r.workers;
-  phase = r.phase;
-  loaded = r.loaded;
-}
+-- the fullest cell of the loads is that after the phases that are kept
+pub fill-after : (net : Network) (s : Search) (f : Fill) (loads : List ℕ) → IsSearch net s → loads ≡ s.loads.items → fullness f ≡ fill net.cells loads → fullness f ≡ fill_after net (phases_in s) (phase_count s)
+fill-after net s f loads is same value = value ∙ ap (fill net.cells) (same ∙ is.loads)

@@ -15,12 +15,13 @@ use Rattle.mcf_limits.specs.declared.TheConstants.{MAX_LENGTH, MAX_PHASES, MAX_T
 use Rattle.phase_engine.specs.declared.hand.Hand.{Hand}
 use Rattle.phase_engine.specs.Hands.{IsFresh, IsSameWorker}
 use Rattle.phase_engine.specs.Routing.{IsRoutedPhase}
-use Rattle.flow_solver.specs.Rows.{AreRowsFor}
+use Rattle.flow_solver.specs.Rows.{AreRowsFor, HistoryView, phases_kept}
 use Rattle.solver_run.specs.Paths.{IsPathOf, HavePaths}
 use Rattle.solver_run.specs.History.{routed_in, loads_after}
 use Rattle.solver_run.proofs.Paths.{phase-paths}
 use Rattle.flow_solver.specs.declared.search.Search.{Search}
-use Rattle.flow_solver.specs.Search.{AreIdle, IsBoundRoom, phases_in, phase_count, IsSearch, HasRouted}
+use Rattle.flow_solver.specs.Routes.{IsRoutedOnce}
+use Rattle.flow_solver.specs.Search.{AreIdle, IsBoundRoom, phases_in, phase_count, IsRouted, IsSearch, HasRouted}
 use Rattle.flow_solver.proofs.Loads.{loads-more, loads-small, once, phase-adds, phase-loads, total-amounts, room-above}
 
 -- hands
@@ -115,6 +116,16 @@ some-load net (e ∷ es) base loads n have count sums = by_path e.path refl
         let sum = sums c inside in
         (c, inside, omega arith)
 
+-- loads after one phase more
+loads-limit-more : (net : Network) (setting : Setting) (old : Search) (loads : List ℕ) (hands : List Hand) → IsNetwork net → IsSearch net old → (p : IsRoutedPhase net setting old.loads.items loads hands)
+    → length loads ≡ length net.cells → All (λ (x : ℕ). x ≤ (phase_count old + 1) * MAX_TOTAL) loads
+loads-limit-more net setting old loads hands n is p size =
+    let old_size = loads-size net old is in
+    let have = phase-paths net setting old.loads.items loads p.entries n p.phase in
+    let sum = n.total in
+    loads-small old.loads.items loads (load_of (amounts_along 0 net.commodities p.entries)) (phase_count old) MAX_TOTAL (omega arith) (λ c l. p.sums c (omega arith))
+    (λ c. (let few = phase-adds net.commodities p.entries 0 c (λ k r at. once c r.path (have k r at).different) in omega arith)) is.small
+
 pub search-more : (net : Network) (setting : Setting) (old new : Search) (hands : List Hand) → IsNetwork net → IsSearch net old → (p : IsRoutedPhase net setting old.loads.items new.loads.items hands)
     → length new.loads.items ≡ length net.cells → phases_in new ≡ phases_in old ++ p.entries ∷ [] → IsBoundRoom net new.room → AreIdle net.nodes new.hands.items
     → new.history.commodities ≡ length net.commodities → AreRowsFor net new.history.history new.history.rows → IsSearch net new
@@ -126,13 +137,10 @@ search-more net setting old new hands n is p size phases room idle commodities r
     let count : phase_count new ≡ phase_count old + 1 = omega arith in
     let old_size = loads-size net old is in
     let loads = loads-more net (phases_in old) p.entries old.loads.items new.loads.items (is.loads ∙ ap (λ (i : ℕ). loads_after net (phases_in old) i) (sym before)) size p.sums in
-    let have = phase-paths net setting old.loads.items new.loads.items p.entries n p.phase in
-    let sum = n.total in
     record {
       loads = loads ∙ ap (λ (ps : List (List Routed)). loads_after net ps (length (phases_in old) + 1)) (sym phases) ∙ ap (λ (i : ℕ). loads_after net (phases_in new) i) (omega arith);
       small = subst (λ (i : ℕ). All (λ (x : ℕ). x ≤ i * MAX_TOTAL) new.loads.items) (sym count)
-          (loads-small old.loads.items new.loads.items (load_of (amounts_along 0 net.commodities p.entries)) (phase_count old) MAX_TOTAL (omega arith) (λ c l. p.sums c (omega arith))
-          (λ c. (let few = phase-adds net.commodities p.entries 0 c (λ k r at. once c r.path (have k r at).different) in omega arith)) is.small);
+          (loads-limit-more net setting old new.loads.items hands n is p size);
       room = room;
       hands = idle;
       commodities = commodities;
@@ -157,3 +165,39 @@ routed-more net setting old new hands n p phases same are = record {
   phase = p.phase;
   loaded = some-load net p.entries old.loads.items new.loads.items n (phase-paths net setting old.loads.items new.loads.items p.entries n p.phase) p.count p.sums;
 }
+
+-- what the hands have routed, before it is noted
+pub routed-phase : (net : Network) (setting : Setting) (old new : Search) → IsNetwork net → IsSearch net old → phase_count old < MAX_PHASES
+    → (p : IsRoutedPhase net setting old.loads.items new.loads.items new.hands.items) → length new.loads.items ≡ length net.cells → AreIdle net.nodes new.hands.items
+    → length new.hands.items ≡ length old.hands.items → new.room ≡ old.room → new.history ≡ old.history → IsRouted net setting old new
+routed-phase net setting old new n is few p size idle same room history =
+    let limit = loads-limit-more net setting old new.loads.items new.hands.items n is p size in
+    record {
+      phase = p;
+      count = size;
+      small = λ k d l. (let small : get_or new.loads.items k d ≤ (phase_count old + 1) * MAX_TOTAL = limit k d l in omega arith);
+      loaded = some-load net p.entries old.loads.items new.loads.items n (phase-paths net setting old.loads.items new.loads.items p.entries n p.phase) p.count p.sums;
+      hands = idle;
+      same = same;
+      room = room;
+      history = history;
+    }
+
+-- and then it is noted
+abbrev IsNext : Network → Setting → Search → Search → Type 0
+IsNext net setting old new = IsSearch net new × HasRouted net setting old new
+
+pub noted-phase : (net : Network) (setting : Setting) (old mid new : Search) → IsNetwork net → IsSearch net old → IsRouted net setting old mid → new.loads ≡ mid.loads → new.hands ≡ mid.hands
+    → new.history.commodities ≡ mid.history.commodities → IsBoundRoom net new.room → AreRowsFor net new.history.history new.history.rows
+    → ((entries : List Routed) → IsRoutedOnce net mid.hands.items entries → phases_kept new.history ≡ phases_kept mid.history ++ entries ∷ []) → IsSearch net new × HasRouted net setting old new
+noted-phase net setting old mid new n is r loads hands commodities room rows phases =
+    let made : Search = record { loads = mid.loads; room = new.room; hands = mid.hands; history = new.history; sought = new.sought } in
+    let p = r.phase in
+    let more : phases_in made ≡ phases_in old ++ p.entries ∷ [] = phases p.entries (record { count = p.count; routes = p.routes }) ∙ ap (λ (h : HistoryView). phases_kept h ++ p.entries ∷ []) r.history in
+    let next : IsNext net setting old made = (
+      search-more net setting old made mid.hands.items n is p r.count more room r.hands (commodities ∙ ap (λ (h : HistoryView). h.commodities) r.history ∙ is.commodities) rows,
+      routed-more net setting old made mid.hands.items n p more r.same refl,
+    ) in
+    let same_hands : IsNext net setting old (record { loads = mid.loads; room = new.room; hands = new.hands; history = new.history; sought = new.sought }) =
+    subst (λ (hs : _). IsNext net setting old (record { loads = mid.loads; room = new.room; hands = hs; history = new.history; sought = new.sought })) (sym hands) next in
+    subst (λ (xs : _). IsNext net setting old (record { loads = xs; room = new.room; hands = new.hands; history = new.history; sought = new.sought })) (sym loads) same_hands

@@ -1,14 +1,17 @@
 -- A phase that is being added: its first entries, with their rows.
 use Rattle.std.specs.Prelude.{◌≡◌, ℕ, ◌+◌, ◌*◌, ◌<◌, ◌≤◌, List, [], ◌∷◌, ◌++◌, All, Contains, Option, MatchOption, Some, length, slice_get, slice_index_or}
-use Rattle.mcf_limits.specs.declared.TheConstants.{MAX_DEMANDS}
+use Rattle.mcf_limits.specs.declared.TheConstants.{MAX_DEMANDS, MAX_PHASES, MAX_WORK}
 use Rattle.flow_model.specs.Network.{Network}
 use Rattle.flow_model.specs.Routing.{Row}
 use Rattle.flow_paths.specs.PathRows.{row_at, HasNoRow, IsFirstRow}
 use Rattle.phase_engine.specs.declared.hand.Hand.{Hand}
+use Rattle.phase_engine.specs.Routing.{HasRouted}
+use Rattle.flow_core.specs.Phase.{Routed}
 use Rattle.solver_run.specs.declared.options.Entry.{Entry}
 use Rattle.solver_run.specs.History.{path_named, IsWeighed, NamesRows}
 use Rattle.flow_solver.specs.declared.places.Place.{Place}
-use Rattle.flow_solver.specs.Rows.{AreApart, HistoryView}
+use Rattle.flow_solver.specs.Routes.{IsRoutedOnce}
+use Rattle.flow_solver.specs.Rows.{AreApart, AreRowsFor, HistoryView, phases_kept}
 
 abbrev pub no_place : Place
 no_place = record { hand = 0; path = record { ref_ptr = (0, 0); now = [] } }
@@ -21,6 +24,24 @@ pub record IsPlaceAt (w : ℕ) (hand : Hand) (k : ℕ) (p : Place) : Type 0 wher
 -- the path of commodity k
 abbrev pub path_at : List Place → ℕ → List ℕ
 path_at places k = (slice_index_or places k no_place).path.now
+
+-- each commodity's place names the hand that has routed it, and along which path
+abbrev pub ArePlaces : Network → List Hand → List Place → Type 0
+ArePlaces net hands places = (k : ℕ) → k < length net.commodities → HasRouted hands (slice_index_or places k no_place).hand k (path_at places k)
+
+-- the phase of which these are the places can be noted
+pub record CanBeNoted (net : Network) (h : HistoryView) (places : List Place) : Type 0 where
+  pub commodities : h.commodities ≡ length net.commodities
+  pub rows : AreRowsFor net h.history h.rows
+  pub phases : length h.history < MAX_PHASES
+  pub work : h.commodities * (length h.history + 1) ≤ MAX_WORK
+  pub count : length places ≡ length net.commodities
+  pub few : length places ≤ MAX_DEMANDS
+
+-- it is noted: rows and entries belong together, and the phase that hands have routed stands last
+pub record IsNoted (net : Network) (places : List Place) (old new : HistoryView) : Type 0 where
+  pub rows : AreRowsFor net new.history new.rows
+  pub phases : (hands : List Hand) (entries : List Routed) → ArePlaces net hands places → IsRoutedOnce net hands entries → phases_kept new ≡ phases_kept old ++ entries ∷ []
 
 -- the first row of commodity k and of its path, or none where there is none
 pub record IsRowFor (rows : List Row) (places : List Place) (k : ℕ) (row : Option ℕ) : Type 0 where

@@ -4,9 +4,14 @@ use Rattle.flow_model.specs.declared.setting.Setting.{Setting}
 use Rattle.flow_model.specs.Network.{Network}
 use Rattle.flow_core.specs.Phase.{Routed, IsPhase}
 use Rattle.phase_engine.specs.declared.hand.Hand.{Hand}
+use Rattle.phase_engine.specs.Routing.{IsRoutedPhase}
 use Rattle.flow_solver.specs.Rows.{phases_kept, AreRowsFor}
 use Rattle.solver_run.specs.History.{loads_after}
-use Rattle.mcf_limits.specs.declared.TheConstants.{MAX_TOTAL, MAX_WORKERS}
+use Rattle.mcf_limits.specs.declared.TheConstants.{MAX_LENGTH, MAX_TOTAL, MAX_WORKERS}
+use Rattle.flow_model.specs.Lengths.{IsSetting, lengths_of}
+use Rattle.flow_paths.specs.Certificate.{upper_of}
+use Rattle.dual_bound.specs.declared.bounds.Bounded.{Bounded}
+use Rattle.dual_bound.specs.Bounds.{IsBoundOf, ShowsBound}
 use Rattle.dual_bound.specs.Rows.{AreRoom}
 use Rattle.flow_solver.specs.declared.search.Search.{Search}
 use Rattle.flow_solver.specs.declared.search.BoundRoom.{BoundRoom}
@@ -43,6 +48,17 @@ pub record IsSearch (net : Network) (s : Search) : Type 0 where
   pub commodities : s.history.commodities ≡ length net.commodities
   pub rows : AreRowsFor net s.history.history s.history.rows
 
+-- the hands have routed one phase more under the setting, which has loaded some cell and is not noted yet
+pub record IsRouted (net : Network) (setting : Setting) (old new : Search) : Type 0 where
+  pub phase : IsRoutedPhase net setting old.loads.items new.loads.items new.hands.items
+  pub count : length new.loads.items ≡ length net.cells
+  pub small : All (λ (x : ℕ). x ≤ MAX_LENGTH) new.loads.items
+  pub loaded : (c : ℕ) × (c < length net.cells) × (1 ≤ slice_index new.loads.items c)
+  pub hands : AreIdle net.nodes new.hands.items
+  pub same : length new.hands.items ≡ length old.hands.items
+  pub room : new.room ≡ old.room
+  pub history : new.history ≡ old.history
+
 -- one phase more under the setting, of the same hands, which has loaded some cell
 pub record HasRouted (net : Network) (setting : Setting) (old new : Search) : Type 0 where
   pub entries : List Routed
@@ -51,3 +67,12 @@ pub record HasRouted (net : Network) (setting : Setting) (old new : Search) : Ty
   pub workers : All (λ (r : Routed). r.worker < length old.hands.items) entries
   pub phase : IsPhase net setting old.loads.items new.loads.items entries
   pub loaded : (c : ℕ) × (c < length net.cells) × (1 ≤ slice_index new.loads.items c)
+
+-- there is what a bound of the lengths under these loads is made of
+abbrev pub CanBeBounded : Network → Setting → List ℕ → BoundRoom → Type 0
+CanBeBounded net setting loads room = IsSetting setting × (length loads ≡ length net.cells) × All (λ (x : ℕ). x ≤ MAX_LENGTH) loads × IsBoundRoom net room
+
+-- it is the bound of the lengths under these loads, with its value
+abbrev pub IsBoundUnder : Network → Setting → List ℕ → Bounded → Type 0
+IsBoundUnder net setting loads b =
+    IsBoundOf net (lengths_of net setting loads) b.dual × ShowsBound net (lengths_of net setting loads) b.dual × (b.value ≡ upper_of net b.dual)

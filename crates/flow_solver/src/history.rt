@@ -5,10 +5,10 @@ ghost use Rattle.std.specs.Prelude.{◌≡◌};
 use crate::entries::Entries;
 use crate::found::find_each;
 use crate::noted::Sought;
-use crate::places::{Place, places_of};
+use crate::places::Place;
 use flow_model::Net;
 use flow_paths::{PathStore, new_numbers, order_of, stored};
-use mcf_limits::{MAX_LENGTH, MAX_PHASES, MAX_WORK, MAX_WORKERS};
+use mcf_limits::{MAX_LENGTH, MAX_PHASES, MAX_WORK};
 use phase_engine::Hand;
 use solver_run::Entry;
 use std::alloc::{AllocError, Global};
@@ -46,11 +46,9 @@ impl PathHistory {
     ghost use Rattle.std.specs.Prelude.{◌≡◌, ℕ, ◌+◌, ◌*◌, ◌<◌, ◌≤◌, ◌++◌, ◌∷◌, [], List, OnOk, OnErr, IfOk, MatchOption, length, map, slice_index_or};
     ghost use Rattle.flow_model.specs.Network.{Network};
     ghost use Rattle.flow_paths.specs.PathRows.{row_at, HasNoRow, IsFirstRow, Adds};
-    ghost use Rattle.flow_core.specs.Phase.{Routed};
     ghost use Rattle.solver_run.specs.History.{routed_in, AreRowsOf};
     ghost use Rattle.flow_solver.specs.Rows.{phases_kept, AreApart, AreRowsFor};
-    ghost use Rattle.flow_solver.specs.Routes.{IsRoutedOnce, HaveRouted};
-    ghost use Rattle.flow_solver.specs.Adding.{IsRowFor, KeepsRows, AreBegun, AreNamed};
+    ghost use Rattle.flow_solver.specs.Adding.{CanBeNoted, IsNoted, IsRowFor, KeepsRows, AreBegun, AreNamed};
 
     /// No phase and no row, for the commodities of the network.
     pub fn new(alloc: Global, net: &Net) -> Self
@@ -146,34 +144,26 @@ impl PathHistory {
         Ok(entries)
     }
 
-    /// Appends the phase that the hands have routed: each path is found among the rows, which grow by the
-    /// commodity's amount, or appended. The rows are found in as many threads as there are hands, where that pays.
+    /// Appends the phase that hands have routed, with each commodity's place: its path is found among the rows, which grow by the
+    /// commodity's amount, or appended. The rows are found in so many threads, where that pays.
     /// `Err` is for want of memory: the phases are as before, but weights may have grown, so nothing more can be
     /// added.
-    pub fn add_phase<R: Threads + Sync>(
+    pub(crate) fn note_phase<R: Threads + Sync>(
         &mut self,
         rt: &R,
         alloc: Global,
         net: &Net,
-        hands: &[Hand],
+        threads: usize,
+        places: &[Place],
         sought: &mut Vec<Sought>,
     ) -> Result<(), AllocError>
-        requires commodities { self.old.commodities ≡ length net.now.commodities }
-        requires rows { AreRowsFor net.now self.old.history self.old.rows }
-        requires phases { length self.old.history < MAX_PHASES }
-        requires work { self.old.commodities * (length self.old.history + 1) ≤ MAX_WORK }
-        requires hands { length hands.now ≤ MAX_WORKERS }
-        requires routes { HaveRouted net.now hands.now }
+        requires { CanBeNoted net.now self.old places.now }
         ensures commodities { self.new.commodities ≡ self.old.commodities }
-        ensures rows { OnOk result (AreRowsFor net.now self.new.history self.new.rows) }
-        ensures phases { OnOk result ((entries : List Routed)
-            → IsRoutedOnce net.now hands.now entries
-            → phases_kept self.new ≡ phases_kept self.old ++ entries ∷ []) }
+        ensures noted { OnOk result (IsNoted net.now places.now self.old self.new) }
         ensures err { OnErr result (phases_kept self.new ≡ phases_kept self.old) }
     {
-        let places = places_of(alloc, net, hands)?;
-        find_each(rt, alloc, hands.len(), self, &places, sought)?;
-        let entries = self.name_rows(alloc, net, &places, sought)?;
+        find_each(rt, alloc, threads, self, places, sought)?;
+        let entries = self.name_rows(alloc, net, places, sought)?;
         self.entries.push(&entries)?;
         Ok(())
     }

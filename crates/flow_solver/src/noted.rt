@@ -1,6 +1,6 @@
 //! The rows that a commodity was found at of late: hints, of which no contract speaks.
 
-ghost use Rattle.std.specs.Prelude.{◌≡◌, ◌<◌, ⊤, MatchOption, length};
+ghost use Rattle.std.specs.Prelude.{⊤, MatchOption};
 ghost use Rattle.flow_paths.specs.PathRows.{HasNoRow, IsFirstRow};
 ghost use Rattle.flow_solver.specs.Rows.{AreApart, IsRowOf};
 

@@ -1,17 +1,18 @@
 //! What a solve has reached after some phases.
 
-ghost use Rattle.std.specs.Prelude.{◌≡◌, ℕ, ◌+◌, ◌*◌, ◌<◌, ◌≤◌, ◌↔◌, true, false, IsTrue, IfOk, length, slice_index};
+ghost use Rattle.std.specs.Prelude.{◌≡◌, ℕ, ◌+◌, ◌*◌, ◌<◌, ◌≤◌, ◌↔◌, true, false, All, IsTrue, IfOk, length, slice_index};
 ghost use Rattle.flow_model.specs.Lengths.{IsSetting};
 ghost use Rattle.flow_model.specs.Least.{HasNoCut};
+ghost use Rattle.flow_paths.specs.Evaluation.{fill};
 ghost use Rattle.flow_paths.specs.Fullness.{IsFill, fullness};
-ghost use Rattle.solver_run.specs.History.{fill_after, first_setting};
+ghost use Rattle.solver_run.specs.History.{first_setting};
 ghost use Rattle.solver_run.specs.Options.{AreOptions};
 ghost use Rattle.flow_solver.specs.Reached.{IsMet, IsReached};
-ghost use Rattle.flow_solver.specs.Search.{IsSearch, phase_count, phases_in};
+ghost use Rattle.flow_solver.specs.Search.{phase_count};
 
 use crate::kept::lesser;
 use crate::prepared::Prepared;
-use crate::search::{Search, bound_of, new_search, route};
+use crate::search::{Search, new_search, note_and_bound, route};
 use dual_bound::Bounded;
 use flow_model::{Net, Setting};
 use flow_paths::{Fill, fullest};
@@ -32,14 +33,14 @@ pub struct Reached {
 }
 
 /// The fullest cell, where some cell has a load.
-fn measured(net: &Net, search: &Search) -> Fill
-    requires search { IsSearch net.now search.now }
-    requires loaded { (c : ℕ) × (c < length net.now.cells) × (1 ≤ slice_index search.now.loads.items c) }
-    requires few { phase_count search.now ≤ MAX_PHASES }
-    ensures value { fullness result ≡ fill_after net.now (phases_in search.now) (phase_count search.now) }
+fn measured(net: &Net, loads: &[u64]) -> Fill
+    requires count { length loads.now ≡ length net.now.cells }
+    requires loaded { (c : ℕ) × (c < length net.now.cells) × (1 ≤ slice_index loads.now c) }
+    requires small { All (λ x. x ≤ MAX_LENGTH) loads.now }
+    ensures value { fullness result ≡ fill net.now.cells loads.now }
     ensures fits { IsFill result }
 {
-    fullest(net.cells(), &search.loads)
+    fullest(net.cells(), loads)
 }
 
 /// The setting of the first phase, in which loads have no effect.
@@ -80,20 +81,13 @@ pub fn first<G: Gate, R: Threads + Sync>(
     ensures reached { IfOk result (λ r. IsReached on.now.net.now options.now r) }
     ensures count { IfOk result (λ r. phase_count r.search ≡ 1) }
 {
+    let _cells = on.net.cells();
     let mut search = new_search(alloc, on.net, options.workers)?;
     let setting = setting_at_first(options.step);
     route(rt, alloc, on, setting, gate, &mut search)?;
-    let fill = measured(on.net, &search);
+    let fill = measured(on.net, &search.loads);
     let later = setting_after_first(fill, options.step);
-    let kept = bound_of(
-        rt,
-        alloc,
-        on,
-        &later,
-        &search.loads,
-        &mut search.room,
-        threads,
-    )?;
+    let kept = note_and_bound(rt, alloc, on, &later, &mut search, threads)?;
     Ok(Reached {
         search,
         reference: fill,
@@ -120,6 +114,7 @@ pub fn next<G: Gate, R: Threads + Sync>(
     ensures reached { IfOk result (λ r. IsReached on.now.net.now options.now r) }
     ensures count { IfOk result (λ r. phase_count r.search ≡ phase_count reached.search + 1) }
 {
+    let _cells = on.net.cells();
     let Reached {
         search,
         reference,
@@ -129,16 +124,8 @@ pub fn next<G: Gate, R: Threads + Sync>(
     let mut search = search;
     let setting = setting_after_first(reference, options.step);
     route(rt, alloc, on, setting, gate, &mut search)?;
-    let fill = measured(on.net, &search);
-    let later = bound_of(
-        rt,
-        alloc,
-        on,
-        &setting,
-        &search.loads,
-        &mut search.room,
-        threads,
-    )?;
+    let fill = measured(on.net, &search.loads);
+    let later = note_and_bound(rt, alloc, on, &setting, &mut search, threads)?;
     Ok(Reached {
         search,
         reference,

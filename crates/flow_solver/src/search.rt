@@ -1,18 +1,23 @@
 //! Loads, hands and history, from phase to phase.
 
-ghost use Rattle.std.specs.Prelude.{◌≡◌, ℕ, ◌+◌, ◌*◌, ◌<◌, ◌≤◌, [], IfOk, OnOk, All, None, length, replicate, slice_index_or};
+ghost use Rattle.std.specs.Prelude.{◌≡◌, ℕ, ◌+◌, ◌*◌, ◌<◌, ◌≤◌, List, ◌++◌, ◌∷◌, [], IfOk, OnOk, All, None, length, replicate, slice_index_or};
 ghost use Rattle.flow_model.specs.Least.{HasNoCut};
 ghost use Rattle.flow_model.specs.Lengths.{IsSetting, lengths_of};
 ghost use Rattle.flow_paths.specs.Certificate.{upper_of};
 ghost use Rattle.dual_bound.specs.Bounds.{IsBoundOf, ShowsBound};
 ghost use Rattle.flow_core.specs.Core.{IsStart};
+ghost use Rattle.flow_core.specs.Phase.{Routed};
 ghost use Rattle.phase_engine.specs.Hands.{IsFresh, AreSameWorkers};
 ghost use Rattle.phase_engine.specs.Routing.{IsRoutedPhase};
-ghost use Rattle.flow_solver.specs.Search.{HasRouted, IsBoundRoom, IsSearch, phase_count};
+ghost use Rattle.flow_solver.specs.Routes.{HaveRouted, IsRoutedOnce};
+ghost use Rattle.flow_solver.specs.Rows.{AreRowsFor, phases_kept};
+ghost use Rattle.flow_solver.specs.Adding.{CanBeNoted, IsNoted};
+ghost use Rattle.flow_solver.specs.Search.{CanBeBounded, IsBoundRoom, IsBoundUnder, IsRouted, IsSearch, phase_count};
 
 use crate::PathHistory;
 use crate::hands::{forget_all, new_hands};
 use crate::noted::Sought;
+use crate::places::places_of;
 use crate::prepared::Prepared;
 use dijkstra_paths::Tree;
 use dual_bound::{Bounded, Row, bound_in, source_rows};
@@ -22,7 +27,10 @@ use mcf_base::Gate;
 use mcf_limits::{MAX_LENGTH, MAX_PHASES, MAX_WORK, MAX_WORKERS};
 use phase_engine::{Hand, PhaseInput, phase};
 use std::alloc::{AllocError, Global};
-use std::thread::Threads;
+use std::thread::{Threads, join_mut};
+
+/// From so many commodities on, noting the rows of their paths takes longer than the start of a thread.
+const PATHS_OF_A_THREAD: usize = 4_096;
 
 /// Room for bounds, from one to the next: a length for each cell, and a row for each source.
 #[derive(Drop)]
@@ -117,7 +125,7 @@ fn phase_over<G: Gate, R: Threads + Sync>(
     }
 }
 
-/// One phase more. `Err` is for want of memory, and then the search can't go on.
+/// One phase more, whose rows are still to be noted. `Err` is for want of memory, and then the search can't go on.
 pub fn route<G: Gate, R: Threads + Sync>(
     rt: &R,
     alloc: Global,
@@ -130,9 +138,7 @@ pub fn route<G: Gate, R: Threads + Sync>(
     requires setting { IsSetting setting }
     requires search { IsSearch on.now.net.now search.old }
     requires phases { phase_count search.old < MAX_PHASES }
-    requires work { length on.now.net.now.commodities * (phase_count search.old + 1) ≤ MAX_WORK }
-    ensures search { OnOk result (IsSearch on.now.net.now search.new) }
-    ensures routed { OnOk result (HasRouted on.now.net.now setting search.old search.new) }
+    ensures routed { OnOk result (IsRouted on.now.net.now setting search.old search.new) }
 {
     let _commodities = on.net.commodities();
     forget_all(&mut search.hands);
@@ -145,11 +151,7 @@ pub fn route<G: Gate, R: Threads + Sync>(
         &mut search.loads,
         &mut search.hands,
         gate,
-    )?;
-    search
-        .history
-        .add_phase(rt, alloc, on.net, &search.hands, &mut search.sought)?;
-    Ok(())
+    )
 }
 
 /// The bound of the lengths of these loads, in at most so many threads.
@@ -176,4 +178,58 @@ pub fn bound_of<R: Threads + Sync>(
     let BoundRoom { lengths, rows } = room;
     on.powers.lengths(on.net, setting, loads, lengths);
     bound_in(rt, alloc, on.net, on.graph, lengths, rows, threads)
+}
+
+/// Notes the rows of the phase that the hands have routed, and makes the bound of its loads: in a thread of its own beside the bound,
+/// where that pays and there may be several. `Err` is for want of memory, and then the search can't go on.
+pub fn note_and_bound<R: Threads + Sync>(
+    rt: &R,
+    alloc: Global,
+    on: &Prepared<'_>,
+    setting: &Setting,
+    search: &mut Search,
+    threads: u16,
+) -> Result<Bounded, AllocError>
+    requires rows { AreRowsFor on.now.net.now search.old.history.history search.old.history.rows }
+    requires commodities { search.old.history.commodities ≡ length on.now.net.now.commodities }
+    requires phases { phase_count search.old < MAX_PHASES }
+    requires work { length on.now.net.now.commodities * (phase_count search.old + 1) ≤ MAX_WORK }
+    requires hands { length search.old.hands.items ≤ MAX_WORKERS }
+    requires routes { HaveRouted on.now.net.now search.old.hands.items }
+    requires bound { CanBeBounded on.now.net.now setting.now search.old.loads.items search.old.room }
+    ensures loads { search.new.loads ≡ search.old.loads }
+    ensures hands { search.new.hands ≡ search.old.hands }
+    ensures commodities { search.new.history.commodities ≡ search.old.history.commodities }
+    ensures rows { OnOk result (AreRowsFor on.now.net.now search.new.history.history search.new.history.rows) }
+    ensures phases { OnOk result ((entries : List Routed)
+        → IsRoutedOnce on.now.net.now search.old.hands.items entries
+        → phases_kept search.new.history ≡ phases_kept search.old.history ++ entries ∷ []) }
+    ensures room { OnOk result (IsBoundRoom on.now.net.now search.new.room) }
+    ensures bound { IfOk result (IsBoundUnder on.now.net.now setting.now search.old.loads.items) }
+{
+    let net = on.net;
+    let workers = search.hands.len();
+    let places = places_of(alloc, net, &search.hands)?;
+    let places = places.as_slice();
+    let loads = search.loads.as_slice();
+    let history = &mut search.history;
+    let sought = &mut search.sought;
+    let room = &mut search.room;
+    if threads <= 1 || places.len() < PATHS_OF_A_THREAD {
+        history.note_phase(rt, alloc, net, workers, places, sought)?;
+        return bound_of(rt, alloc, on, setting, loads, room, threads);
+    }
+    let mut note = || -> Result<(), AllocError>
+        requires { CanBeNoted net.now history.now places.now }
+        ensures { (history.exit.now.commodities ≡ history.entry.now.commodities)
+            × OnOk result (IsNoted net.entry.now places.entry.now history.entry.now history.exit.now) }
+    { history.note_phase(rt, alloc, net, workers, places, sought) };
+    let mut bound = || -> Result<Bounded, AllocError>
+        requires { CanBeBounded on.now.net.now setting.now loads.now room.now }
+        ensures { OnOk result (IsBoundRoom on.entry.now.net.now room.exit.now)
+            × IfOk result (IsBoundUnder on.entry.now.net.now setting.entry.now loads.entry.now) }
+    { bound_of(rt, alloc, on, setting, loads, room, threads) };
+    let (noted, bounded) = join_mut(rt, &mut note, &mut bound);
+    noted?;
+    bounded
 }

@@ -16,7 +16,7 @@ use crate::input::{PhaseInput, Shared};
 use crate::route_buffer::RouteBuffer;
 use crate::routes::Routes;
 use crate::steps::{read_all, route_group};
-use dijkstra_paths::{Scratch, Tree};
+use dijkstra_paths::Scratch;
 use fixed_exp::LengthTable;
 use flow_model::{Groups, Net};
 use load_table::{Loads, Pass};
@@ -53,15 +53,6 @@ fn greatest_group(net: &Net, groups: &Groups) -> usize
 struct Room {
     reads: Vec<u64>,
     table: LengthTable,
-}
-
-/// The tree of a group's source, where there is one.
-fn tree_of<'a>(trees: &'a [&'a Tree], g: u16) -> Option<&'a Tree> {
-    if (g as usize) < trees.len() {
-        Some(trees[g as usize])
-    } else {
-        None
-    }
 }
 
 /// Routes the claimed group: reads all cells, searches, and adds for each member.
@@ -107,7 +98,7 @@ fn route_ticket(
         input.graph,
         room.table.lengths(),
         source,
-        tree_of(input.trees, g),
+        input.trees.get(g as usize).copied(),
     );
     route_group(
         input.net,

@@ -1,41 +1,50 @@
-use Rattle.std.proofs.Common.{◌≡◌, ℕ, ◌≤◌, List, length, sym, ap, ◌∙◌, subst, arith, true, false}
-use Rattle.std.specs.Prelude.{All}
-use Rattle.mcf_limits.specs.declared.TheConstants.{MAX_LENGTH, MAX_PHASES}
+use Rattle.std.proofs.Common.{◌≡◌, ℕ, ◌+◌, ◌≤◌, List, length, sym, ap, ◌∙◌, subst, arith, true, false}
+use Rattle.std.proofs.Math.Nat.{mul-le-mul_left}
 use Rattle.flow_model.specs.declared.setting.Setting.{Setting}
 use Rattle.flow_model.specs.Lengths.{lengths_of}
 use Rattle.dual_bound.specs.Bounds.{IsBoundOf}
-use Rattle.flow_solver.specs.declared.search.Search.{Search}
-use Rattle.flow_solver.specs.Search.{phase_count, IsSearch, HasRouted}
-use Rattle.flow_solver.proofs.Routing.{loads-size}
-use Rattle.flow_solver.proofs.Reaching.{count-more, loads-limit, first-reached, other-room, routed-other}
+use Rattle.flow_solver.specs.Rows.{HistoryView, AreRowsFor}
+use Rattle.flow_solver.specs.Search.{phase_count, IsRouted}
+use Rattle.flow_solver.proofs.Routing.{noted-phase}
+use Rattle.flow_solver.proofs.Reaching.{first-reached, fill-after}
 use Rattle.flow_solver.proofs.reached.first.Goals as goal
 
-pub bound_of-requires-clause-loads : goal.bound_of-requires-clause-loads
-bound_of-requires-clause-loads g c κs within = ap (λ (xs : List ℕ). length xs) c.deref.ensures.value ∙ loads-size c.args.on.now.net.now c.route.new.search c.in_ok-route.ensures.search
+pub note_and_bound-requires-clause-rows : goal.note_and_bound-requires-clause-rows
+note_and_bound-requires-clause-rows g c κs within =
+    subst (λ (h : HistoryView). AreRowsFor c.args.on.now.net.now h.history h.rows) (sym c.in_ok-route.ensures.routed.history) c.in_ok-search.ensures.search.rows
 
-pub bound_of-requires-clause-small : goal.bound_of-requires-clause-small
-bound_of-requires-clause-small g c κs within =
-    let old = c.in_ok-search.search in
-    let new = c.route.new.search in
-    let none : length old.history.history ≡ 0 = ap (λ (xs : List _). length xs) c.in_ok-search.ensures.nothing in
-    let more = count-more c.args.on.now.net.now c.setting_at_first-setting.result old new c.in_ok-route.ensures.routed in
-    let few : phase_count new ≤ MAX_PHASES = omega arith in
-    subst (λ (xs : List ℕ). All (λ (x : ℕ). x ≤ MAX_LENGTH) xs) (sym c.deref.ensures.value) (loads-limit c.args.on.now.net.now new c.in_ok-route.ensures.search few)
+pub note_and_bound-requires-clause-work : goal.note_and_bound-requires-clause-work
+note_and_bound-requires-clause-work g c κs within =
+    let net = c.args.on.now.net.now in
+    let count = ap (λ (h : HistoryView). length h.history) c.in_ok-route.ensures.routed.history in
+    let none : length c.in_ok-search.search.history.history ≡ 0 = ap (λ (xs : List _). length xs) c.in_ok-search.ensures.nothing in
+    let more : phase_count c.route.new.search + 1 ≤ c.args.options.now.phases = omega (arith, c.requires.options.some_phase) in
+    let times = mul-le-mul_left (length net.commodities) more in
+    omega (arith, times, c.requires.options.work)
+
+pub note_and_bound-requires-clause-routes : goal.note_and_bound-requires-clause-routes
+note_and_bound-requires-clause-routes g c κs within =
+    let phase = c.in_ok-route.ensures.routed.phase in
+    (phase.entries, record { count = phase.count; routes = phase.routes })
 
 pub returns-clause-reached : goal.returns-clause-reached
 returns-clause-reached g c =
     let net = c.args.on.now.net.now in
     let o = c.args.options.now in
     let old = c.in_ok-search.search in
-    let s = c.route.new.search in
-    let room = c.bound_of.new.room in
-    let search : IsSearch net s = c.in_ok-route.ensures.search in
-    let new : Search = record { loads = s.loads; room = room; hands = s.hands; history = s.history; sought = s.sought } in
+    let mid = c.route.new.search in
+    let new = c.note_and_bound.new.search in
     let f = c.measured-fill.result in
-    let routed : HasRouted net (record { first = true; ref_cap = 0; ref_load = 1; step = o.step }) old s =
-    subst (λ (x : Setting). HasRouted net x old s) c.setting_at_first-setting.ensures c.in_ok-route.ensures.routed in
-    let bound : IsBoundOf net (lengths_of net (record { first = false; ref_cap = f.cap; ref_load = f.load; step = o.step }) s.loads.items) c.in_ok-kept.kept.dual =
-    subst (λ (x : Setting). IsBoundOf net (lengths_of net x s.loads.items) c.in_ok-kept.kept.dual) c.setting_after_first-later.ensures
-    (subst (λ (xs : List ℕ). IsBoundOf net (lengths_of net c.setting_after_first-later.result xs) c.in_ok-kept.kept.dual) c.deref.ensures.value c.in_ok-kept.ensures.dual) in
-    first-reached net o old new f c.in_ok-kept.kept c.in_ok-search.ensures.search c.in_ok-search.ensures.nothing c.in_ok-search.ensures.hands (other-room net s room c.in_ok-kept.ensures.room search) (routed-other net (record { first = true; ref_cap = 0; ref_load = 1; step = o.step }) old s room routed)
-    c.measured-fill.ensures.value c.measured-fill.ensures.fits bound (lengths_of net c.setting_after_first-later.result c.deref.result.now, c.in_ok-kept.ensures.shows) c.in_ok-kept.ensures.value
+    let kept = c.in_ok-kept.kept in
+    let setting : Setting = record { first = true; ref_cap = 0; ref_load = 1; step = o.step } in
+    let later : Setting = record { first = false; ref_cap = f.cap; ref_load = f.load; step = o.step } in
+    let routed : IsRouted net setting old mid = subst (λ (x : Setting). IsRouted net x old mid) c.setting_at_first-setting.ensures c.in_ok-route.ensures.routed in
+    let next = noted-phase net setting old mid new c.cells-cells.ensures.net c.in_ok-search.ensures.search routed c.note_and_bound.ensures.loads c.note_and_bound.ensures.hands c.note_and_bound.ensures.commodities
+    c.in_ok-kept.ensures.room c.in_ok-kept.ensures.rows c.in_ok-kept.ensures.phases in
+    let loads : mid.loads.items ≡ new.loads.items = ap (λ (xs : _). xs.items) (sym c.note_and_bound.ensures.loads) in
+    let bound : IsBoundOf net (lengths_of net later new.loads.items) kept.dual =
+    subst (λ (xs : List ℕ). IsBoundOf net (lengths_of net later xs) kept.dual) loads
+    (subst (λ (x : Setting). IsBoundOf net (lengths_of net x mid.loads.items) kept.dual) c.setting_after_first-later.ensures c.in_ok-kept.ensures.bound.0) in
+    first-reached net o old new f kept c.in_ok-search.ensures.search c.in_ok-search.ensures.nothing c.in_ok-search.ensures.hands next.0 next.1
+    (fill-after net new f c.deref.result.now next.0 (c.deref.ensures.value ∙ loads) c.measured-fill.ensures.value) c.measured-fill.ensures.fits bound
+    (lengths_of net c.setting_after_first-later.result mid.loads.items, c.in_ok-kept.ensures.bound.1) c.in_ok-kept.ensures.bound.2
