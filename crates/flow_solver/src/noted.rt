@@ -95,8 +95,20 @@ impl Sought {
         }
     }
 
-    /// Looks for the first row of this commodity and path, where no two rows are alike. Mostly it is one that was noted.
+    /// Looks for the first row of this commodity and path, where no two rows are alike. Mostly it is the one that was looked for last,
+    /// and else mostly one that was noted.
     pub(crate) fn seek(&mut self, paths: &PathStore, k: u32, path: &[u16])
+        requires { AreApart paths.now }
+        ensures { MatchOption self.new.row (HasNoRow paths.now k path.now) (IsFirstRow paths.now k path.now) }
+    {
+        self.row = noted_row(paths, self.row.unwrap_or(NO_ROW), k, path);
+        if self.row.is_none() {
+            self.seek_noted(paths, k, path);
+        }
+    }
+
+    /// The same among the rows that were noted, and then among all.
+    fn seek_noted(&mut self, paths: &PathStore, k: u32, path: &[u16])
         requires { AreApart paths.now }
         ensures { MatchOption self.new.row (HasNoRow paths.now k path.now) (IsFirstRow paths.now k path.now) }
     {
