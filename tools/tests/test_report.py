@@ -477,7 +477,7 @@ def report(*words: str | Path, program: Program, status: int = 0) -> tuple[str, 
 def test_the_command_writes_page_and_tables(tmp_path: Path, program: Program):
     net, cert = EXAMPLES / "polska.net", EXAMPLES / "polska.cert"
     words = ["--html", tmp_path / "x.html", "--csv", tmp_path / "x.csv", "--paths", tmp_path / "p.csv"]
-    sentence = "Not every demand fits: these paths carry 39.8 % of each, and no routing carries more than 41.9 %.\n"
+    sentence = "Not every demand fits: these paths carry 39.9 % of each, and no routing carries more than 41.9 %.\n"
     assert report(net, cert, *words, program=program) == (sentence, "")
     first = [(tmp_path / name).read_bytes() for name in ("x.html", "x.csv", "p.csv")]
     report(net, cert, *words, program=program)
@@ -494,7 +494,9 @@ def test_the_command_writes_page_and_tables(tmp_path: Path, program: Program):
 
 def test_what_is_not_valid_is_not_shown(tmp_path: Path, program: Program):
     text = load_text(EXAMPLES / "polska.cert")
-    (tmp_path / "bad.cert").write_text(text.replace(" 98 =Link_0_10", " 99 =Link_0_10"))
+    bad = text.replace(" 16660 =Link_0_2", " 16661 =Link_0_2", 1)
+    assert bad != text
+    (tmp_path / "bad.cert").write_text(bad)
     _, said = report(EXAMPLES / "polska.net", tmp_path / "bad.cert", "--csv", "-", program=program, status=2)
     assert said == f"report: {tmp_path / 'bad.cert'} on {EXAMPLES / 'polska.net'}: mcf check says: invalid C2\n"
     _, said = report(EXAMPLES / "triangle.net", EXAMPLES / "polska.cert", "--csv", "-", program=program, status=2)
