@@ -74,14 +74,14 @@ still_found old new places k None keeps apart below found = still_none old new k
 still_found old new places k (Some n) keeps apart below found = still_first old new k (path_at places k) n keeps apart found.is
 
 -- the rows of the first commodities have been found
-abbrev pub AreFound : List Row → List Place → ℕ → ℕ → List Sought → Type 0
-AreFound rows places first n sought = (i : ℕ) (d : Sought) → i < n → IsRowFor rows places (first + i) (get_or sought i d).row
+abbrev pub AreFound : List Row → List Place → ℕ → List Sought → Type 0
+AreFound rows places n sought = (k : ℕ) (d : Sought) → k < n → IsRowFor rows places k (get_or sought k d).row
 
 -- the row of one commodity more
-pub found_more : (rows : List Row) (places : List Place) (first i : ℕ) (sought : List Sought) (one : Sought) → i < length sought → AreFound rows places first i sought → IsRowFor rows places (first + i) one.row
-    → AreFound rows places first (i + 1) (set sought i one)
-found_more rows places first i sought one inside h here k d l = elim (cases_eq k i) [
-  | inl e ↦ subst (λ (n : ℕ). IsRowFor rows places (first + n) (get_or (set sought i one) n d).row) (sym e)
-      (subst (λ (s : Sought). IsRowFor rows places (first + i) s.row) (sym (get_or-set_same sought i one d inside)) here)
-  | inr n ↦ subst (λ (s : Sought). IsRowFor rows places (first + k) s.row) (sym (get_or-set_other sought i k one d n)) (h k d (omega arith))
+pub found_more : (rows : List Row) (places : List Place) (i : ℕ) (sought : List Sought) (one : Sought) → i < length sought → AreFound rows places i sought → IsRowFor rows places i one.row
+    → AreFound rows places (i + 1) (set sought i one)
+found_more rows places i sought one inside h here k d l = elim (cases_eq k i) [
+  | inl e ↦ subst (λ (n : ℕ). IsRowFor rows places n (get_or (set sought i one) n d).row) (sym e)
+      (subst (λ (s : Sought). IsRowFor rows places i s.row) (sym (get_or-set_same sought i one d inside)) here)
+  | inr n ↦ subst (λ (s : Sought). IsRowFor rows places k s.row) (sym (get_or-set_other sought i k one d n)) (h k d (omega arith))
 ]

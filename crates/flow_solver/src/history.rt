@@ -13,7 +13,6 @@ use phase_engine::Hand;
 use solver_run::Entry;
 use std::alloc::{AllocError, Global};
 use std::marker::Model;
-use std::thread::Threads;
 
 /// Path rows with weights, and for each phase an entry for each commodity, which names a row. Contracts see how
 /// many commodities there are, the rows, and a list of phases.
@@ -145,15 +144,12 @@ impl PathHistory {
     }
 
     /// Appends the phase that hands have routed, with each commodity's place: its path is found among the rows, which grow by the
-    /// commodity's amount, or appended. The rows are found in so many threads, where that pays.
-    /// `Err` is for want of memory: the phases are as before, but weights may have grown, so nothing more can be
-    /// added.
-    pub(crate) fn note_phase<R: Threads + Sync>(
+    /// commodity's amount, or appended. `Err` is for want of memory: the phases are as before, but weights may have grown,
+    /// so nothing more can be added.
+    pub(crate) fn note_phase(
         &mut self,
-        rt: &R,
         alloc: Global,
         net: &Net,
-        threads: usize,
         places: &[Place],
         sought: &mut Vec<Sought>,
     ) -> Result<(), AllocError>
@@ -162,7 +158,7 @@ impl PathHistory {
         ensures noted { OnOk result (IsNoted net.now places.now self.old self.new) }
         ensures err { OnErr result (phases_kept self.new ≡ phases_kept self.old) }
     {
-        find_each(rt, alloc, threads, self, places, sought)?;
+        find_each(alloc, self, places, sought)?;
         let entries = self.name_rows(alloc, net, places, sought)?;
         self.entries.push(&entries)?;
         Ok(())

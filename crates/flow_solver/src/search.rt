@@ -208,7 +208,6 @@ pub fn note_and_bound<R: Threads + Sync>(
     ensures bound { IfOk result (IsBoundUnder on.now.net.now setting.now search.old.loads.items) }
 {
     let net = on.net;
-    let workers = search.hands.len();
     let places = places_of(alloc, net, &search.hands)?;
     let places = places.as_slice();
     let loads = search.loads.as_slice();
@@ -216,14 +215,14 @@ pub fn note_and_bound<R: Threads + Sync>(
     let sought = &mut search.sought;
     let room = &mut search.room;
     if threads <= 1 || places.len() < PATHS_OF_A_THREAD {
-        history.note_phase(rt, alloc, net, workers, places, sought)?;
+        history.note_phase(alloc, net, places, sought)?;
         return bound_of(rt, alloc, on, setting, loads, room, threads);
     }
     let mut note = || -> Result<(), AllocError>
         requires { CanBeNoted net.now history.now places.now }
         ensures { (history.exit.now.commodities ≡ history.entry.now.commodities)
             × OnOk result (IsNoted net.entry.now places.entry.now history.entry.now history.exit.now) }
-    { history.note_phase(rt, alloc, net, workers, places, sought) };
+    { history.note_phase(alloc, net, places, sought) };
     let mut bound = || -> Result<Bounded, AllocError>
         requires { CanBeBounded on.now.net.now setting.now loads.now room.now }
         ensures { OnOk result (IsBoundRoom on.entry.now.net.now room.exit.now)

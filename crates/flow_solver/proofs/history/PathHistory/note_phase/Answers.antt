@@ -14,7 +14,7 @@ on_err (Ok x) p = tt
 on_err (Err e) p = p
 
 pub returns-in_err-entries-clause-err : goal.returns-in_err-entries-clause-err
-returns-in_err-entries-clause-err g c =
+returns-in_err-entries-clause-err c =
     let old = c.args.self.now.rows in
     let new = c.name_rows.new.self.rows in
     let h = c.args.self.now.history in
@@ -22,7 +22,7 @@ returns-in_err-entries-clause-err g c =
     (ap (map (routed_in new)) c.name_rows.ensures.history ∙ same_phases old new h c.name_rows.ensures.keeps (names_below c.args.net.now old h c.requires.rows.entries))
 
 pub returns-in_err-push-clause-err : goal.returns-in_err-push-clause-err
-returns-in_err-push-clause-err g c =
+returns-in_err-push-clause-err c =
     let old = c.args.self.now.rows in
     let new = c.name_rows.new.self.rows in
     let h = c.args.self.now.history in
@@ -32,7 +32,7 @@ returns-in_err-push-clause-err g c =
     (ap (λ (t : List Row). map (routed_in t) c.push.new.self.phases) r ∙ ap (map (routed_in new)) p ∙ same_phases old new h c.name_rows.ensures.keeps (names_below c.args.net.now old h c.requires.rows.entries))
 
 pub returns-clause-noted : goal.returns-clause-noted
-returns-clause-noted g c = record {
+returns-clause-noted c = record {
   rows = (
       let new = c.name_rows.new.self.rows in
       let h = c.args.self.now.history in
@@ -55,6 +55,6 @@ returns-clause-noted g c = record {
 }
 
 pub invariant_of-self-2 : goal.invariant_of-self-2
-invariant_of-self-2 g c =
-    let noted = returns-clause-noted g c in
+invariant_of-self-2 c =
+    let noted = returns-clause-noted c in
     names_below c.args.net.now c.self.inside.paths c.push.new.self.phases noted.rows.entries
