@@ -19,7 +19,7 @@ pub record IsReached (cells : List Cell) (lengths dist : List ℕ) (step : Step)
   pub before : step.from < length dist
   pub far : slice_index dist step.from + slice_index lengths step.cell ≤ slice_index dist v
 
--- it is a way to the node over a cell at it, from a node whose distance is known so far
+-- its cell leads from the node to the one before, and it is as long as that one's distance so far and the cell together
 pub record IsWay (cells : List Cell) (lengths dist : List ℕ) (node : ℕ) (way : Way) : Type 0 where
   pub back : PassesOver cells way.cell node way.from
   pub long : way.long ≡ slice_index dist way.from + slice_index lengths way.cell

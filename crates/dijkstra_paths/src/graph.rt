@@ -68,7 +68,7 @@ fn arc_of(cell: &Cell, number: u16, from: u16) -> Option<Arc>
     }
 }
 
-/// Whether each cell goes both ways.
+/// If this is true, each cell goes both ways.
 fn go_both_ways(cells: &[Cell]) -> bool
     ensures { IsTrue result → GoBothWays cells.now }
 {
@@ -143,7 +143,7 @@ impl Graph {
         self.nodes
     }
 
-    /// Whether each cell goes both ways.
+    /// If this is true, each cell goes both ways.
     #[inline(always)]
     pub(crate) fn goes_both_ways(&self) -> bool
         ensures { IsTrue result → GoBothWays self.now.cells }

@@ -6,8 +6,8 @@ ghost use Rattle.dijkstra_paths.specs.Heap.{AreInverse, HasHole, SameOpen};
 
 use mcf_limits::MAX_NODES;
 
-/// Whether an open node comes before another one: by its key, and where both have the same by its number. So equal distances are told
-/// apart in the same way whatever was open before, and of equally short ways the one over the lower node is taken.
+/// Whether an open node comes before another one: by its key, and where both have the same by its number. So nodes of one distance are
+/// gone on from in the same order, whichever was opened first.
 #[inline(always)]
 fn is_before(key: u64, node: u16, other_key: u64, other: u16) -> bool {
     // no branch on the comparison, which is as good as random

@@ -187,7 +187,7 @@ fn keep_steps(
     }
 }
 
-/// A way to a node: the cell at its end, the node before that, and how long it is.
+/// A way over a cell at a node: the cell, the node at its other end, and how long it is from the source on, as far as that is known.
 #[derive(Clone, Copy)]
 struct Way {
     cell: u16,
@@ -207,8 +207,8 @@ fn either(first: bool, one: Way, other: Way) -> Way
     }
 }
 
-/// The shortest of what is known of a node and the ways to it over the cells at it, as far as distances are known. Of equally short
-/// ones it is the first, or that over the cell of the earlier step.
+/// The shortest of what is known of a node and the ways over the cells at it, as far as distances are known. Where cells go both ways,
+/// they lead to the node too. Of equally short ones it is the first, or that over the cell of the earlier step.
 #[inline(always)]
 fn shortest_way(graph: &Graph, lengths: &[u64], kept: Kept, dist: &[u64]) -> Way
     requires lengths { AreLengths graph.now.cells lengths.now }
@@ -232,9 +232,9 @@ fn shortest_way(graph: &Graph, lengths: &[u64], kept: Kept, dist: &[u64]) -> Way
             long,
         };
         // the earlier step's way comes first where it is as short as another: no way is of length 0
-        let first = u64::from(arc.cell == kept.step.cell);
+        let lead = u64::from(arc.cell == kept.step.cell);
         // no branch: which way is the shortest follows no pattern
-        way = either(long - first < way.long, other, way);
+        way = either(long - lead < way.long, other, way);
     }
     way
 }
@@ -271,7 +271,7 @@ fn come_near(
     }
 }
 
-/// As `keep_steps`, over the nearest of the nodes that have a distance so far and not over the step of before alone. Mostly these
+/// As `keep_steps`, but each node gets the shortest way over the cells at it, of which the earlier step is mostly one. Mostly these
 /// are the least distances, so few nodes are opened then. Each cell has to go both ways.
 #[inline(always)]
 fn look_along(

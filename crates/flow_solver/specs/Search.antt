@@ -48,7 +48,7 @@ pub record IsSearch (net : Network) (s : Search) : Type 0 where
   pub commodities : s.history.commodities ≡ length net.commodities
   pub rows : AreRowsFor net s.history.history s.history.rows
 
--- the hands have routed one phase more under the setting, which has loaded some cell and is not noted yet
+-- the hands have routed one phase more under the setting, which is not noted yet: it has loaded some cell, loads are within their limit, and the hands, of which there are as many, are idle again; room and history are as before
 pub record IsRouted (net : Network) (setting : Setting) (old new : Search) : Type 0 where
   pub phase : IsRoutedPhase net setting old.loads.items new.loads.items new.hands.items
   pub count : length new.loads.items ≡ length net.cells
@@ -68,7 +68,7 @@ pub record HasRouted (net : Network) (setting : Setting) (old new : Search) : Ty
   pub phase : IsPhase net setting old.loads.items new.loads.items entries
   pub loaded : (c : ℕ) × (c < length net.cells) × (1 ≤ slice_index new.loads.items c)
 
--- there is what a bound of the lengths under these loads is made of
+-- the setting, the loads and the room are what a bound of the lengths under these loads is made of, each within its limits
 abbrev pub CanBeBounded : Network → Setting → List ℕ → BoundRoom → Type 0
 CanBeBounded net setting loads room = IsSetting setting × (length loads ≡ length net.cells) × All (λ (x : ℕ). x ≤ MAX_LENGTH) loads × IsBoundRoom net room
 

@@ -9,7 +9,6 @@ use crate::places::Place;
 use flow_model::Net;
 use flow_paths::{PathStore, new_numbers, order_of, stored};
 use mcf_limits::{MAX_LENGTH, MAX_PHASES, MAX_WORK};
-use phase_engine::Hand;
 use solver_run::Entry;
 use std::alloc::{AllocError, Global};
 use std::marker::Model;

@@ -67,7 +67,7 @@ fn setting_after_first(reference: Fill, step: u32) -> Setting
     }
 }
 
-/// The first phase, and the bound after it, which takes at most so many threads.
+/// The first phase, and the bound after it, which takes at most so many threads; where there may be several, one more may note the rows.
 pub fn first<G: Gate, R: Threads + Sync>(
     rt: &R,
     alloc: Global,
@@ -96,7 +96,8 @@ pub fn first<G: Gate, R: Threads + Sync>(
     })
 }
 
-/// One phase more, and the lesser of the least bound and the bound after it, which takes at most so many threads.
+/// One phase more, and the lesser of the least bound and the bound after it, which takes at most so many threads; where there may be
+/// several, one more may note the rows.
 pub fn next<G: Gate, R: Threads + Sync>(
     rt: &R,
     alloc: Global,

@@ -180,8 +180,14 @@ pub fn bound_of<R: Threads + Sync>(
     bound_in(rt, alloc, on.net, on.graph, lengths, rows, threads)
 }
 
-/// Notes the rows of the phase that the hands have routed, and makes the bound of its loads: in a thread of its own beside the bound,
-/// where that pays and there may be several. `Err` is for want of memory, and then the search can't go on.
+/// Whether noting the rows of so many paths takes no longer than the start of a thread, or there is to be one thread alone.
+fn is_short(rt: &impl Threads, paths: usize, threads: u16) -> bool {
+    paths < PATHS_OF_A_THREAD || mcf_base::thread_count(rt, threads) == 1
+}
+
+/// Notes the rows of the phase that the hands have routed, and makes the bound of the loads of all phases, in at most so many threads.
+/// Where that pays, and there may be several, one more notes the rows meanwhile. `Err` is for want of memory, and then the search can't
+/// go on.
 pub fn note_and_bound<R: Threads + Sync>(
     rt: &R,
     alloc: Global,
@@ -214,7 +220,8 @@ pub fn note_and_bound<R: Threads + Sync>(
     let history = &mut search.history;
     let sought = &mut search.sought;
     let room = &mut search.room;
-    if threads <= 1 || places.len() < PATHS_OF_A_THREAD {
+    let alone = is_short(rt, places.len(), threads);
+    if alone {
         history.note_phase(alloc, net, places, sought)?;
         return bound_of(rt, alloc, on, setting, loads, room, threads);
     }

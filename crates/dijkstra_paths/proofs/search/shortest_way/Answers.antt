@@ -59,5 +59,5 @@ overflow_sub-long c =
     let a = arc_at arcs i in
     let over : PassesOver c.args.graph.now.cells a.cell c.args.kept.node a.to = c.out-arcs.ensures.over i (record { cell = 0; to = 0 }) within in
     let low : 1 ≤ get_or c.args.lengths.now a.cell 0 = c.requires.lengths.low a.cell over.0 over.1 over.2 in
-    let few : c.from-first.result ≤ 1 = grind (arith, c.from-first.ensures) in
+    let few : c.from-lead.result ≤ 1 = grind (arith, c.from-lead.ensures) in
     omega (arith, low, few)
