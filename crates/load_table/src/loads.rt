@@ -1,10 +1,11 @@
 //! The words that workers share, and the passes by which they step: one word of claims, and one a cell.
 
-ghost use Rattle.std.specs.Prelude.{◌≡◌, ℕ, ◌+◌, ◌-◌, ◌^◌, ◌<◌, ◌≤◌, [], ◌∷◌, map, length, IfOk};
+ghost use Rattle.std.specs.Prelude.{◌≡◌, ℕ, ◌+◌, ◌-◌, ◌^◌, ◌<◌, ◌≤◌, [], ◌∷◌, map, length, All, IfOk};
 ghost use Rattle.flow_core.specs.Core.{Terms, IsStart, start, claim, read, add, claimed, has_read, has_added, idle};
 ghost use Rattle.flow_model.specs.Groups.{group_count};
 ghost use Rattle.load_table.specs.Seen.{IsPassOf, HasStepped};
 ghost use Rattle.load_table.specs.Views.{hand, first_view, with_work, cut, cut_off, joined};
+ghost use Rattle.load_table.specs.Reading.{OneWhere, IsFresh, reads_all};
 ghost use Rattle.load_table.specs.Rule.{MayClaim, MayRead, MayAdd, MayClose, AllFallBelow, Closes};
 
 use crate::rule::{Adds, Claims, Cuts, LoadRule, Named, Reads};
@@ -152,6 +153,20 @@ impl Loads {
     {
         let word = cell as usize + 1;
         self.table.shared.load::<Reads>(&mut pass.seat, word)
+    }
+
+    /// Reads each cell's word by one load, in order, for the group that was claimed.
+    pub fn read_all(&self, pass: &mut Pass, reads: &mut [u64])
+        requires of { IsPassOf self.now pass.old }
+        requires fresh { OneWhere IsFresh pass.old.view.hands }
+        requires room { length reads.old ≡ length self.now.terms.net.cells }
+        ensures of { IsPassOf self.now pass.new }
+        ensures view { pass.new.view ≡ with_work (reads_all reads.new) pass.old.view }
+        ensures small { All (λ x. x ≤ MAX_LENGTH) reads.new }
+    {
+        for cell in 0..self.cell_count() {
+            reads[cell as usize] = self.read_cell(pass, cell);
+        }
     }
 
     // The step does not see which commodity it is for: the parameter tells the proof.

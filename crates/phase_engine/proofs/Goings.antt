@@ -14,7 +14,8 @@ use Rattle.load_table.specs.declared.view.Hand.{Hand}
 use Rattle.load_table.specs.Views.{hand, first_works, with_work}
 use Rattle.load_table.specs.Rule.{MayClaim, AllFallBelow}
 use Rattle.phase_engine.specs.Routes.{Route}
-use Rattle.phase_engine.specs.Steps.{OneWhere, IsClaimed, finishes, HasFinished}
+use Rattle.load_table.specs.Reading.{OneWhere}
+use Rattle.phase_engine.specs.Steps.{IsClaimed, finishes, HasFinished}
 use Rattle.phase_engine.specs.Work.{routes_in, routes_of, HasWorked}
 use Rattle.phase_engine.specs.Going.{IsGoing, next_ticket}
 

@@ -6,21 +6,8 @@ use Rattle.flow_core.specs.Core.{Terms, entry, worker, cell_count, commodity_cou
 use Rattle.load_table.specs.declared.view.Hand.{Hand}
 use Rattle.load_table.specs.declared.view.View.{View}
 use Rattle.load_table.specs.Views.{with_work}
+use Rattle.load_table.specs.Reading.{put_reads}
 use Rattle.phase_engine.specs.Routes.{Route}
-
--- of one worker alone, the fact holds of its last entry
-abbrev pub LastWhere : (Entry → Type 0) → List Entry → Type 0
-LastWhere P [] = ⊥
-LastWhere P (e ∷ es) = P e
-
-abbrev pub OneWhere : (Entry → Type 0) → List Hand → Type 0
-OneWhere P [] = ⊥
-OneWhere P (h ∷ []) = LastWhere P h.work.log
-OneWhere P (h ∷ i ∷ hs) = ⊥
-
--- without reads and adds
-abbrev pub IsFresh : Entry → Type 0
-IsFresh e = (e.reads ≡ []) × (e.adds ≡ [])
 
 -- all is read, and k is a member of the group, above the commodities of all adds
 abbrev pub IsReadyFor : Terms → ℕ → Entry → Type 0
@@ -29,14 +16,6 @@ IsReadyFor t k e = (length e.reads ≡ cell_count t) × (k < commodity_count t) 
 -- all is read, nothing is added, and these are members of the group
 abbrev pub IsReadyForAll : Terms → List ℕ → Entry → Type 0
 IsReadyForAll t members e = (length e.reads ≡ cell_count t) × (e.adds ≡ []) × All (λ k. (k < commodity_count t) × (group_of t k ≡ e.ticket)) members
-
--- the last entry with these reads
-abbrev pub put_reads : List ℕ → List Entry → List Entry
-put_reads reads [] = []
-put_reads reads (e ∷ es) = entry e.ticket reads e.adds ∷ es
-
-abbrev pub reads_all : List ℕ → Worker → Worker
-reads_all reads u = worker (put_reads reads u.log) u.stopped u.ticket u.found
 
 -- the last entry with these adds after its own
 abbrev pub more_adds : List (ℕ × ℕ) → List Entry → List Entry

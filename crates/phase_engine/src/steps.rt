@@ -5,7 +5,8 @@ ghost use Rattle.std.specs.List.Sorted.{IsStrictlyIncreasing};
 ghost use Rattle.flow_model.specs.Least.{AreDifferent};
 ghost use Rattle.load_table.specs.Seen.{IsPassOf};
 ghost use Rattle.load_table.specs.Views.{with_work};
-ghost use Rattle.phase_engine.specs.Steps.{OneWhere, IsFresh, IsReadyFor, IsReadyForAll, reads_all, HasAddedAll, adds_along, adds_of};
+ghost use Rattle.load_table.specs.Reading.{OneWhere, IsFresh, reads_all};
+ghost use Rattle.phase_engine.specs.Steps.{IsReadyFor, IsReadyForAll, HasAddedAll, adds_along, adds_of};
 ghost use Rattle.phase_engine.specs.Found.{HasPath, known_path, routes_to, to_at};
 
 use crate::route_buffer::RouteBuffer;

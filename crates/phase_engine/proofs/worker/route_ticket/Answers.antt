@@ -6,7 +6,8 @@ use Rattle.flow_model.specs.Lengths.{lengths_of}
 use Rattle.flow_model.specs.Groups.{members_of, group_sources}
 use Rattle.dijkstra_paths.specs.Searched.{Searched}
 use Rattle.flow_core.specs.Core.{IsComplete, entry}
-use Rattle.phase_engine.specs.Steps.{OneWhere, IsReadyForAll, adds_of}
+use Rattle.load_table.specs.Reading.{OneWhere}
+use Rattle.phase_engine.specs.Steps.{IsReadyForAll, adds_of}
 use Rattle.phase_engine.specs.Found.{HasPath, to_at, routes_to}
 use Rattle.phase_engine.proofs.Finds.{claimed-fresh, ready-all, found-all, complete-entry, routes-are, members-ascend, members-inside, source-inside, search-is}
 use Rattle.phase_engine.proofs.worker.route_ticket.Goals as goal
