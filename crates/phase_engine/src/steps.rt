@@ -1,8 +1,7 @@
-//! The steps of a worker for the members of one claimed group: adding along paths.
+//! The steps of a worker for the members of one claimed group.
 
 ghost use Rattle.std.specs.Prelude.{◌≡◌, ℕ, ◌-◌, ◌*◌, ◌<◌, ◌≤◌, ◌++◌, [], ◌∷◌, All, length};
 ghost use Rattle.std.specs.List.Sorted.{IsStrictlyIncreasing};
-ghost use Rattle.flow_model.specs.Least.{AreDifferent};
 ghost use Rattle.load_table.specs.Seen.{IsPassOf};
 ghost use Rattle.load_table.specs.Reading.{OneWhere};
 ghost use Rattle.phase_engine.specs.Steps.{IsReadyFor, IsReadyForAll, HasAddedAll, adds_along, adds_of};
@@ -12,20 +11,6 @@ use crate::route_buffer::RouteBuffer;
 use dijkstra_paths::Scratch;
 use flow_model::Net;
 use load_table::{Loads, Pass};
-
-/// Adds the commodity's amount to each cell of its path.
-pub(crate) fn add_path(loads: &Loads, pass: &mut Pass, k: u32, path: &[u16])
-    requires of { IsPassOf loads.now pass.old }
-    requires ready { OneWhere (IsReadyFor loads.now.terms k) pass.old.view.hands }
-    requires inside { All (λ c. c < length loads.now.terms.net.cells) path.now }
-    requires different { AreDifferent path.now }
-    ensures of { IsPassOf loads.now pass.new }
-    ensures view { HasAddedAll (adds_along k path.now) pass.old.view pass.new.view }
-{
-    for cell in path {
-        loads.add_cell(pass, k, *cell);
-    }
-}
 
 /// Routes one commodity along the path that the search found.
 pub(crate) fn route_member(
@@ -56,10 +41,7 @@ pub(crate) fn route_member(
     let commodities = net.commodities();
     let to = commodities[k as usize].to;
     match scratch.path_to(to) {
-        Some(path) => {
-            add_path(loads, pass, k, path);
-            buffer.push(k, path);
-        }
+        Some(path) => buffer.add_route(loads, pass, k, path),
         None => unreachable!(),
     }
 }
