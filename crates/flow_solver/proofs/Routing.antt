@@ -1,6 +1,6 @@
 -- The search with one phase more.
 use Rattle.std.proofs.Common.{◌≡◌, ℕ, ◌+◌, ◌*◌, ◌<◌, ◌≤◌, Bool, true, false, nat_lt, List, [], ◌∷◌, ◌++◌, length, get_or, None, refl, sym, ap, ◌∙◌, subst, arith}
-use Rattle.std.specs.Prelude.{All, flat_map, take, replicate}
+use Rattle.std.specs.Prelude.{All, IfSome, Option, flat_map, take, replicate}
 use Rattle.std.proofs.lemmas.Bool.Decides.{nat_tests}
 use Rattle.std.proofs.lemmas.List.{length-map, length-append, length-replicate, get_or-replicate, get_or_append_left}
 use Rattle.std.proofs.lemmas.List.FromFn.{fill_by_all, length-map-range_with_len}
@@ -13,7 +13,9 @@ use Rattle.flow_core.specs.Core.{IsStart}
 use Rattle.flow_core.specs.Phase.{Routed, amounts_along}
 use Rattle.mcf_limits.specs.declared.TheConstants.{MAX_LENGTH, MAX_PHASES, MAX_TOTAL}
 use Rattle.phase_engine.specs.declared.hand.Hand.{Hand}
-use Rattle.phase_engine.specs.Hands.{IsFresh, IsSameWorker}
+use Rattle.phase_engine.specs.declared.room.Room.{Room}
+use Rattle.phase_engine.specs.Hands.{HasRoomOf, IsFresh, IsSameWorker}
+use Rattle.phase_engine.specs.Rooms.{IsRoomOf}
 use Rattle.phase_engine.specs.Routing.{IsRoutedPhase}
 use Rattle.flow_solver.specs.Rows.{AreRowsFor, HistoryView, phases_kept}
 use Rattle.solver_run.specs.Paths.{IsPathOf, HavePaths}
@@ -26,42 +28,42 @@ use Rattle.flow_solver.proofs.Loads.{loads-more, loads-small, once, phase-adds, 
 
 -- hands
 
-pub hands-more : (nodes n : ℕ) (hs : List Hand) (h : Hand) → length hs ≡ n → ((k : ℕ) (d : Hand) → k < n → IsFresh nodes k (get_or hs k d)) → IsFresh nodes n h
-    → (k : ℕ) (d : Hand) → k < n + 1 → IsFresh nodes k (get_or (hs ++ h ∷ []) k d)
-hands-more nodes n hs h size each last k d l = by_test (nat_lt k n) refl
+pub hands-more : (net : Network) (n : ℕ) (hs : List Hand) (h : Hand) → length hs ≡ n → ((k : ℕ) (d : Hand) → k < n → IsFresh net k (get_or hs k d)) → IsFresh net n h
+    → (k : ℕ) (d : Hand) → k < n + 1 → IsFresh net k (get_or (hs ++ h ∷ []) k d)
+hands-more net n hs h size each last k d l = by_test (nat_lt k n) refl
   where
-    by_test : (t : Bool) → nat_lt k n ≡ t → IsFresh nodes k (get_or (hs ++ h ∷ []) k d)
-    by_test true e = let below : k < n = grind (arith, nat_tests) in subst (IsFresh nodes k) (sym (get_or_append_left hs (h ∷ []) d k (omega arith))) (each k d below)
+    by_test : (t : Bool) → nat_lt k n ≡ t → IsFresh net k (get_or (hs ++ h ∷ []) k d)
+    by_test true e = let below : k < n = grind (arith, nat_tests) in subst (IsFresh net k) (sym (get_or_append_left hs (h ∷ []) d k (omega arith))) (each k d below)
     by_test false e =
         let same : n ≡ k = (let m : n ≤ k = grind (arith, nat_tests) in omega arith) in
         let at : get_or (hs ++ h ∷ []) k d ≡ h = ap (λ (i : ℕ). get_or (hs ++ h ∷ []) i d) (sym same ∙ sym size) ∙ get_or-append_seam hs h [] d in
-        subst (IsFresh nodes k) (sym at) (subst (λ (i : ℕ). IsFresh nodes i h) same last)
+        subst (IsFresh net k) (sym at) (subst (λ (i : ℕ). IsFresh net i h) same last)
 
-pub idle-hands : (nodes : ℕ) (hs : List Hand) → 1 ≤ length hs → length hs ≤ 16 → ((k : ℕ) (d : Hand) → k < length hs → IsFresh nodes k (get_or hs k d)) → AreIdle nodes hs
-idle-hands nodes hs some few each = record {
+pub idle-hands : (net : Network) (hs : List Hand) → 1 ≤ length hs → length hs ≤ 16 → ((k : ℕ) (d : Hand) → k < length hs → IsFresh net k (get_or hs k d)) → AreIdle net hs
+idle-hands net hs some few each = record {
   some = some;
   few = few;
-  each = λ k d l. ((each k d l).0, (each k d l).1, (each k d l).3);
+  each = λ k d l. ((each k d l).0, (each k d l).1, (each k d l).3, (each k d l).4);
 }
 
-pub fresh-hands : (nodes : ℕ) (old new : List Hand) → AreIdle nodes old → length new ≡ length old
-    → ((k : ℕ) (d : Hand) → k < length old → IsSameWorker (get_or old k d) (get_or new k d) × ((get_or new k d).turn ≡ (get_or old k d).turn) × ((get_or new k d).routes ≡ []))
-    → (k : ℕ) (d : Hand) → k < length new → IsFresh nodes k (get_or new k d)
-fresh-hands nodes old new idle size same k d l =
+pub fresh-hands : (net : Network) (old new : List Hand) → AreIdle net old → length new ≡ length old
+    → ((k : ℕ) (d : Hand) → k < length old → IsSameWorker (get_or old k d) (get_or new k d) × ((get_or new k d).turn ≡ (get_or old k d).turn) × ((get_or new k d).routes ≡ []) × ((get_or new k d).room ≡ (get_or old k d).room))
+    → (k : ℕ) (d : Hand) → k < length new → IsFresh net k (get_or new k d)
+fresh-hands net old new idle size same k d l =
     let s = same k d (omega arith) in
     let i = idle.each k d (omega arith) in
-    (s.0.0 ∙ i.0, s.1 ∙ i.1, s.2, s.0.1 ∙ i.2)
+    (s.0.0 ∙ i.0, s.1 ∙ i.1, s.2, s.0.1 ∙ i.2, subst (λ (r : Option Room). IfSome r (IsRoomOf net)) (sym s.3) i.3)
 
-pub idle-again : (nodes : ℕ) (old new : List Hand) → 1 ≤ length old → length old ≤ 16 → ((k : ℕ) (d : Hand) → k < length old → IsFresh nodes k (get_or old k d)) → length new ≡ length old
+pub idle-again : (net : Network) (old new : List Hand) → 1 ≤ length old → length old ≤ 16 → ((k : ℕ) (d : Hand) → k < length old → IsFresh net k (get_or old k d)) → length new ≡ length old
     → ((k : ℕ) (d : Hand) → k < length old → IsSameWorker (get_or old k d) (get_or new k d)) → ((k : ℕ) (d : Hand) → k < length old → (get_or new k d).turn ≡ None)
-    → AreIdle nodes new
-idle-again nodes old new some few fresh size same over = record {
+    → ((k : ℕ) (d : Hand) → k < length old → HasRoomOf net (get_or new k d)) → AreIdle net new
+idle-again net old new some few fresh size same over rooms = record {
   some = omega arith;
   few = omega arith;
   each = λ k d l. (
       let s = same k d (omega arith) in
       let f = fresh k d (omega arith) in
-      (s.0 ∙ f.0, over k d (omega arith), s.1 ∙ f.3)
+      (s.0 ∙ f.0, over k d (omega arith), s.1 ∙ f.3, rooms k d (omega arith))
       );
 }
 
@@ -127,7 +129,7 @@ loads-limit-more net setting old loads hands n is p size =
     (λ c. (let few = phase-adds net.commodities p.entries 0 c (λ k r at. once c r.path (have k r at).different) in omega arith)) is.small
 
 pub search-more : (net : Network) (setting : Setting) (old new : Search) (hands : List Hand) → IsNetwork net → IsSearch net old → (p : IsRoutedPhase net setting old.loads.items new.loads.items hands)
-    → length new.loads.items ≡ length net.cells → phases_in new ≡ phases_in old ++ p.entries ∷ [] → IsBoundRoom net new.room → AreIdle net.nodes new.hands.items
+    → length new.loads.items ≡ length net.cells → phases_in new ≡ phases_in old ++ p.entries ∷ [] → IsBoundRoom net new.room → AreIdle net new.hands.items
     → new.history.commodities ≡ length net.commodities → AreRowsFor net new.history.history new.history.rows → IsSearch net new
 search-more net setting old new hands n is p size phases room idle commodities rows =
     let before = count-of old in
@@ -168,7 +170,7 @@ routed-more net setting old new hands n p phases same are = record {
 
 -- what the hands have routed, before it is noted
 pub routed-phase : (net : Network) (setting : Setting) (old new : Search) → IsNetwork net → IsSearch net old → phase_count old < MAX_PHASES
-    → (p : IsRoutedPhase net setting old.loads.items new.loads.items new.hands.items) → length new.loads.items ≡ length net.cells → AreIdle net.nodes new.hands.items
+    → (p : IsRoutedPhase net setting old.loads.items new.loads.items new.hands.items) → length new.loads.items ≡ length net.cells → AreIdle net new.hands.items
     → length new.hands.items ≡ length old.hands.items → new.room ≡ old.room → new.history ≡ old.history → IsRouted net setting old new
 routed-phase net setting old new n is few p size idle same room history =
     let limit = loads-limit-more net setting old new.loads.items new.hands.items n is p size in

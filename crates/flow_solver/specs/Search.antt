@@ -4,6 +4,7 @@ use Rattle.flow_model.specs.declared.setting.Setting.{Setting}
 use Rattle.flow_model.specs.Network.{Network}
 use Rattle.flow_core.specs.Phase.{Routed, IsPhase}
 use Rattle.phase_engine.specs.declared.hand.Hand.{Hand}
+use Rattle.phase_engine.specs.Hands.{HasRoomOf}
 use Rattle.phase_engine.specs.Routing.{IsRoutedPhase}
 use Rattle.flow_solver.specs.Rows.{phases_kept, AreRowsFor}
 use Rattle.solver_run.specs.History.{loads_after}
@@ -16,15 +17,15 @@ use Rattle.dual_bound.specs.Rows.{AreRoom}
 use Rattle.flow_solver.specs.declared.search.Search.{Search}
 use Rattle.flow_solver.specs.declared.search.BoundRoom.{BoundRoom}
 
--- hand k between two phases: its number, no turn, and a scratch for so many nodes
-abbrev pub IsIdle : ℕ → ℕ → Hand → Type 0
-IsIdle nodes k h = (h.worker ≡ k) × (h.turn ≡ None) × (h.scratch.nodes ≡ nodes)
+-- hand k between two phases on this network: its number, no turn, a scratch for so many nodes, and room of the network, or none yet
+abbrev pub IsIdle : Network → ℕ → Hand → Type 0
+IsIdle net k h = (h.worker ≡ k) × (h.turn ≡ None) × (h.scratch.nodes ≡ net.nodes) × HasRoomOf net h
 
 -- one to sixteen hands between two phases
-pub record AreIdle (nodes : ℕ) (hands : List Hand) : Type 0 where
+pub record AreIdle (net : Network) (hands : List Hand) : Type 0 where
   pub some : 1 ≤ length hands
   pub few : length hands ≤ MAX_WORKERS
-  pub each : (k : ℕ) (d : Hand) → k < length hands → IsIdle nodes k (slice_index_or hands k d)
+  pub each : (k : ℕ) (d : Hand) → k < length hands → IsIdle net k (slice_index_or hands k d)
 
 -- the phases that are kept
 abbrev pub phases_in : Search → List (List Routed)
@@ -44,7 +45,7 @@ pub record IsSearch (net : Network) (s : Search) : Type 0 where
   pub loads : s.loads.items ≡ loads_after net (phases_in s) (phase_count s)
   pub small : All (λ (x : ℕ). x ≤ phase_count s * MAX_TOTAL) s.loads.items
   pub room : IsBoundRoom net s.room
-  pub hands : AreIdle net.nodes s.hands.items
+  pub hands : AreIdle net s.hands.items
   pub commodities : s.history.commodities ≡ length net.commodities
   pub rows : AreRowsFor net s.history.history s.history.rows
 
@@ -54,7 +55,7 @@ pub record IsRouted (net : Network) (setting : Setting) (old new : Search) : Typ
   pub count : length new.loads.items ≡ length net.cells
   pub small : All (λ (x : ℕ). x ≤ MAX_LENGTH) new.loads.items
   pub loaded : (c : ℕ) × (c < length net.cells) × (1 ≤ slice_index new.loads.items c)
-  pub hands : AreIdle net.nodes new.hands.items
+  pub hands : AreIdle net new.hands.items
   pub same : length new.hands.items ≡ length old.hands.items
   pub room : new.room ≡ old.room
   pub history : new.history ≡ old.history

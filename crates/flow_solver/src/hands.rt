@@ -10,12 +10,13 @@ use std::alloc::{AllocError, Global};
 
 /// The hand of a worker, before any phase.
 fn new_hand(alloc: Global, net: &Net, worker: u16) -> Result<Hand, AllocError>
-    ensures { IfOk result (λ h. IsFresh net.now.nodes worker h) }
+    ensures { IfOk result (λ h. IsFresh net.now worker h) }
 {
     let cells = net.cells().len() as u16;
     Ok(Hand {
         worker,
         scratch: Scratch::new(alloc, net.nodes(), cells)?,
+        room: None,
         routes: Routes::new(alloc),
         turn: None,
     })
@@ -25,7 +26,7 @@ fn new_hand(alloc: Global, net: &Net, worker: u16) -> Result<Hand, AllocError>
 pub(crate) fn new_hands(alloc: Global, net: &Net, workers: u16) -> Result<Vec<Hand>, AllocError>
     ensures count { IfOk result (λ hands. length hands.items ≡ workers) }
     ensures fresh { IfOk result (λ hands. (k : ℕ) (d : _) → k < workers
-        → IsFresh net.now.nodes k (slice_index_or hands.items k d)) }
+        → IsFresh net.now k (slice_index_or hands.items k d)) }
 {
     let mut hands = Vec::new(alloc);
     for worker in 0..workers {
@@ -34,12 +35,13 @@ pub(crate) fn new_hands(alloc: Global, net: &Net, workers: u16) -> Result<Vec<Ha
     Ok(hands)
 }
 
-/// Forgets the routes of the phase before, and keeps their memory.
+/// Forgets the routes of the phase before, and keeps their memory and the rooms.
 pub(crate) fn forget_all(hands: &mut [Hand])
     ensures { (k : ℕ) (d : _) → k < length hands.old
         → IsSameWorker (slice_index_or hands.old k d) (slice_index_or hands.new k d)
         × ((slice_index_or hands.new k d).turn ≡ (slice_index_or hands.old k d).turn)
-        × ((slice_index_or hands.new k d).routes ≡ []) }
+        × ((slice_index_or hands.new k d).routes ≡ [])
+        × ((slice_index_or hands.new k d).room ≡ (slice_index_or hands.old k d).room) }
 {
     for hand in hands.iter_mut() {
         hand.routes.clear();

@@ -7,7 +7,7 @@ ghost use Rattle.flow_paths.specs.Certificate.{upper_of};
 ghost use Rattle.dual_bound.specs.Bounds.{IsBoundOf, ShowsBound};
 ghost use Rattle.flow_core.specs.Core.{IsStart};
 ghost use Rattle.flow_core.specs.Phase.{Routed};
-ghost use Rattle.phase_engine.specs.Hands.{IsFresh, AreSameWorkers};
+ghost use Rattle.phase_engine.specs.Hands.{HasRoomOf, IsFresh, AreSameWorkers};
 ghost use Rattle.phase_engine.specs.Routing.{IsRoutedPhase};
 ghost use Rattle.flow_solver.specs.Routes.{HaveRouted, IsRoutedOnce};
 ghost use Rattle.flow_solver.specs.Rows.{AreRowsFor, phases_kept};
@@ -104,10 +104,12 @@ fn phase_over<G: Gate, R: Threads + Sync>(
     requires setting { IsSetting setting }
     requires no_cut { HasNoCut on.now.net.now }
     requires fresh { (k : ℕ) (d : _) → k < length hands.old
-        → IsFresh on.now.net.now.nodes k (slice_index_or hands.old k d) }
+        → IsFresh on.now.net.now k (slice_index_or hands.old k d) }
     ensures ok { OnOk result (IsRoutedPhase on.now.net.now setting loads.old loads.new hands.new) }
     ensures back { AreSameWorkers hands.old hands.new }
     ensures turns { (k : ℕ) (d : _) → k < length hands.old → (slice_index_or hands.new k d).turn ≡ None }
+    ensures rooms { (k : ℕ) (d : _) → k < length hands.old
+        → HasRoomOf on.now.net.now (slice_index_or hands.new k d) }
 {
     let trees = trees_of(alloc, &room.rows)?;
     let input = PhaseInput {

@@ -5,3 +5,4 @@ pub mod Finds
 pub mod Goings
 pub mod Logs
 pub mod Spans
+pub mod Sent

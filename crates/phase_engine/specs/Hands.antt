@@ -1,5 +1,6 @@
 -- The hands of the workers in a phase.
-use Rattle.std.specs.Prelude.{◌≡◌, ℕ, ◌-◌, ◌<◌, ◌==◌, true, false, if◌then◌else◌, List, [], ◌∷◌, All, length, Option, Some, None, slice_index_or}
+use Rattle.std.specs.Prelude.{◌≡◌, ℕ, ◌-◌, ◌<◌, ◌==◌, true, false, if◌then◌else◌, List, [], ◌∷◌, All, length, Option, Some, None, IfSome, slice_index_or}
+use Rattle.flow_model.specs.Network.{Network}
 use Rattle.flow_model.specs.Least.{HasNoCut}
 use Rattle.flow_model.specs.Lengths.{IsSetting}
 use Rattle.flow_core.specs.Core.{Terms, idle}
@@ -11,6 +12,7 @@ use Rattle.load_table.specs.Rule.{MayClose}
 use Rattle.load_table.specs.Seen.{LoadsView, PassView, IsPassOf}
 use Rattle.phase_engine.specs.declared.worker.Worked.{Worked}
 use Rattle.phase_engine.specs.Work.{HasWorked, routes_of}
+use Rattle.phase_engine.specs.Rooms.{IsRoomOf}
 use Rattle.phase_engine.specs.declared.hand.Hand.{Hand}
 use Rattle.phase_engine.specs.declared.input.PhaseInput.{PhaseInput}
 
@@ -22,13 +24,17 @@ OfTurn (Some w) P = P w
 abbrev pub start_view : Terms → ℕ → View
 start_view t k = view_of t 0 (if k == 0 then t.workers - 1 else 0) (hand k idle ∷ [])
 
--- hand k before a phase: its number, no turn, no routes, and a scratch for so many nodes
-abbrev pub IsFresh : ℕ → ℕ → Hand → Type 0
-IsFresh nodes k h = (h.worker ≡ k) × (h.turn ≡ None) × (h.routes ≡ []) × (h.scratch.nodes ≡ nodes)
+-- the hand's room, if it has any, is of this network
+abbrev pub HasRoomOf : Network → Hand → Type 0
+HasRoomOf net h = IfSome h.room (IsRoomOf net)
+
+-- hand k before a phase on this network: its number, no turn, no routes, a scratch for so many nodes, and room of the network, or none yet
+abbrev pub IsFresh : Network → ℕ → Hand → Type 0
+IsFresh net k h = (h.worker ≡ k) × (h.turn ≡ None) × (h.routes ≡ []) × (h.scratch.nodes ≡ net.nodes) × HasRoomOf net h
 
 -- the hand has the pass of its worker, with nothing done
 abbrev pub IsReady : LoadsView → Hand → Type 0
-IsReady l h = OfTurn h.turn (λ w. IsPassOf l w.pass × (w.pass.view ≡ start_view l.terms h.worker) × (h.routes ≡ []) × (h.scratch.nodes ≡ l.terms.net.nodes))
+IsReady l h = OfTurn h.turn (λ w. IsPassOf l w.pass × (w.pass.view ≡ start_view l.terms h.worker) × (h.routes ≡ []) × (h.scratch.nodes ≡ l.terms.net.nodes) × HasRoomOf l.terms.net h)
 
 -- the hand has the pass of its worker after the work
 abbrev pub IsDone : LoadsView → Hand → Type 0
@@ -43,11 +49,11 @@ abbrev pub AreSameWorkers : List Hand → List Hand → Type 0
 AreSameWorkers old new = (k : ℕ) (d : Hand) → k < length old → IsSameWorker (slice_index_or old k d) (slice_index_or new k d)
 
 abbrev pub Runs : LoadsView → Hand → Hand → Type 0
-Runs l h g = IsSameWorker h g × IsDone l g
+Runs l h g = IsSameWorker h g × IsDone l g × HasRoomOf l.terms.net g
 
 -- the turn is over, and the rest is as it was
 abbrev pub IsBack : Hand → Hand → Type 0
-IsBack h g = IsSameWorker h g × (g.turn ≡ None) × (g.routes ≡ h.routes)
+IsBack h g = IsSameWorker h g × (g.turn ≡ None) × (g.routes ≡ h.routes) × (g.room ≡ h.room)
 
 abbrev pub no_hand : table.Hand
 no_hand = hand 0 idle

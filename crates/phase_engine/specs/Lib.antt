@@ -4,4 +4,5 @@ pub mod Found
 pub mod Going
 pub mod Routes
 pub mod Steps
+pub mod Rooms
 pub mod Work

@@ -1,13 +1,15 @@
 //! The place of one worker.
 
-use crate::{Routes, Worked};
+use crate::{Room, Routes, Worked};
 use dijkstra_paths::Scratch;
 
-/// What a worker works with, and what it has done. Its pass stands in the turn while a phase lasts.
+/// What a worker works with, and what it has done. Its pass stands in the turn while a phase lasts; its room is made in its first
+/// phase, and stays.
 #[derive(Drop)]
 pub struct Hand {
     pub worker: u16,
     pub scratch: Scratch,
+    pub room: Option<Room>,
     pub routes: Routes,
     pub turn: Option<Worked>,
 }

@@ -5,6 +5,7 @@
 mod hand;
 mod input;
 mod phases;
+mod room;
 mod route_buffer;
 mod routes;
 mod steps;
@@ -14,5 +15,6 @@ mod worker;
 pub use hand::Hand;
 pub use input::{PhaseInput, Shared};
 pub use phases::phase;
+pub use room::Room;
 pub use routes::Routes;
 pub use worker::{Worked, work};

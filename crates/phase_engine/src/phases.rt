@@ -7,7 +7,7 @@ ghost use Rattle.flow_core.specs.Core.{IsStart};
 ghost use Rattle.flow_core.specs.Phase.{terms_of};
 ghost use Rattle.load_table.specs.Seen.{IsPassOf};
 ghost use Rattle.load_table.specs.Views.{first_view};
-ghost use Rattle.phase_engine.specs.Hands.{IsFresh, IsSameWorker, IsUnfinished};
+ghost use Rattle.phase_engine.specs.Hands.{HasRoomOf, IsFresh, IsSameWorker, IsUnfinished};
 ghost use Rattle.phase_engine.specs.Routing.{IsRoutedPhase};
 
 use crate::hand::Hand;
@@ -24,7 +24,8 @@ fn clear_all(hands: &mut [Hand])
     ensures cleared { All (λ h. h.routes ≡ []) hands.new }
     ensures back { (k : ℕ) (d : _) → k < length hands.old
         → IsSameWorker (slice_index_or hands.old k d) (slice_index_or hands.new k d)
-        × ((slice_index_or hands.new k d).turn ≡ (slice_index_or hands.old k d).turn) }
+        × ((slice_index_or hands.new k d).turn ≡ (slice_index_or hands.old k d).turn)
+        × ((slice_index_or hands.new k d).room ≡ (slice_index_or hands.old k d).room) }
 {
     for hand in hands.iter_mut() {
         hand.routes.clear();
@@ -56,7 +57,7 @@ pub fn phase<G: Gate, R: Threads + Sync>(
     requires setting { IsSetting input.now.setting }
     requires no_cut { HasNoCut input.now.net.now }
     requires fresh { (k : ℕ) (d : _) → k < length hands.old
-        → IsFresh input.now.net.now.nodes k (slice_index_or hands.old k d) }
+        → IsFresh input.now.net.now k (slice_index_or hands.old k d) }
     ensures ok { OnOk result (IsRoutedPhase input.now.net.now input.now.setting loads.old loads.new hands.new) }
     ensures unfinished { IfErr result (λ p. IsUnfinished words.0 p) }
     ensures loads { OnErr result (loads.new ≡ loads.old) }
@@ -64,6 +65,8 @@ pub fn phase<G: Gate, R: Threads + Sync>(
     ensures back { (k : ℕ) (d : _) → k < length hands.old
         → IsSameWorker (slice_index_or hands.old k d) (slice_index_or hands.new k d) }
     ensures turns { (k : ℕ) (d : _) → k < length hands.old → (slice_index_or hands.new k d).turn ≡ None }
+    ensures rooms { (k : ℕ) (d : _) → k < length hands.old
+        → HasRoomOf input.now.net.now (slice_index_or hands.new k d) }
 {
     let (table, first) = words;
     hand_out(&table, first, hands);

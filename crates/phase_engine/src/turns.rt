@@ -31,7 +31,7 @@ pub(crate) fn hand_out(loads: &Loads, first: Pass, hands: &mut [Hand])
     requires some_hand { 0 < length hands.old }
     requires workers { loads.now.terms.workers ≡ length hands.old }
     requires fresh { (k : ℕ) (d : _) → k < length hands.old
-        → IsFresh loads.now.terms.net.nodes k (slice_index_or hands.old k d) }
+        → IsFresh loads.now.terms.net k (slice_index_or hands.old k d) }
     ensures ready { (k : ℕ) (d : _) → k < length hands.old
         → ((slice_index_or hands.new k d).worker ≡ k) × IsReady loads.now (slice_index_or hands.new k d) }
     ensures same { (k : ℕ) (d : _) → k < length hands.old
@@ -66,6 +66,7 @@ fn take_turn<G: Gate>(alloc: Global, shared: &Shared<'_, G>, hand: &mut Hand)
         hand.worker,
         pass,
         &mut hand.scratch,
+        &mut hand.room,
         &mut hand.routes,
     );
     hand.turn = Some(worked);

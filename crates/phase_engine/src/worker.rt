@@ -1,10 +1,9 @@
 //! A worker's whole work: it claims groups until all are claimed, or room is refused.
 
-ghost use Rattle.std.specs.Prelude.{◌≡◌, ℕ, ◌+◌, ◌*◌, ◌<◌, ◌≤◌, ◌++◌, [], ◌∷◌, length, IfOk};
+ghost use Rattle.std.specs.Prelude.{◌≡◌, ℕ, ◌+◌, ◌*◌, ◌<◌, ◌≤◌, ◌++◌, [], ◌∷◌, length, IfSome};
 ghost use Rattle.flow_model.specs.Groups.{group_count, members_of};
 ghost use Rattle.flow_model.specs.Network.{IsNetwork};
 ghost use Rattle.flow_model.specs.Least.{HasNoCut};
-ghost use Rattle.flow_model.specs.Lengths.{IsSetting};
 ghost use Rattle.flow_core.specs.Core.{IsComplete, entry, idle};
 ghost use Rattle.load_table.specs.Seen.{IsPassOf};
 ghost use Rattle.load_table.specs.Views.{hand};
@@ -13,18 +12,19 @@ ghost use Rattle.phase_engine.specs.Steps.{IsClaimed, HasFinished, adds_of};
 ghost use Rattle.phase_engine.specs.Found.{routes_to, group_routes};
 ghost use Rattle.phase_engine.specs.Work.{HasWorked, routes_in};
 ghost use Rattle.phase_engine.specs.Hands.{AreOf};
+ghost use Rattle.phase_engine.specs.Rooms.{IsRoomOf};
 
 use crate::input::{PhaseInput, Shared};
+use crate::room::Room;
 use crate::route_buffer::RouteBuffer;
 use crate::routes::Routes;
 use crate::steps::route_group;
 use dijkstra_paths::Scratch;
-use fixed_exp::LengthTable;
 use flow_model::{Groups, Net};
 use load_table::{Loads, Pass};
 use mcf_base::Gate;
 use mcf_limits::MAX_DEMANDS;
-use std::alloc::{AllocError, Global};
+use std::alloc::Global;
 
 /// What a worker hands back: its pass, and whether room was refused.
 #[derive(Drop)]
@@ -50,26 +50,6 @@ fn greatest_group(net: &Net, groups: &Groups) -> usize
     most.min(demands)
 }
 
-/// What a worker reads the loads into, and the lengths that follow them.
-#[derive(Drop)]
-struct Room {
-    reads: Vec<u64>,
-    table: LengthTable,
-}
-
-/// Room for the loads of all cells, and the lengths under loads of 0.
-fn new_room(alloc: Global, input: &PhaseInput<'_>) -> Result<Room, AllocError>
-    requires { IsSetting input.now.setting }
-    ensures reads { IfOk result (λ room. length room.reads.items ≡ length input.now.net.now.cells) }
-    ensures table { IfOk result (λ room. (room.table.net ≡ input.now.net.now)
-        × (room.table.setting ≡ input.now.setting)) }
-{
-    Ok(Room {
-        reads: vec![in alloc; 0; input.net.cells().len()]?,
-        table: LengthTable::new(alloc, input.powers, input.net, &input.setting)?,
-    })
-}
-
 /// Routes the claimed group: reads all cells, searches, and adds for each member.
 fn route_ticket(
     input: &PhaseInput<'_>,
@@ -85,33 +65,29 @@ fn route_ticket(
     requires group { g < group_count input.now.net.now }
     requires network { IsNetwork input.now.net.now }
     requires loads { loads.now.terms.net ≡ input.now.net.now }
-    requires table { (room.old.table.net ≡ input.now.net.now)
-        × (room.old.table.setting ≡ loads.now.terms.setting) }
+    requires room { IsRoomOf input.now.net.now room.old × (room.old.setting ≡ loads.now.terms.setting) }
     requires nodes { scratch.old.nodes ≡ input.now.net.now.nodes }
     requires no_cut { HasNoCut input.now.net.now }
-    requires reads { length room.old.reads.items ≡ length input.now.net.now.cells }
     requires paths { length (members_of input.now.net.now g) ≤ buffer.old.paths }
     requires cells { length (members_of input.now.net.now g) * input.now.net.now.nodes ≤ buffer.old.cells }
     ensures of { IsPassOf loads.now pass.new }
-    ensures view { HasFinished room.new.reads.items (adds_of (group_routes input.now.net.now scratch.new g))
+    ensures view { HasFinished room.new.loads.items (adds_of (group_routes input.now.net.now scratch.new g))
         pass.old.view pass.new.view }
     ensures complete { let routes = routes_to input.now.net.now scratch.new (members_of input.now.net.now g) in
-        IsComplete loads.now.terms (entry g room.new.reads.items (adds_of routes)) }
+        IsComplete loads.now.terms (entry g room.new.loads.items (adds_of routes)) }
     ensures routes { let routes = routes_to input.now.net.now scratch.new (members_of input.now.net.now g) in
         (buffer.new.routes ≡ buffer.old.routes ++ routes)
-        × (routes ≡ routes_in input.now.net.now (entry g room.new.reads.items (adds_of routes))) }
-    ensures table { (room.new.table.net ≡ room.old.table.net)
-        × (room.new.table.setting ≡ room.old.table.setting) }
+        × (routes ≡ routes_in input.now.net.now (entry g room.new.loads.items (adds_of routes))) }
+    ensures room { IsRoomOf input.now.net.now room.new × (room.new.setting ≡ room.old.setting) }
     ensures scratch { (scratch.new.nodes ≡ scratch.old.nodes) × (scratch.new.cells ≡ scratch.old.cells) }
-    ensures reads { length room.new.reads.items ≡ length room.old.reads.items }
 {
-    loads.read_all(pass, &mut room.reads);
-    room.table
-        .update(input.powers, input.net, room.reads.as_slice());
+    loads.read_all(pass, &mut room.loads);
+    room.lengths
+        .update(input.powers, input.net, room.loads.as_slice());
     let source = input.groups.source(g);
     scratch.search_near(
         input.graph,
-        room.table.lengths(),
+        room.lengths.lengths(),
         source,
         input.trees.get(g as usize).copied(),
     );
@@ -138,14 +114,14 @@ fn claim_all<G: Gate>(
     requires alone { pass.old.view.hands ≡ hand worker idle ∷ [] }
     requires routes { buffer.old.routes ≡ [] }
     requires loads { shared.now.loads.now.terms.net ≡ shared.now.input.now.net.now }
-    requires table { (room.old.table.net ≡ shared.now.input.now.net.now)
-        × (room.old.table.setting ≡ shared.now.loads.now.terms.setting) }
+    requires room { IsRoomOf shared.now.input.now.net.now room.old
+        × (room.old.setting ≡ shared.now.loads.now.terms.setting) }
     requires nodes { scratch.old.nodes ≡ shared.now.input.now.net.now.nodes }
     requires no_cut { HasNoCut shared.now.input.now.net.now }
-    requires reads { length room.old.reads.items ≡ length shared.now.input.now.net.now.cells }
     ensures of { IsPassOf shared.now.loads.now pass.new }
     ensures worked { HasWorked shared.now.loads.now.terms worker pass.old.view pass.new.view
         result buffer.new.routes }
+    ensures room { IsRoomOf shared.now.input.now.net.now room.new }
     ensures scratch { (scratch.new.nodes ≡ scratch.old.nodes) × (scratch.new.cells ≡ scratch.old.cells) }
 {
     let input = shared.input;
@@ -165,7 +141,7 @@ fn claim_all<G: Gate>(
     }
 }
 
-/// The work of one worker of a phase. It takes its buffers, and then makes room for the paths of one more group
+/// The work of one worker of a phase. It takes its room, or makes it, and then makes room for the paths of one more group
 /// before each claim. `memory` is the answer for want of memory; then no claimed group is left half routed.
 pub fn work<G: Gate>(
     alloc: Global,
@@ -173,6 +149,7 @@ pub fn work<G: Gate>(
     worker: u16,
     pass: Pass,
     scratch: &mut Scratch,
+    room: &mut Option<Room>,
     routes: &mut Routes,
 ) -> Worked
     requires of { IsPassOf shared.now.loads.now pass }
@@ -180,23 +157,26 @@ pub fn work<G: Gate>(
     requires routes { routes.old ≡ [] }
     requires loads { AreOf shared.now.input.now shared.now.loads.now }
     requires nodes { scratch.old.nodes ≡ shared.now.input.now.net.now.nodes }
+    requires room { IfSome room.old (IsRoomOf shared.now.input.now.net.now) }
     ensures of { IsPassOf shared.now.loads.now result.pass }
     ensures worked { HasWorked shared.now.loads.now.terms worker pass.view result.pass.view
         result.memory routes.new }
+    ensures room { IfSome room.new (IsRoomOf shared.now.input.now.net.now) }
     ensures scratch { (scratch.new.nodes ≡ scratch.old.nodes) × (scratch.new.cells ≡ scratch.old.cells) }
 {
     let mut pass = pass;
-    let mut room = match new_room(alloc, shared.input) {
-        Ok(room) => room,
+    let mut own = match Room::for_phase(alloc, shared.input, room.take()) {
+        Ok(own) => own,
         Err(_) => return Worked { pass, memory: true },
     };
     let memory = claim_all(
         shared,
         worker,
         &mut pass,
-        &mut room,
+        &mut own,
         scratch,
         &mut routes.buffer,
     );
+    *room = Some(own);
     Worked { pass, memory }
 }

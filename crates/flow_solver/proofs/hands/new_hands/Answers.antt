@@ -14,6 +14,6 @@ loop-worker-preserved c =
     let count : length c.push.new.self.items ≡ n + 1 = omega (arith, ap (λ (xs : List Hand). length xs) items, length-append hs (h ∷ []), c.loop-worker.invariant.count) in
     record {
       count = count;
-      fresh = subst (λ (xs : List Hand). (k : ℕ) (d : Hand) → k < n + 1 → IsFresh c.args.net.now.nodes k (get_or xs k d)) (sym items)
-          (hands-more c.args.net.now.nodes n hs h c.loop-worker.invariant.count c.loop-worker.invariant.fresh c.in_ok-new_hand.ensures);
+      fresh = subst (λ (xs : List Hand). (k : ℕ) (d : Hand) → k < n + 1 → IsFresh c.args.net.now k (get_or xs k d)) (sym items)
+          (hands-more c.args.net.now n hs h c.loop-worker.invariant.count c.loop-worker.invariant.fresh c.in_ok-new_hand.ensures);
     }

@@ -7,5 +7,5 @@ use Rattle.flow_solver.proofs.hands.new_hands.Given as goal
 abbrev pub invariant-loop-worker : goal.invariant-loop-worker
 invariant-loop-worker l = record {
   count : length l.hands.items ≡ l.worker;
-  fresh : (k : ℕ) (d : Hand) → k < l.worker → IsFresh l.net.nodes k (slice_index_or l.hands.items k d);
+  fresh : (k : ℕ) (d : Hand) → k < l.worker → IsFresh l.net k (slice_index_or l.hands.items k d);
 }

@@ -27,7 +27,7 @@ returns-clause-search c =
           each = All-weaker (IsBlank net.nodes) (IsRoom net.nodes) (λ row b. record { source = b.source; count = b.count }) c.in_ok-source_rows.field-0.items c.in_ok-source_rows.ensures.blank;
         };
       };
-      hands = idle-hands net.nodes c.in_ok-new_hands.field-0.items (omega (arith, count)) (omega (arith, count)) (λ k d l. c.in_ok-new_hands.ensures.fresh k d (omega (arith, count)));
+      hands = idle-hands net c.in_ok-new_hands.field-0.items (omega (arith, count)) (omega (arith, count)) (λ k d l. c.in_ok-new_hands.ensures.fresh k d (omega (arith, count)));
       commodities = ap (λ (h : HistoryView). h.commodities) value;
       rows = subst (λ (h : HistoryView). AreRowsFor net h.history h.rows) (sym value) c.new.ensures.rows;
     }

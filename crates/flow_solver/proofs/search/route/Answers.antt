@@ -44,9 +44,9 @@ returns g c =
       sought = old.sought;
     } in
     let idle = c.requires.search.hands in
-    let fresh : (k : ℕ) (d : Hand) → k < length fresh_hands → IsFresh net.nodes k (get_or fresh_hands k d) =
-    subst (λ (hs : List Hand). (k : ℕ) (d : Hand) → k < length hs → IsFresh net.nodes k (get_or hs k d)) (sym before)
-    (fresh-hands net.nodes c.deref_mut.result.now c.forget_all.new.hands (subst (AreIdle net.nodes) (sym c.deref_mut.ensures.value) idle) (omega arith) c.forget_all.ensures) in
+    let fresh : (k : ℕ) (d : Hand) → k < length fresh_hands → IsFresh net k (get_or fresh_hands k d) =
+    subst (λ (hs : List Hand). (k : ℕ) (d : Hand) → k < length hs → IsFresh net k (get_or hs k d)) (sym before)
+    (fresh-hands net c.deref_mut.result.now c.forget_all.new.hands (subst (AreIdle net) (sym c.deref_mut.ensures.value) idle) (omega arith) c.forget_all.ensures) in
     let count = ap (λ (xs : List Hand). length xs) before in
     let old_count = ap (λ (xs : List Hand). length xs) c.deref_mut.ensures.value in
     let size = loads-size net old c.requires.search in
@@ -58,6 +58,6 @@ returns g c =
           (subst (λ (xs : List ℕ). IsRoutedPhase net c.args.setting xs c.phase_over.new.loads c.phase_over.new.hands) c.deref_mut-2.ensures.value ok)) in
           routed-phase net c.args.setting old new c.commodities-commodities.ensures.net c.requires.search c.requires.phases routed
           (ap (λ (xs : List ℕ). length xs) loads ∙ omega (arith, size, c.phase_over.auto.loads, c.deref_mut-2.ensures.len))
-          (subst (AreIdle net.nodes) (sym hands) (idle-again net.nodes fresh_hands c.phase_over.new.hands (omega (arith, idle.some)) (omega (arith, idle.few)) fresh (omega arith) c.phase_over.ensures.back c.phase_over.ensures.turns))
+          (subst (AreIdle net) (sym hands) (idle-again net fresh_hands c.phase_over.new.hands (omega (arith, idle.some)) (omega (arith, idle.few)) fresh (omega arith) c.phase_over.ensures.back c.phase_over.ensures.turns c.phase_over.ensures.rooms))
           (omega arith) refl refl) c.phase_over.ensures.ok;
     }

@@ -6,6 +6,6 @@ use Rattle.phase_engine.proofs.phases.clear_all.Given as goal
 abbrev pub invariant-loop-hand : goal.invariant-loop-hand
 invariant-loop-hand l = record {
   cleared : (k : ℕ) (d : Hand) → k < l.hand-index → (slice_index_or l.hands k d).routes ≡ [];
-  back : (k : ℕ) (d : Hand) → k < l.hand-index → IsSameWorker (slice_index_or l.initial.hands k d) (slice_index_or l.hands k d) × ((slice_index_or l.hands k d).turn ≡ (slice_index_or l.initial.hands k d).turn);
+  back : (k : ℕ) (d : Hand) → k < l.hand-index → IsSameWorker (slice_index_or l.initial.hands k d) (slice_index_or l.hands k d) × ((slice_index_or l.hands k d).turn ≡ (slice_index_or l.initial.hands k d).turn) × ((slice_index_or l.hands k d).room ≡ (slice_index_or l.initial.hands k d).room);
   rest : (k : ℕ) (d : Hand) → l.hand-index ≤ k → slice_index_or l.hands k d ≡ slice_index_or l.initial.hands k d;
 }

@@ -52,6 +52,7 @@ loop-i-preserved c =
             (ap (λ (x : Hand). x.worker) new ∙ ap (λ (x : Hand). x.worker) (sym there), ap (λ (x : Hand). x.scratch.nodes) new ∙ ap (λ (x : Hand). x.scratch.nodes) (sym there), ap (λ (x : Hand). x.scratch.cells) new ∙ ap (λ (x : Hand). x.scratch.cells) (sym there)),
             ap (λ (x : Hand). x.turn) new,
             ap (λ (x : Hand). x.routes) new ∙ ap (λ (x : Hand). x.routes) (sym there),
+            ap (λ (x : Hand). x.room) new ∙ ap (λ (x : Hand). x.room) (sym there),
           ));
       rest = λ k d h. get_or-set_other c.loop-i.hands i k c.take-pass-in-loop-i.new.hand d (λ e. omega arith) ∙ inv.rest k d (omega arith);
     }

@@ -13,6 +13,6 @@ invariant-loop-i l = record {
   numbers : (k : ℕ) (d : Hand) → k < l.i-end → (slice_index_or l.hands k d).worker ≡ k;
   done : (k : ℕ) (d : Hand) → 0 < k → k < l.i → IsReady l.loads (slice_index_or l.hands k d);
   same : (k : ℕ) (d : Hand) → k < l.i-end → IsSameWorker (slice_index_or l.fn.hands k d) (slice_index_or l.hands k d);
-  rest : (d : Hand) → IsFresh l.loads.terms.net.nodes 0 (slice_index_or l.hands 0 d);
-  fresh : (k : ℕ) (d : Hand) → l.i ≤ k → k < l.i-end → IsFresh l.loads.terms.net.nodes k (slice_index_or l.hands k d);
+  rest : (d : Hand) → IsFresh l.loads.terms.net 0 (slice_index_or l.hands 0 d);
+  fresh : (k : ℕ) (d : Hand) → l.i ≤ k → k < l.i-end → IsFresh l.loads.terms.net k (slice_index_or l.hands k d);
 }

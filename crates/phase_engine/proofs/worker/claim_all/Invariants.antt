@@ -1,6 +1,7 @@
-use Rattle.std.proofs.Common.{◌≡◌, ◌-◌, length}
+use Rattle.std.proofs.Common.{◌≡◌, ◌-◌}
 use Rattle.flow_model.specs.Groups.{group_count}
 use Rattle.load_table.specs.Seen.{IsPassOf}
+use Rattle.phase_engine.specs.Rooms.{IsRoomOf}
 use Rattle.phase_engine.specs.Going.{IsGoing, next_ticket}
 use Rattle.phase_engine.proofs.worker.claim_all.Given as goal
 
@@ -10,11 +11,10 @@ invariant-claims g l = record {
   left : l.pass.view.left ≡ l.fn.pass.view.left;
   made : l.pass.view.made ≡ l.fn.pass.view.made;
   going : IsGoing l.shared.loads.now.terms l.worker l.pass.view.hands l.buffer.routes;
-  net : l.room.table.net ≡ l.shared.input.now.net.now;
-  setting : l.room.table.setting ≡ l.shared.loads.now.terms.setting;
+  room : IsRoomOf l.shared.input.now.net.now l.room;
+  setting : l.room.setting ≡ l.shared.loads.now.terms.setting;
   nodes : l.scratch.nodes ≡ l.fn.scratch.nodes;
   cells : l.scratch.cells ≡ l.fn.scratch.cells;
-  reads : length l.room.reads.items ≡ length l.shared.input.now.net.now.cells;
 }
 
 abbrev pub decreases-claims : goal.decreases-claims

@@ -27,7 +27,7 @@ pub route_group-requires-clause-ready : goal.route_group-requires-clause-ready
 route_group-requires-clause-ready c =
     let net = c.args.input.now.net.now in
     let ms : c.members.result.now ≡ members_of net c.args.g = c.members.ensures ∙ ap (λ (m : Network). members_of m c.args.g) c.args.input.now.groups_are in
-    let all : length c.read_all.new.reads ≡ length net.cells = omega (arith, c.read_all.auto.reads, c.requires.reads, c.deref_mut.ensures.len) in
+    let all : length c.read_all.new.reads ≡ length net.cells = omega (arith, c.read_all.auto.reads, c.requires.room.0.0, c.deref_mut.ensures.len) in
     subst (λ (xs : List ℕ). OneWhere (IsReadyForAll c.args.loads.now.terms xs) c.read_all.new.pass.view.hands) (sym ms)
     (ready-all c.args.loads.now.terms net c.args.g c.read_all.new.reads c.args.pass.now.view c.read_all.new.pass.view c.requires.loads c.requires.claimed c.read_all.ensures.view all)
 
@@ -56,13 +56,13 @@ returns-clause-complete c =
     let net = c.args.input.now.net.now in
     let t = c.args.loads.now.terms in
     let s = c.search_near.new.self in
-    let reads = (with_items c.args.room.now.reads c.read_all.new.reads).items in
+    let reads = (with_items c.args.room.now.loads c.read_all.new.reads).items in
     let search = search-is net c.args.input.now.graph.now c.args.input.now.groups.now c.lengths.result.now c.source-source.result c.args.g s c.args.input.now.graph_is c.args.input.now.groups_are c.source-source.ensures c.search_near.ensures.least c.search_near.ensures.paths in
     let nodes : s.nodes ≡ net.nodes = c.search_near.ensures.nodes ∙ c.requires.nodes in
-    let is = with_items_is c.args.room.now.reads c.read_all.new.reads (omega (arith, c.read_all.auto.reads, c.deref_mut.ensures.len)) in
-    let all : length reads ≡ length net.cells = ap (λ (xs : List ℕ). length xs) is ∙ omega (arith, c.read_all.auto.reads, c.requires.reads, c.deref_mut.ensures.len) in
-    let n : c.update.new.self.net ≡ net = c.update.ensures.net ∙ c.requires.table.0 in
-    let set : c.update.new.self.setting ≡ t.setting = c.update.ensures.setting ∙ c.requires.table.1 in
+    let is = with_items_is c.args.room.now.loads c.read_all.new.reads (omega (arith, c.read_all.auto.reads, c.deref_mut.ensures.len)) in
+    let all : length reads ≡ length net.cells = ap (λ (xs : List ℕ). length xs) is ∙ omega (arith, c.read_all.auto.reads, c.requires.room.0.0, c.deref_mut.ensures.len) in
+    let n : c.update.new.self.net ≡ net = c.update.ensures.net ∙ c.requires.room.0.1 in
+    let set : c.update.new.self.setting ≡ t.setting = c.update.ensures.setting ∙ (c.args.room.now.setting_is ∙ c.requires.room.1) in
     let loads : c.update.new.self.loads ≡ reads = c.update.ensures.loads ∙ c.as_slice.ensures.value in
     let under : c.lengths.result.now ≡ lengths_of net t.setting reads = c.lengths.ensures.value ∙ (λ i. lengths_of (n i) (set i) (loads i)) in
     let whole = complete-entry t net c.lengths.result.now c.args.g s reads c.requires.loads c.requires.network c.requires.no_cut search nodes all under in
@@ -75,11 +75,11 @@ returns-clause-routes c =
     let ms : c.members.result.now ≡ members_of net g = c.members.ensures ∙ ap (λ (m : Network). members_of m g) c.args.input.now.groups_are in
     let found : c.route_group.new.buffer.routes ≡ c.args.buffer.now.routes ++ routes_to net c.route_group.new.scratch (members_of net g) =
     c.route_group.ensures.routes ∙ (λ i. c.args.buffer.now.routes ++ routes_to net (sym c.route_group.ensures.scratch i) (ms i)) in
-    (found, routes-are net g c.route_group.new.scratch (with_items c.args.room.now.reads c.read_all.new.reads).items)
+    (found, routes-are net g c.route_group.new.scratch (with_items c.args.room.now.loads c.read_all.new.reads).items)
 
 pub returns-clause-view : goal.returns-clause-view
 returns-clause-view c =
-    let is = with_items_is c.args.room.now.reads c.read_all.new.reads (omega (arith, c.read_all.auto.reads, c.deref_mut.ensures.len)) in
+    let is = with_items_is c.args.room.now.loads c.read_all.new.reads (omega (arith, c.read_all.auto.reads, c.deref_mut.ensures.len)) in
     let adds = adds_of (group_routes c.args.input.now.net.now c.route_group.new.scratch c.args.g) in
     let view : HasFinished c.read_all.new.reads adds c.args.pass.now.view c.route_group.new.pass.view = search rules in
     subst (λ (xs : List ℕ). HasFinished xs adds c.args.pass.now.view c.route_group.new.pass.view) (sym is) view
