@@ -1,6 +1,6 @@
 //! One phase: the loads are shared, the hands take their turns, and the loads are read back.
 
-ghost use Rattle.std.specs.Prelude.{◌≡◌, ℕ, ◌<◌, ◌≤◌, [], All, IfErr, OnOk, OnErr, length, slice_index_or};
+ghost use Rattle.std.specs.Prelude.{◌≡◌, ℕ, ◌<◌, [], All, IfErr, OnOk, OnErr, length, slice_index_or};
 ghost use Rattle.flow_model.specs.Least.{HasNoCut};
 ghost use Rattle.flow_model.specs.Lengths.{IsSetting};
 ghost use Rattle.flow_core.specs.Core.{IsStart};
@@ -15,7 +15,6 @@ use crate::input::{PhaseInput, Shared};
 use crate::turns::{gather, hand_out, run_all};
 use load_table::{Loads, Pass};
 use mcf_base::Gate;
-use mcf_limits::MAX_WORKERS;
 use std::alloc::Global;
 use std::thread::Threads;
 
