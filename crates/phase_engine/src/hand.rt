@@ -3,8 +3,8 @@
 use crate::{Room, Routes, Worked};
 use dijkstra_paths::Scratch;
 
-/// What a worker works with, and what it has done. Its pass stands in the turn while a phase lasts; its room is made in its first
-/// phase, and stays.
+/// What a worker works with, and what it has done. Its pass stands in the turn while a phase lasts; the rest is kept from phase to
+/// phase, and there is no room before the first.
 #[derive(Drop)]
 pub struct Hand {
     pub worker: u16,
