@@ -1,5 +1,5 @@
 -- How the one worker of a view gets on.
-use Rattle.std.proofs.Common.{◌≡◌, ℕ, ◌<◌, List, [], ◌∷◌, ◌++◌, length, sym, ap, ◌∙◌, subst}
+use Rattle.std.proofs.Common.{◌≡◌, ℕ, ◌<◌, List, [], ◌∷◌, ◌++◌, length, refl, sym, ap, ◌∙◌, subst}
 use Rattle.flow_core.specs.declared.state.Entry.{Entry}
 use Rattle.flow_core.specs.declared.state.Worker.{Worker}
 use Rattle.flow_core.specs.Core.{Terms, entry, worker, cell_count, with_read, has_read}
