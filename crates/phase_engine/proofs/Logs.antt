@@ -11,13 +11,14 @@ use Rattle.dijkstra_paths.specs.Searched.{Searched}
 use Rattle.phase_engine.specs.Found.{known_path, to_at, routes_to}
 use Rattle.flow_core.specs.declared.state.Entry.{Entry}
 use Rattle.flow_core.specs.declared.state.Worker.{Worker}
-use Rattle.flow_core.specs.Core.{Terms, entry, worker, has, is_pair, cell_count, NotBelowLast, LastMayAdd, with_read, with_add, has_read, has_added}
+use Rattle.flow_core.specs.Core.{Terms, entry, worker, has, is_pair, cell_count, NotBelowLast, LastMayAdd, with_add, has_added}
 use Rattle.load_table.specs.declared.view.View.{View}
 use Rattle.load_table.specs.declared.view.Hand.{Hand}
 use Rattle.load_table.specs.Views.{hand, view_of, first_works, with_work}
-use Rattle.load_table.specs.Rule.{MayRead, MayAdd, LastReads}
+use Rattle.load_table.specs.Rule.{MayAdd}
 use Rattle.phase_engine.specs.Routes.{Route}
-use Rattle.load_table.specs.Reading.{LastWhere, OneWhere, IsFresh, put_reads, reads_all}
+use Rattle.load_table.specs.Reading.{LastWhere, OneWhere}
+use Rattle.load_table.proofs.Works.{with-with}
 use Rattle.phase_engine.specs.Steps.{IsReadyFor, IsReadyForAll, more_adds, adds_all, HasAddedAll, adds_along, adds_of}
 
 -- adds

@@ -1,8 +1,13 @@
 //! The cells of all paths in one buffer, with room made beforehand.
 
-ghost use Rattle.std.specs.Prelude.{◌≡◌, ◌+◌, ◌-◌, ◌<◌, ◌≤◌, ◌++◌, [], ◌∷◌, length, OnOk, vec_len, vec_capacity};
+ghost use Rattle.std.specs.Prelude.{◌≡◌, ◌+◌, ◌-◌, ◌<◌, ◌≤◌, ◌++◌, [], ◌∷◌, All, length, OnOk, vec_len, vec_capacity};
+ghost use Rattle.flow_model.specs.Least.{AreDifferent};
+ghost use Rattle.load_table.specs.Seen.{IsPassOf};
+ghost use Rattle.load_table.specs.Reading.{OneWhere};
 ghost use Rattle.phase_engine.specs.Routes.{Route, RouteRoom, route_of, AreSpans};
+ghost use Rattle.phase_engine.specs.Steps.{IsReadyFor, HasAddedAll, adds_along};
 
+use load_table::{Loads, Pass};
 use std::alloc::{AllocError, Global};
 use std::marker::Model;
 
@@ -87,17 +92,23 @@ impl RouteBuffer {
         self.cells.reserve(cells)
     }
 
-    /// Appends a route, for which there is room.
-    pub(crate) fn push(&mut self, commodity: u32, path: &[u16])
+    /// Adds the commodity's amount to each cell of its path, and appends the route, for which there is room.
+    pub(crate) fn add_route(&mut self, loads: &Loads, pass: &mut Pass, commodity: u32, path: &[u16])
+        requires of { IsPassOf loads.now pass.old }
+        requires ready { OneWhere (IsReadyFor loads.now.terms commodity) pass.old.view.hands }
+        requires inside { All (λ c. c < length loads.now.terms.net.cells) path.now }
+        requires different { AreDifferent path.now }
         requires paths { 0 < self.old.paths }
         requires cells { length path.now ≤ self.old.cells }
+        ensures of { IsPassOf loads.now pass.new }
+        ensures view { HasAddedAll (adds_along commodity path.now) pass.old.view pass.new.view }
         ensures routes { self.new.routes ≡ self.old.routes ++ record
             { commodity = commodity; path = path.now } ∷ [] }
         ensures paths { self.new.paths ≡ self.old.paths - 1 }
         ensures cells { self.new.cells ≡ self.old.cells - length path.now }
     {
         let start = self.cells.len();
-        append(&mut self.cells, path);
+        add_path(loads, pass, commodity, path, &mut self.cells);
         self.spans.push_reserved(Span {
             commodity,
             start,
@@ -106,14 +117,21 @@ impl RouteBuffer {
     }
 }
 
-/// Appends cells, for which there is room.
-fn append(cells: &mut Vec<u16>, path: &[u16])
-    requires { vec_len cells.old + length path.now ≤ vec_capacity cells.old }
+/// Adds the commodity's amount to each cell of its path, and appends the cell, for which there is room.
+fn add_path(loads: &Loads, pass: &mut Pass, k: u32, path: &[u16], cells: &mut Vec<u16>)
+    requires of { IsPassOf loads.now pass.old }
+    requires ready { OneWhere (IsReadyFor loads.now.terms k) pass.old.view.hands }
+    requires inside { All (λ c. c < length loads.now.terms.net.cells) path.now }
+    requires different { AreDifferent path.now }
+    requires room { vec_len cells.old + length path.now ≤ vec_capacity cells.old }
+    ensures of { IsPassOf loads.now pass.new }
+    ensures view { HasAddedAll (adds_along k path.now) pass.old.view pass.new.view }
     ensures items { cells.new.items ≡ cells.old.items ++ path.now }
     ensures room { vec_capacity cells.new ≡ vec_capacity cells.old }
     ensures count { vec_len cells.new ≡ vec_len cells.old + length path.now }
 {
-    for c in path {
-        cells.push_reserved(*c);
+    for cell in path {
+        loads.add_cell(pass, k, *cell);
+        cells.push_reserved(*cell);
     }
 }

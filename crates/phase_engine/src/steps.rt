@@ -1,11 +1,9 @@
-//! The steps of a worker for one claimed group: reading all cells, and adding along paths.
+//! The steps of a worker for the members of one claimed group.
 
-ghost use Rattle.std.specs.Prelude.{◌≡◌, ℕ, ◌-◌, ◌*◌, ◌<◌, ◌≤◌, ◌++◌, [], ◌∷◌, All, length, vec_capacity};
+ghost use Rattle.std.specs.Prelude.{◌≡◌, ℕ, ◌-◌, ◌*◌, ◌<◌, ◌≤◌, ◌++◌, [], ◌∷◌, All, length};
 ghost use Rattle.std.specs.List.Sorted.{IsStrictlyIncreasing};
-ghost use Rattle.flow_model.specs.Least.{AreDifferent};
 ghost use Rattle.load_table.specs.Seen.{IsPassOf};
-ghost use Rattle.load_table.specs.Views.{with_work};
-ghost use Rattle.load_table.specs.Reading.{OneWhere, IsFresh, reads_all};
+ghost use Rattle.load_table.specs.Reading.{OneWhere};
 ghost use Rattle.phase_engine.specs.Steps.{IsReadyFor, IsReadyForAll, HasAddedAll, adds_along, adds_of};
 ghost use Rattle.phase_engine.specs.Found.{HasPath, known_path, routes_to, to_at};
 
@@ -13,39 +11,6 @@ use crate::route_buffer::RouteBuffer;
 use dijkstra_paths::Scratch;
 use flow_model::Net;
 use load_table::{Loads, Pass};
-use mcf_limits::MAX_LENGTH;
-
-/// Reads all cells for the group that was claimed.
-pub(crate) fn read_all(loads: &Loads, pass: &mut Pass, reads: &mut Vec<u64>)
-    requires of { IsPassOf loads.now pass.old }
-    requires fresh { OneWhere IsFresh pass.old.view.hands }
-    requires room { length loads.now.terms.net.cells ≤ vec_capacity reads.old }
-    ensures of { IsPassOf loads.now pass.new }
-    ensures view { pass.new.view ≡ with_work (reads_all reads.new.items) pass.old.view }
-    ensures count { length reads.new.items ≡ length loads.now.terms.net.cells }
-    ensures small { All (λ x. x ≤ MAX_LENGTH) reads.new.items }
-    ensures room { vec_capacity reads.new ≡ vec_capacity reads.old }
-{
-    reads.clear();
-    for cell in 0..loads.cell_count() {
-        let load = loads.read_cell(pass, cell);
-        reads.push_reserved(load);
-    }
-}
-
-/// Adds the commodity's amount to each cell of its path.
-pub(crate) fn add_path(loads: &Loads, pass: &mut Pass, k: u32, path: &[u16])
-    requires of { IsPassOf loads.now pass.old }
-    requires ready { OneWhere (IsReadyFor loads.now.terms k) pass.old.view.hands }
-    requires inside { All (λ c. c < length loads.now.terms.net.cells) path.now }
-    requires different { AreDifferent path.now }
-    ensures of { IsPassOf loads.now pass.new }
-    ensures view { HasAddedAll (adds_along k path.now) pass.old.view pass.new.view }
-{
-    for cell in path {
-        loads.add_cell(pass, k, *cell);
-    }
-}
 
 /// Routes one commodity along the path that the search found.
 pub(crate) fn route_member(
@@ -76,10 +41,7 @@ pub(crate) fn route_member(
     let commodities = net.commodities();
     let to = commodities[k as usize].to;
     match scratch.path_to(to) {
-        Some(path) => {
-            add_path(loads, pass, k, path);
-            buffer.push(k, path);
-        }
+        Some(path) => buffer.add_route(loads, pass, k, path),
         None => unreachable!(),
     }
 }

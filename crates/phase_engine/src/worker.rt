@@ -1,9 +1,10 @@
 //! A worker's whole work: it claims groups until all are claimed, or room is refused.
 
-ghost use Rattle.std.specs.Prelude.{◌≡◌, ℕ, ◌+◌, ◌*◌, ◌<◌, ◌≤◌, ◌++◌, [], ◌∷◌, length, vec_capacity};
+ghost use Rattle.std.specs.Prelude.{◌≡◌, ℕ, ◌+◌, ◌*◌, ◌<◌, ◌≤◌, ◌++◌, [], ◌∷◌, length, IfOk};
 ghost use Rattle.flow_model.specs.Groups.{group_count, members_of};
 ghost use Rattle.flow_model.specs.Network.{IsNetwork};
 ghost use Rattle.flow_model.specs.Least.{HasNoCut};
+ghost use Rattle.flow_model.specs.Lengths.{IsSetting};
 ghost use Rattle.flow_core.specs.Core.{IsComplete, entry, idle};
 ghost use Rattle.load_table.specs.Seen.{IsPassOf};
 ghost use Rattle.load_table.specs.Views.{hand};
@@ -16,14 +17,14 @@ ghost use Rattle.phase_engine.specs.Hands.{AreOf};
 use crate::input::{PhaseInput, Shared};
 use crate::route_buffer::RouteBuffer;
 use crate::routes::Routes;
-use crate::steps::{read_all, route_group};
+use crate::steps::route_group;
 use dijkstra_paths::Scratch;
 use fixed_exp::LengthTable;
 use flow_model::{Groups, Net};
 use load_table::{Loads, Pass};
 use mcf_base::Gate;
 use mcf_limits::MAX_DEMANDS;
-use std::alloc::Global;
+use std::alloc::{AllocError, Global};
 
 /// What a worker hands back: its pass, and whether room was refused.
 #[derive(Drop)]
@@ -56,6 +57,19 @@ struct Room {
     table: LengthTable,
 }
 
+/// Room for the loads of all cells, and the lengths under loads of 0.
+fn new_room(alloc: Global, input: &PhaseInput<'_>) -> Result<Room, AllocError>
+    requires { IsSetting input.now.setting }
+    ensures reads { IfOk result (λ room. length room.reads.items ≡ length input.now.net.now.cells) }
+    ensures table { IfOk result (λ room. (room.table.net ≡ input.now.net.now)
+        × (room.table.setting ≡ input.now.setting)) }
+{
+    Ok(Room {
+        reads: vec![in alloc; 0; input.net.cells().len()]?,
+        table: LengthTable::new(alloc, input.powers, input.net, &input.setting)?,
+    })
+}
+
 /// Routes the claimed group: reads all cells, searches, and adds for each member.
 fn route_ticket(
     input: &PhaseInput<'_>,
@@ -75,7 +89,7 @@ fn route_ticket(
         × (room.old.table.setting ≡ loads.now.terms.setting) }
     requires nodes { scratch.old.nodes ≡ input.now.net.now.nodes }
     requires no_cut { HasNoCut input.now.net.now }
-    requires reads { length input.now.net.now.cells ≤ vec_capacity room.old.reads }
+    requires reads { length room.old.reads.items ≡ length input.now.net.now.cells }
     requires paths { length (members_of input.now.net.now g) ≤ buffer.old.paths }
     requires cells { length (members_of input.now.net.now g) * input.now.net.now.nodes ≤ buffer.old.cells }
     ensures of { IsPassOf loads.now pass.new }
@@ -89,9 +103,9 @@ fn route_ticket(
     ensures table { (room.new.table.net ≡ room.old.table.net)
         × (room.new.table.setting ≡ room.old.table.setting) }
     ensures scratch { (scratch.new.nodes ≡ scratch.old.nodes) × (scratch.new.cells ≡ scratch.old.cells) }
-    ensures reads { vec_capacity room.new.reads ≡ vec_capacity room.old.reads }
+    ensures reads { length room.new.reads.items ≡ length room.old.reads.items }
 {
-    read_all(loads, pass, &mut room.reads);
+    loads.read_all(pass, &mut room.reads);
     room.table
         .update(input.powers, input.net, room.reads.as_slice());
     let source = input.groups.source(g);
@@ -128,7 +142,7 @@ fn claim_all<G: Gate>(
         × (room.old.table.setting ≡ shared.now.loads.now.terms.setting) }
     requires nodes { scratch.old.nodes ≡ shared.now.input.now.net.now.nodes }
     requires no_cut { HasNoCut shared.now.input.now.net.now }
-    requires reads { length shared.now.input.now.net.now.cells ≤ vec_capacity room.old.reads }
+    requires reads { length room.old.reads.items ≡ length shared.now.input.now.net.now.cells }
     ensures of { IsPassOf shared.now.loads.now pass.new }
     ensures worked { HasWorked shared.now.loads.now.terms worker pass.old.view pass.new.view
         result buffer.new.routes }
@@ -171,17 +185,11 @@ pub fn work<G: Gate>(
         result.memory routes.new }
     ensures scratch { (scratch.new.nodes ≡ scratch.old.nodes) × (scratch.new.cells ≡ scratch.old.cells) }
 {
-    let input = shared.input;
     let mut pass = pass;
-    let mut reads = Vec::new(alloc);
-    if reads.reserve(input.net.cells().len()).is_err() {
-        return Worked { pass, memory: true };
-    }
-    let table = match LengthTable::new(alloc, input.powers, input.net, &input.setting) {
-        Ok(table) => table,
+    let mut room = match new_room(alloc, shared.input) {
+        Ok(room) => room,
         Err(_) => return Worked { pass, memory: true },
     };
-    let mut room = Room { reads, table };
     let memory = claim_all(
         shared,
         worker,

@@ -1,4 +1,4 @@
-use Rattle.std.proofs.Common.{◌≡◌, ◌-◌, ◌≤◌, length, vec_capacity}
+use Rattle.std.proofs.Common.{◌≡◌, ◌-◌, length}
 use Rattle.flow_model.specs.Groups.{group_count}
 use Rattle.load_table.specs.Seen.{IsPassOf}
 use Rattle.phase_engine.specs.Going.{IsGoing, next_ticket}
@@ -14,7 +14,7 @@ invariant-claims g l = record {
   setting : l.room.table.setting ≡ l.shared.loads.now.terms.setting;
   nodes : l.scratch.nodes ≡ l.fn.scratch.nodes;
   cells : l.scratch.cells ≡ l.fn.scratch.cells;
-  reads : length l.shared.input.now.net.now.cells ≤ vec_capacity l.room.reads;
+  reads : length l.room.reads.items ≡ length l.shared.input.now.net.now.cells;
 }
 
 abbrev pub decreases-claims : goal.decreases-claims

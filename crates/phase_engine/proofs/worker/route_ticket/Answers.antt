@@ -1,5 +1,7 @@
-use Rattle.std.proofs.Common.{arith, ℕ, List, ◌≡◌, ◌∙◌, ◌++◌, ◌<◌, length, get_or, subst, sym, ap}
+use Rattle.std.proofs.Common.{arith, ℕ, List, ◌≡◌, ◌∙◌, ◌++◌, ◌<◌, length, get_or, subst, sym, ap, rules}
 use Rattle.std.specs.Prelude.{All}
+use Rattle.std.specs.Vec.{with_items}
+use Rattle.std.proofs.lemmas.List.{with_items_is}
 use Rattle.std.specs.List.Sorted.{IsStrictlyIncreasing}
 use Rattle.flow_model.specs.Network.{Network}
 use Rattle.flow_model.specs.Lengths.{lengths_of}
@@ -7,8 +9,8 @@ use Rattle.flow_model.specs.Groups.{members_of, group_sources}
 use Rattle.dijkstra_paths.specs.Searched.{Searched}
 use Rattle.flow_core.specs.Core.{IsComplete, entry}
 use Rattle.load_table.specs.Reading.{OneWhere}
-use Rattle.phase_engine.specs.Steps.{IsReadyForAll, adds_of}
-use Rattle.phase_engine.specs.Found.{HasPath, to_at, routes_to}
+use Rattle.phase_engine.specs.Steps.{HasFinished, IsReadyForAll, adds_of}
+use Rattle.phase_engine.specs.Found.{HasPath, to_at, routes_to, group_routes}
 use Rattle.phase_engine.proofs.Finds.{claimed-fresh, ready-all, found-all, complete-entry, routes-are, members-ascend, members-inside, source-inside, search-is}
 use Rattle.phase_engine.proofs.worker.route_ticket.Goals as goal
 
@@ -25,9 +27,9 @@ pub route_group-requires-clause-ready : goal.route_group-requires-clause-ready
 route_group-requires-clause-ready c =
     let net = c.args.input.now.net.now in
     let ms : c.members.result.now ≡ members_of net c.args.g = c.members.ensures ∙ ap (λ (m : Network). members_of m c.args.g) c.args.input.now.groups_are in
-    let all : length c.read_all.new.reads.items ≡ length net.cells = c.read_all.ensures.count ∙ ap (λ (m : Network). length m.cells) c.requires.loads in
+    let all : length c.read_all.new.reads ≡ length net.cells = omega (arith, c.read_all.auto.reads, c.requires.reads, c.deref_mut.ensures.len) in
     subst (λ (xs : List ℕ). OneWhere (IsReadyForAll c.args.loads.now.terms xs) c.read_all.new.pass.view.hands) (sym ms)
-    (ready-all c.args.loads.now.terms net c.args.g c.read_all.new.reads.items c.args.pass.now.view c.read_all.new.pass.view c.requires.loads c.requires.claimed c.read_all.ensures.view all)
+    (ready-all c.args.loads.now.terms net c.args.g c.read_all.new.reads c.args.pass.now.view c.read_all.new.pass.view c.requires.loads c.requires.claimed c.read_all.ensures.view all)
 
 pub route_group-requires-clause-ascending : goal.route_group-requires-clause-ascending
 route_group-requires-clause-ascending c =
@@ -54,10 +56,11 @@ returns-clause-complete c =
     let net = c.args.input.now.net.now in
     let t = c.args.loads.now.terms in
     let s = c.search_near.new.self in
-    let reads = c.read_all.new.reads.items in
+    let reads = (with_items c.args.room.now.reads c.read_all.new.reads).items in
     let search = search-is net c.args.input.now.graph.now c.args.input.now.groups.now c.lengths.result.now c.source-source.result c.args.g s c.args.input.now.graph_is c.args.input.now.groups_are c.source-source.ensures c.search_near.ensures.least c.search_near.ensures.paths in
     let nodes : s.nodes ≡ net.nodes = c.search_near.ensures.nodes ∙ c.requires.nodes in
-    let all : length reads ≡ length net.cells = c.read_all.ensures.count ∙ ap (λ (m : Network). length m.cells) c.requires.loads in
+    let is = with_items_is c.args.room.now.reads c.read_all.new.reads (omega (arith, c.read_all.auto.reads, c.deref_mut.ensures.len)) in
+    let all : length reads ≡ length net.cells = ap (λ (xs : List ℕ). length xs) is ∙ omega (arith, c.read_all.auto.reads, c.requires.reads, c.deref_mut.ensures.len) in
     let n : c.update.new.self.net ≡ net = c.update.ensures.net ∙ c.requires.table.0 in
     let set : c.update.new.self.setting ≡ t.setting = c.update.ensures.setting ∙ c.requires.table.1 in
     let loads : c.update.new.self.loads ≡ reads = c.update.ensures.loads ∙ c.as_slice.ensures.value in
@@ -72,4 +75,11 @@ returns-clause-routes c =
     let ms : c.members.result.now ≡ members_of net g = c.members.ensures ∙ ap (λ (m : Network). members_of m g) c.args.input.now.groups_are in
     let found : c.route_group.new.buffer.routes ≡ c.args.buffer.now.routes ++ routes_to net c.route_group.new.scratch (members_of net g) =
     c.route_group.ensures.routes ∙ (λ i. c.args.buffer.now.routes ++ routes_to net (sym c.route_group.ensures.scratch i) (ms i)) in
-    (found, routes-are net g c.route_group.new.scratch c.read_all.new.reads.items)
+    (found, routes-are net g c.route_group.new.scratch (with_items c.args.room.now.reads c.read_all.new.reads).items)
+
+pub returns-clause-view : goal.returns-clause-view
+returns-clause-view c =
+    let is = with_items_is c.args.room.now.reads c.read_all.new.reads (omega (arith, c.read_all.auto.reads, c.deref_mut.ensures.len)) in
+    let adds = adds_of (group_routes c.args.input.now.net.now c.route_group.new.scratch c.args.g) in
+    let view : HasFinished c.read_all.new.reads adds c.args.pass.now.view c.route_group.new.pass.view = search rules in
+    subst (λ (xs : List ℕ). HasFinished xs adds c.args.pass.now.view c.route_group.new.pass.view) (sym is) view

@@ -1,7 +1,8 @@
-use Rattle.std.proofs.Common.{arith, ℕ, List, ◌<◌, take, length, get_or, sym, subst}
+use Rattle.std.proofs.Common.{arith, ◌∙◌, ℕ, List, ◌<◌, take, length, get_or, sym, subst}
 use Rattle.phase_engine.specs.Steps.{HasAddedAll, adds_along}
 use Rattle.phase_engine.proofs.Logs.{may_add, adds_one, along-more, fresh-at}
-use Rattle.phase_engine.proofs.steps.add_path.Goals as goal
+use Rattle.phase_engine.proofs.Spans.{cells_more}
+use Rattle.phase_engine.proofs.route_buffer.add_path.Goals as goal
 
 pub add_cell-requires-clause-may : goal.add_cell-requires-clause-may
 add_cell-requires-clause-may c =
@@ -19,4 +20,7 @@ loop-cell-preserved c =
       of = c.add_cell.ensures.of;
       view = subst (λ (ps : List (ℕ × ℕ)). HasAddedAll ps c.args.pass.now.view c.add_cell.new.pass.view) (sym (along-more c.args.k path i l))
           (adds_one c.args.k (get_or path i 0) c.add_cell.result (adds_along c.args.k (take i path)) c.args.pass.now.view c.loop-cell.pass.view c.add_cell.new.pass.view c.loop-cell.invariant.view c.add_cell.ensures.view);
+      items = cells_more c.args.cells.now.items path c.loop-cell.cells.items c.push_reserved.new.self.items i l c.loop-cell.invariant.items c.push_reserved.ensures.items;
+      room = c.push_reserved.ensures.capacity ∙ c.loop-cell.invariant.room;
+      count = omega (arith, c.push_reserved.ensures.len, c.loop-cell.invariant.count);
     }
