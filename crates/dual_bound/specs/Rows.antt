@@ -41,7 +41,7 @@ pub record AreRoom (net : Network) (rows : List Row) : Type 0 where
   pub sources : sources_of rows ≡ group_sources net
   pub each : All (IsRoom net.nodes) rows
 
--- such a row that is empty
+-- an empty row of a source, with its room
 pub record IsBlank (nodes : ℕ) (row : Row) : Type 0 where
   pub room : IsRoom nodes row
   pub blank : row.is_filled ≡ false
