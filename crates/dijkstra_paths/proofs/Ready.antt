@@ -1,5 +1,5 @@
 -- What a scratch says after a search.
-use Rattle.std.proofs.Common.{◌≡◌, ℕ, ◌<◌, List, Option, None, length, map, get_or, arith, sym, subst}
+use Rattle.std.proofs.Common.{◌≡◌, ℕ, ◌<◌, List, None, length, map, get_or, arith, sym, subst}
 use Rattle.flow_model.specs.Network.{Network, IsNetwork}
 use Rattle.flow_model.specs.Lengths.{AreLengths}
 use Rattle.flow_model.specs.Least.{IsLeast}
@@ -23,32 +23,29 @@ pub record IsSearched (net : Network) (lengths : List ℕ) (from : ℕ) (left : 
 found : (net : Network) (lengths : List ℕ) (from : ℕ) (front : Front) → IsSearched net lengths from front → IsFound net lengths from front.dist.items front.steps.items
 found net lengths from front s = record { fits = s.fits; long = s.long; nodes = s.front.dists; first = s.first; tree = s.tree; done = s.done }
 
-pub least-of : (net : Network) (lengths : List ℕ) (from : ℕ) (front : Front) (nodes : ℕ) → IsSearched net lengths from front → nodes ≡ net.nodes
-    → (v : ℕ) → v < nodes → IsLeast net.cells lengths from v (get_or (map known front.dist.items) v None)
-least-of net lengths from front nodes s size v l = least-seen net lengths from front.dist.items front.steps.items (found net lengths from front s) v (omega (arith, size))
+-- what a scratch with that front says of each node's distance and path, and of its own lists
+pub record Says (net : Network) (lengths : List ℕ) (from nodes cells : ℕ) (front : Front) (path : List ℕ) : Type 0 where
+  pub least : (v : ℕ) → v < nodes → IsLeast net.cells lengths from v (get_or (map known front.dist.items) v None)
+  pub paths : (v : ℕ) → v < nodes → IsPath net.cells lengths nodes from v (get_or (map known front.dist.items) v None) (get_or (paths_from front.steps.items from nodes 0 front.dist.items) v None)
+  pub near : IsNear net.cells lengths (record { nodes = nodes; cells = cells; dists = map known front.dist.items; paths = paths_from front.steps.items from nodes 0 front.dist.items })
+  pub ready : IsReady nodes from front path
 
-pub paths-of : (net : Network) (lengths : List ℕ) (from : ℕ) (front : Front) (nodes : ℕ) → IsSearched net lengths from front → nodes ≡ net.nodes
-    → (v : ℕ) → v < nodes → IsPath net.cells lengths nodes from v (get_or (map known front.dist.items) v None) (get_or (paths_from front.steps.items from nodes 0 front.dist.items) v None)
-paths-of net lengths from front nodes s size v l =
-    let dist = front.dist.items in
-    subst (λ (k : ℕ). IsPath net.cells lengths k from v (get_or (map known dist) v None) (get_or (paths_from front.steps.items from k 0 dist) v None)) (sym size)
-    (path-seen net lengths from dist front.steps.items (found net lengths from front s) v (omega (arith, size)))
-
-pub near-of : (net : Network) (lengths : List ℕ) (from : ℕ) (front : Front) (nodes cells : ℕ) (paths : List (Option (List ℕ))) → IsSearched net lengths from front → nodes ≡ net.nodes
-    → IsNear net.cells lengths (record { nodes = nodes; cells = cells; dists = map known front.dist.items; paths = paths })
-near-of net lengths from front nodes cells paths s size = λ c u v l p.
-    near-seen net lengths from front.dist.items front.steps.items cells paths (found net lengths from front s) c u v (omega (arith, size)) p
-
-pub ready-of : (net : Network) (lengths : List ℕ) (from : ℕ) (front : Front) (path : List ℕ) (nodes : ℕ) → IsSearched net lengths from front → nodes ≡ net.nodes → length path ≡ nodes
-    → IsReady nodes from front path
-ready-of net lengths from front path nodes s size room =
+pub searched-says : (net : Network) (lengths : List ℕ) (from nodes cells : ℕ) (front : Front) (path : List ℕ) → IsSearched net lengths from front → nodes ≡ net.nodes → length path ≡ nodes
+    → Says net lengths from nodes cells front path
+searched-says net lengths from nodes cells front path s size room =
     let is = found net lengths from front s in
     let dist = front.dist.items in
     let steps = front.steps.items in
     record {
-      fits = subst (λ (k : ℕ). IsFront k front) (sym size) s.front;
-      room = room;
-      first = λ some. omega (arith, size, s.first);
-      ends = λ v l near. subst (λ (k : ℕ). Ends steps k from k v) (sym size)
-          (ends-found net.nodes net lengths from dist steps is v (omega (arith, size)) near (rank-below net lengths from dist steps is v (omega (arith, size))));
+      least = λ v l. least-seen net lengths from dist steps is v (omega (arith, size));
+      paths = λ v l. subst (λ (k : ℕ). IsPath net.cells lengths k from v (get_or (map known dist) v None) (get_or (paths_from steps from k 0 dist) v None)) (sym size)
+          (path-seen net lengths from dist steps is v (omega (arith, size)));
+      near = λ c u v l p. near-seen net lengths from dist steps cells (paths_from steps from nodes 0 dist) is c u v (omega (arith, size)) p;
+      ready = record {
+        fits = subst (λ (k : ℕ). IsFront k front) (sym size) s.front;
+        room = room;
+        first = λ some. omega (arith, size, s.first);
+        ends = λ v l short. subst (λ (k : ℕ). Ends steps k from k v) (sym size)
+            (ends-found net.nodes net lengths from dist steps is v (omega (arith, size)) short (rank-below net lengths from dist steps is v (omega (arith, size))));
+      };
     }

@@ -63,17 +63,17 @@ pub record AreUnderWay (cells : List Cell) (lengths : List ℕ) (from node : ℕ
   pub opened : (v : ℕ) → v < length dist → slice_index place v < count → slice_index dist v < MAX_LENGTH
   pub done : (u : ℕ) → u < length dist → u ≢ node → slice_index dist u < MAX_LENGTH → count ≤ slice_index place u → IsDone cells lengths dist u
 
+-- so it is of the slices of a front
+abbrev pub IsUnderWay : List Cell → List ℕ → ℕ → ℕ → FrontSlices → ℕ → Type 0
+IsUnderWay cells lengths from node front count =
+    AreUnderWay cells lengths from node front.dist.now front.steps.now front.order.now front.place.now count
+
 -- the nodes with places below the count are open, and each of them is reached
 pub record AreOpen (dist : List ℕ) (order place : List ℕ) (count : ℕ) : Type 0 where
   pub inverse : AreInverse order place
   pub nodes : length order ≡ length dist
   pub few : count ≤ length dist
   pub opened : (v : ℕ) → v < length dist → slice_index place v < count → slice_index dist v < MAX_LENGTH
-
--- so it is of the slices of a front
-abbrev pub IsUnderWay : List Cell → List ℕ → ℕ → ℕ → FrontSlices → ℕ → Type 0
-IsUnderWay cells lengths from node front count =
-    AreUnderWay cells lengths from node front.dist.now front.steps.now front.order.now front.place.now count
 
 -- they are slices of the same lists
 abbrev pub AreSameSlices : FrontSlices → FrontSlices → Type 0

@@ -1,6 +1,6 @@
 //! Arcs over positive cells, in one list by node.
 
-ghost use Rattle.std.specs.Prelude.{◌≡◌, ℕ, All, Contains, ◌++◌, ◌<◌, ◌≤◌, length, slice_range, OnOk, IfOk, IsTrue};
+ghost use Rattle.std.specs.Prelude.{◌≡◌, ◌↔◌, ℕ, All, Contains, ◌++◌, ◌<◌, ◌≤◌, length, slice_range, OnOk, IfOk, IsTrue};
 ghost use Rattle.std.specs.Option.{option_to_list};
 ghost use Rattle.flow_model.specs.Network.{IsNetwork};
 ghost use Rattle.flow_model.specs.Walk.{Goes, PassesOver};
@@ -32,7 +32,7 @@ pub struct Graph {
 }
 
 impl Model for Graph {
-    ghost use Rattle.std.specs.Prelude.{◌≡◌, IsTrue};
+    ghost use Rattle.std.specs.Prelude.{◌≡◌, ◌↔◌, IsTrue};
     ghost use Rattle.flow_model.specs.Network.{Network, IsNetwork};
 
     ghost Value = { Network };
@@ -44,7 +44,7 @@ impl Model for Graph {
 
     ghost invariant = { λ g. IsNetwork g.net.value × (g.nodes ≡ g.net.value.nodes) ×
         AreArcs g.net.value.cells g.net.value.nodes g.first.items g.arcs.items ×
-        (g.cells.items ≡ g.net.value.cells) × (IsTrue g.goes_back → GoBothWays g.net.value.cells) };
+        (g.cells.items ≡ g.net.value.cells) × (IsTrue g.goes_back ↔ GoBothWays g.net.value.cells) };
 }
 
 /// The arc over this cell from the node, if one may go over it from there.
@@ -68,16 +68,11 @@ fn arc_of(cell: &Cell, number: u16, from: u16) -> Option<Arc>
     }
 }
 
-/// If this is true, each cell goes both ways.
+/// Whether each cell goes both ways.
 fn go_both_ways(cells: &[Cell]) -> bool
-    ensures { IsTrue result → GoBothWays cells.now }
+    ensures { IsTrue result ↔ GoBothWays cells.now }
 {
-    for cell in cells {
-        if !cell.both {
-            return false;
-        }
-    }
-    true
+    cells.iter().all(|cell| cell.both)
 }
 
 /// Whether one may go over this cell from one node to the other.
@@ -143,10 +138,10 @@ impl Graph {
         self.nodes
     }
 
-    /// If this is true, each cell goes both ways.
+    /// Whether each cell goes both ways.
     #[inline(always)]
     pub(crate) fn goes_both_ways(&self) -> bool
-        ensures { IsTrue result → GoBothWays self.now.cells }
+        ensures { IsTrue result ↔ GoBothWays self.now.cells }
     {
         self.goes_back
     }

@@ -1,6 +1,6 @@
 //! What is reached over positive cells.
 
-ghost use Rattle.std.specs.Prelude.{◌≡◌, ◌↔◌, ℕ, ◌<◌, ◌≤◌, All, length, slice_index, OnOk, IfOk, IsTrue, MatchOption, false, []};
+ghost use Rattle.std.specs.Prelude.{◌≡◌, ◌↔◌, ℕ, ◌<◌, All, length, OnOk, IfOk, IsTrue, MatchOption, false, []};
 ghost use Rattle.flow_model.specs.Least.{HasNoCut, IsJoined};
 ghost use Rattle.dijkstra_paths.specs.Reach.{AreReached, AreRows, IsFirstCut, MarksEnds, end_at, mark_at};
 

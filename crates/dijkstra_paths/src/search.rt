@@ -1,6 +1,6 @@
 //! The search: nodes are opened as they come nearer, and each goes on to the nodes after it.
 
-ghost use Rattle.std.specs.Prelude.{◌≡◌, ◌⊎◌, ℕ, ◌+◌, ◌*◌, ◌^◌, ◌<◌, ◌≤◌, All, false, IsTrue, if◌then◌else◌, length, slice_index, slice_set};
+ghost use Rattle.std.specs.Prelude.{◌≡◌, ◌⊎◌, ℕ, ◌+◌, ◌*◌, ◌^◌, ◌<◌, ◌≤◌, if◌then◌else◌, length, slice_index};
 ghost use Rattle.std.specs.List.{sum_by};
 ghost use Rattle.flow_model.specs.Walk.{Goes, PassesOver};
 ghost use Rattle.flow_model.specs.Lengths.{AreLengths};
@@ -166,7 +166,7 @@ fn keep_step(
     }
 }
 
-/// Gives nodes the distances along an earlier tree, in its order: nodes before those that were reached from them.
+/// Gives nodes the distances along an earlier tree, in its order: mostly nodes before those that were reached from them.
 #[inline(always)]
 fn keep_steps(
     graph: &Graph,

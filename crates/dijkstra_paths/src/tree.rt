@@ -7,7 +7,7 @@ use mcf_limits::MAX_LENGTH;
 use std::alloc::{AllocError, Global};
 use std::marker::Model;
 
-/// The steps by which nodes were reached from a source, nodes before those that were reached from them.
+/// The steps by which nodes were reached from a source, mostly nodes before those that were reached from them.
 /// It is a hint alone: a search looks at each step before it takes it. So contracts see nothing in it.
 #[derive(Drop)]
 pub struct Tree {

@@ -41,10 +41,9 @@ pub record AreRoom (net : Network) (rows : List Row) : Type 0 where
   pub sources : sources_of rows ≡ group_sources net
   pub each : All (IsRoom net.nodes) rows
 
--- an empty row of a source
+-- an empty row of a source, with its room
 pub record IsBlank (nodes : ℕ) (row : Row) : Type 0 where
-  pub source : row.source < nodes
-  pub count : length row.values.items ≡ nodes
+  pub room : IsRoom nodes row
   pub blank : row.is_filled ≡ false
 
 -- the row was made blank, and kept its source and its room

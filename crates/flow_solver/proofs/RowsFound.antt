@@ -1,7 +1,7 @@
 -- Rows that were found, while rows are added.
-use Rattle.std.proofs.Common.{◌≡◌, ℕ, ◌+◌, ◌<◌, ◌≤◌, List, length, length-set, ap, get_or, set, Option, Some, None, inl, inr, sym, subst, ◌∙◌, arith, get_or-set_other, get_or-set_same}
+use Rattle.std.proofs.Common.{◌≡◌, ℕ, ◌+◌, ◌<◌, ◌≤◌, List, length, length-set, ap, get_or, Option, Some, None, inl, inr, sym, ◌∙◌, arith}
 use Rattle.std.specs.Prelude.{MatchOption}
-use Rattle.std.proofs.lemmas.Bool.{cases_eq, cases_lt}
+use Rattle.std.proofs.lemmas.Bool.{cases_lt}
 use Rattle.flow_model.specs.Routing.{Row}
 use Rattle.flow_paths.specs.PathRows.{row_at, HasNoRow, IsFirstRow, Adds}
 use Rattle.flow_solver.specs.declared.places.Place.{Place}
@@ -76,12 +76,3 @@ still_found old new places k (Some n) keeps apart below found = still_first old 
 -- the rows of the first commodities have been found
 abbrev pub AreFound : List Row → List Place → ℕ → List Sought → Type 0
 AreFound rows places n sought = (k : ℕ) (d : Sought) → k < n → IsRowFor rows places k (get_or sought k d).row
-
--- the row of one commodity more
-pub found_more : (rows : List Row) (places : List Place) (i : ℕ) (sought : List Sought) (one : Sought) → i < length sought → AreFound rows places i sought → IsRowFor rows places i one.row
-    → AreFound rows places (i + 1) (set sought i one)
-found_more rows places i sought one inside h here k d l = elim (cases_eq k i) [
-  | inl e ↦ subst (λ (n : ℕ). IsRowFor rows places n (get_or (set sought i one) n d).row) (sym e)
-      (subst (λ (s : Sought). IsRowFor rows places i s.row) (sym (get_or-set_same sought i one d inside)) here)
-  | inr n ↦ subst (λ (s : Sought). IsRowFor rows places k s.row) (sym (get_or-set_other sought i k one d n)) (h k d (omega arith))
-]

@@ -47,12 +47,6 @@ pub record IsNoted (net : Network) (places : List Place) (old new : HistoryView)
 pub record IsRowFor (rows : List Row) (places : List Place) (k : ℕ) (row : Option ℕ) : Type 0 where
   pub is : MatchOption row (HasNoRow rows k (path_at places k)) (IsFirstRow rows k (path_at places k))
 
--- the history has rows for a path of each commodity, no two of them alike
-pub record CanBeFound (h : HistoryView) (places : List Place) : Type 0 where
-  pub few : length places ≤ MAX_DEMANDS
-  pub count : length places ≡ h.commodities
-  pub apart : AreApart h.rows
-
 -- rows are appended, and the old ones keep their commodity and path
 pub record KeepsRows (old new : List Row) : Type 0 where
   pub more : length old ≤ length new

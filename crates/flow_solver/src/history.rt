@@ -3,7 +3,7 @@
 ghost use Rattle.std.specs.Prelude.{◌≡◌};
 
 use crate::entries::Entries;
-use crate::found::find_each;
+use crate::found::find_rows;
 use crate::noted::Sought;
 use crate::places::Place;
 use flow_model::Net;
@@ -157,7 +157,7 @@ impl PathHistory {
         ensures noted { OnOk result (IsNoted net.now places.now self.old self.new) }
         ensures err { OnErr result (phases_kept self.new ≡ phases_kept self.old) }
     {
-        find_each(alloc, self, places, sought)?;
+        find_rows(alloc, self, places, sought)?;
         let entries = self.name_rows(alloc, net, places, sought)?;
         self.entries.push(&entries)?;
         Ok(())

@@ -2,9 +2,8 @@
 
 ghost use Rattle.std.specs.Prelude.{◌≡◌, ◌⊎◌, ℕ, ◌<◌, ◌≤◌, All, IfOk, length, slice_index_or};
 ghost use Rattle.phase_engine.specs.Routes.{Route};
-ghost use Rattle.phase_engine.specs.Routing.{HasRouted};
 ghost use Rattle.flow_solver.specs.Routes.{HaveRouted};
-ghost use Rattle.flow_solver.specs.Adding.{no_place, IsPlaceAt};
+ghost use Rattle.flow_solver.specs.Adding.{no_place, ArePlaces, IsPlaceAt};
 
 use flow_model::Net;
 use mcf_limits::{MAX_DEMANDS, MAX_WORKERS};
@@ -44,9 +43,7 @@ pub(crate) fn places_of<'a>(
     requires routes { HaveRouted net.now hands.now }
     ensures count { IfOk result (λ v. length v.items ≡ length net.now.commodities) }
     ensures few { IfOk result (λ v. length v.items ≤ MAX_DEMANDS) }
-    ensures places { IfOk result (λ v. (k : ℕ) → k < length net.now.commodities
-        → HasRouted hands.now (slice_index_or v.items k no_place).hand k
-        (slice_index_or v.items k no_place).path.now) }
+    ensures places { IfOk result (λ v. ArePlaces net.now hands.now v.items) }
 {
     let none = Place { hand: 0, path: &[] };
     let mut places = vec![in alloc; none; net.commodities().len()]?;

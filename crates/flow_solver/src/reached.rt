@@ -1,6 +1,6 @@
 //! What a solve has reached after some phases.
 
-ghost use Rattle.std.specs.Prelude.{◌≡◌, ℕ, ◌+◌, ◌*◌, ◌<◌, ◌≤◌, ◌↔◌, true, false, All, IsTrue, IfOk, length, slice_index};
+ghost use Rattle.std.specs.Prelude.{◌≡◌, ℕ, ◌+◌, ◌*◌, ◌<◌, ◌≤◌, ◌↔◌, All, IsTrue, IfOk, length, slice_index};
 ghost use Rattle.flow_model.specs.Lengths.{IsSetting};
 ghost use Rattle.flow_model.specs.Least.{HasNoCut};
 ghost use Rattle.flow_paths.specs.Evaluation.{fill};
@@ -14,12 +14,12 @@ use crate::kept::lesser;
 use crate::prepared::Prepared;
 use crate::search::{Search, new_search, note_and_bound, route};
 use dual_bound::Bounded;
-use flow_model::{Net, Setting};
+use flow_model::Net;
 use flow_paths::{Fill, fullest};
 use gap_fraction::Frac;
 use mcf_base::Gate;
 use mcf_limits::{MAX_GAP, MAX_LENGTH, MAX_PHASES};
-use solver_run::SolveOptions;
+use solver_run::{SolveOptions, setting_after_first, setting_at_first};
 use std::alloc::{AllocError, Global};
 use std::thread::Threads;
 
@@ -41,30 +41,6 @@ fn measured(net: &Net, loads: &[u64]) -> Fill
     ensures fits { IsFill result }
 {
     fullest(net.cells(), loads)
-}
-
-/// The setting of the first phase, in which loads have no effect.
-fn setting_at_first(step: u32) -> Setting
-    ensures { result ≡ record { first = true; ref_cap = 0; ref_load = 1; step = step } }
-{
-    Setting {
-        first: true,
-        ref_cap: 0,
-        ref_load: 1,
-        step,
-    }
-}
-
-/// The setting of every other phase, with the fullest cell of the first as the reference.
-fn setting_after_first(reference: Fill, step: u32) -> Setting
-    ensures { result ≡ record { first = false; ref_cap = reference.cap; ref_load = reference.load; step = step } }
-{
-    Setting {
-        first: false,
-        ref_cap: reference.cap,
-        ref_load: reference.load,
-        step,
-    }
 }
 
 /// The first phase, and the bound after it, which takes at most so many threads; where there may be several, one more may note the rows.

@@ -1,10 +1,8 @@
 //! Loads, hands and history, from phase to phase.
 
-ghost use Rattle.std.specs.Prelude.{◌≡◌, ℕ, ◌+◌, ◌*◌, ◌<◌, ◌≤◌, List, ◌++◌, ◌∷◌, [], IfOk, OnOk, All, None, length, replicate, slice_index_or};
+ghost use Rattle.std.specs.Prelude.{◌≡◌, ℕ, ◌+◌, ◌*◌, ◌<◌, ◌≤◌, List, ◌++◌, ◌∷◌, [], IfOk, OnOk, None, length, replicate, slice_index_or};
 ghost use Rattle.flow_model.specs.Least.{HasNoCut};
-ghost use Rattle.flow_model.specs.Lengths.{IsSetting, lengths_of};
-ghost use Rattle.flow_paths.specs.Certificate.{upper_of};
-ghost use Rattle.dual_bound.specs.Bounds.{IsBoundOf, ShowsBound};
+ghost use Rattle.flow_model.specs.Lengths.{IsSetting};
 ghost use Rattle.flow_core.specs.Core.{IsStart};
 ghost use Rattle.flow_core.specs.Phase.{Routed};
 ghost use Rattle.phase_engine.specs.Hands.{HasRoomOf, IsFresh, AreSameWorkers};
@@ -24,7 +22,7 @@ use dual_bound::{Bounded, Row, bound_in, source_rows};
 use flow_model::{Net, Setting};
 use load_table::Loads;
 use mcf_base::Gate;
-use mcf_limits::{MAX_LENGTH, MAX_PHASES, MAX_WORK, MAX_WORKERS};
+use mcf_limits::{MAX_PHASES, MAX_WORK, MAX_WORKERS};
 use phase_engine::{Hand, PhaseInput, phase};
 use std::alloc::{AllocError, Global};
 use std::thread::{Threads, join_mut};
@@ -166,16 +164,9 @@ pub fn bound_of<R: Threads + Sync>(
     room: &mut BoundRoom,
     threads: u16,
 ) -> Result<Bounded, AllocError>
-    requires setting { IsSetting setting.now }
-    requires loads { length loads.now ≡ length on.now.net.now.cells }
-    requires small { All (λ x. x ≤ MAX_LENGTH) loads.now }
-    requires room { IsBoundRoom on.now.net.now room.old }
+    requires can { CanBeBounded on.now.net.now setting.now loads.now room.old }
     ensures room { OnOk result (IsBoundRoom on.now.net.now room.new) }
-    ensures dual { IfOk result (λ b. IsBoundOf on.now.net.now
-        (lengths_of on.now.net.now setting.now loads.now) b.dual) }
-    ensures shows { IfOk result (λ b. ShowsBound on.now.net.now
-        (lengths_of on.now.net.now setting.now loads.now) b.dual) }
-    ensures value { IfOk result (λ b. b.value ≡ upper_of on.now.net.now b.dual) }
+    ensures bound { IfOk result (IsBoundUnder on.now.net.now setting.now loads.now) }
 {
     let BoundRoom { lengths, rows } = room;
     on.powers.lengths(on.net, setting, loads, lengths);

@@ -1,5 +1,5 @@
 -- What a certificate with hop limits promises.
-use Rattle.std.specs.Prelude.{◌≡◌, ℕ, ◌*◌, ◌-◌, ◌<◌, ◌≤◌, List, length, Option, Some, None, slice_get, slice_index}
+use Rattle.std.specs.Prelude.{◌≡◌, ℕ, ◌*◌, ◌-◌, ◌≤◌, List, length, Option, Some, None, slice_get, slice_index}
 use Rattle.flow_model.specs.declared.net.Commodity.{Commodity}
 use Rattle.flow_model.specs.Network.{Network, IsNetwork}
 use Rattle.flow_model.specs.Routing.{Row}

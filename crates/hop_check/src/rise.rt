@@ -5,7 +5,7 @@ ghost use Rattle.flow_model.specs.declared.net.Cell.{Cell as CellIs};
 ghost use Rattle.flow_model.specs.Walk.{Goes};
 ghost use Rattle.flow_model.specs.Network.{IsCell};
 ghost use Rattle.hop_check.specs.Layers.{layer_in};
-ghost use Rattle.hop_check.specs.Tables.{place_of, IsPlaced, ArePlaces, IsNextLayer, AreNext};
+ghost use Rattle.hop_check.specs.Tables.{IsPlaced, ArePlaces, IsNextLayer, AreNext};
 
 use crate::layers::Layers;
 use crate::places::place;

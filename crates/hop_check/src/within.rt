@@ -1,7 +1,7 @@
 //! Whether paths keep their limits of hops.
 
-ghost use Rattle.std.specs.Prelude.{ℕ, ◌<◌, ◌↔◌, All, length, IsTrue};
-ghost use Rattle.hop_paths.specs.Allowed.{limit_at, IsWithin, AreWithin};
+ghost use Rattle.std.specs.Prelude.{◌<◌, ◌↔◌, All, length, IsTrue};
+ghost use Rattle.hop_paths.specs.Allowed.{IsWithin, AreWithin};
 
 use flow_paths::PathStore;
 

@@ -3,8 +3,8 @@
 ghost use Rattle.std.specs.Prelude.{◌≡◌, if◌then◌else◌, ◌+◌, ◌*◌, ◌<◌, ◌≤◌, ◌↔◌, [], IsTrue, IfOk, List, length};
 ghost use Rattle.flow_model.specs.Routing.{Row};
 ghost use Rattle.flow_paths.specs.Evaluation.{fraction_le};
-ghost use Rattle.flow_paths.specs.Fullness.{IsFill, fullness};
-ghost use Rattle.route_tally.specs.Asked.{AreRunOptions, first_setting, later_setting};
+ghost use Rattle.flow_paths.specs.Fullness.{IsFill};
+ghost use Rattle.route_tally.specs.Asked.{AreRunOptions, first_setting};
 ghost use Rattle.hop_paths.specs.Allowed.{AreLimits};
 ghost use Rattle.hop_solve.specs.Run.{IsHopPhase};
 ghost use Rattle.hop_solve.specs.Turns.{IsFinder, IsRouted};
@@ -15,11 +15,11 @@ use crate::finder::Finder;
 use crate::given::Given;
 use crate::turns::{Routed, phase};
 use fixed_exp::LengthTable;
-use flow_model::Setting;
 use flow_paths::{Fill, fullest};
 use gap_fraction::Frac;
 use mcf_limits::{MAX_LENGTH, MAX_PHASES};
 use route_tally::RunOptions;
+use solver_run::setting_after_first;
 use std::alloc::{AllocError, Global};
 use std::cmp::Ordering;
 
@@ -31,30 +31,6 @@ pub struct HopReached {
     pub phases: u32,
     pub fill: Fill,
     pub kept: HopBound,
-}
-
-/// The setting of the first phase, in which loads have no effect.
-pub fn setting_at_first(step: u32) -> Setting
-    ensures { result ≡ first_setting step }
-{
-    Setting {
-        first: true,
-        ref_cap: 0,
-        ref_load: 1,
-        step,
-    }
-}
-
-/// The setting of every other phase, with the fullest cell of the first as the reference.
-fn setting_after_first(reference: Fill, step: u32) -> Setting
-    ensures { result ≡ later_setting step (fullness reference) }
-{
-    Setting {
-        first: false,
-        ref_cap: reference.cap,
-        ref_load: reference.load,
-        step,
-    }
 }
 
 /// The lesser of two bounds, the earlier where they are equal.

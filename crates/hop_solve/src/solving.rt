@@ -11,7 +11,7 @@ ghost use Rattle.hop_solve.specs.Reached.{IsHopReached, IsHopMet};
 use crate::bounds::{HopBound, cut_bound};
 use crate::finder::{Finder, new_finder};
 use crate::given::Given;
-use crate::reached::{HopReached, first, is_met, lower, next, setting_at_first};
+use crate::reached::{HopReached, first, is_met, lower, next};
 use crate::turns::{Routed, new_routed, phase};
 use dijkstra_paths::Graph;
 use fixed_exp::Powers;
@@ -20,6 +20,7 @@ use flow_paths::{PathStore, Proof, Routing, printed_down, printed_up};
 use gap_fraction::Frac;
 use hop_check::{HopProof, layer_counts, unlimited_counts};
 use route_tally::RunOptions;
+use solver_run::setting_at_first;
 use std::alloc::{AllocError, Global};
 
 /// The last phase's state, and whether the gap was met.

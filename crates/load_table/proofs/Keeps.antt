@@ -6,7 +6,7 @@ use mathlib.Core.Logic.{dite}
 use native.Mathlib.Decide.{ℕ_discrete}
 use mathlib.Core.Option.{none, some, some-ne-none, some-injective}
 use lib.ListN.{get_elem?}
-use Rattle.atomic_table.specs.Table.{State, Act, Valid, carried_after, step, keeps, stepped, Allows, Splits, Joins, opening, Final, Seen}
+use Rattle.atomic_table.specs.Table.{State, step, keeps, Allows, Splits, Joins, opening, Final, Seen}
 use Rattle.atomic_table.proofs.Lists.{at_set, at_snoc}
 use Rattle.flow_core.specs.declared.state.Entry.{Entry}
 use Rattle.flow_core.specs.declared.state.Worker.{Worker}
@@ -21,7 +21,7 @@ use Rattle.load_table.specs.declared.view.Hand.{Hand}
 use Rattle.load_table.specs.declared.view.Known.{Known}
 use Rattle.load_table.specs.Views.{known, first_known, times_in, hands_of, made_of, splits_of, first_works, with_work, keeps_known, cuts_known, joins_known, spent_known}
 use Rattle.flow_model.specs.declared.net.Commodity.{Commodity}
-use Rattle.load_table.specs.Rule.{AllFallBelow, AllFit, FitsView, Kept, IsStep, M, Claimed, HasRead, Added, MayClaim, LastReads, MayRead, MayAdd, MayClose, Closes}
+use Rattle.load_table.specs.Rule.{AllFallBelow, AllFit, FitsView, Kept, Holds, words_of, IsStep, M, Claimed, HasRead, Added, MayClaim, LastReads, MayRead, MayAdd, MayClose, Closes}
 use Rattle.load_table.proofs.Totals.{total-put, total-snoc, total-append, total-of, total-two, total-whole, same_lists}
 
 abbrev St : Type 0
@@ -163,11 +163,19 @@ claim_moves t s count found h c f inside is going complete = record {
   workers = λ i. set s.workers h.number (claimed (sym c i) (sym f i) (is i));
 }
 
--- the seat can take the step in this state: what `Allows` asks there
-abbrev Can : Terms → St → ℕ → M → ℕ → ℕ → (M → Type 0) → Type 0
-Can t s id me i n then = (w : Known) × (a : Act (Unit {0})) × Valid s.homes me.1 a × Kept t (stepped s i n id me.1 w a) × then (w, carried_after me.1 a)
+-- the seat can take the step in this state, and then has seen what the step made of the words
+abbrev pub Can : Terms → St → ℕ → M → ℕ → ℕ → (M → Type 0) → Type 0
+Can t s id me i n then = (w : Known) × Kept t record { words = set s.words i n; homes = s.homes; views = set s.views id w } × then (w, me.1) × (words_of w.seen ≡ set s.words i n)
 
-claims_of : (t : Terms) (slots id : ℕ) (me : M) (s : St) (k : Kept t s) → get_elem? s.views id ≡ some me.0 → me.0.view.terms ≡ t → (hs : List Hand) → me.0.view.hands ≡ hs → MayClaim t hs
+-- what `Allows` asks of several workers
+pub several : (t : Terms) (slots id : ℕ) (me : M) (i : ℕ) (f : ℕ → ℕ) (then : ℕ → M → Type 0) → 1 < t.workers
+    → ((s : St) → Kept t s → get_elem? s.views id ≡ some me.0 → Can t s id me i (f (get_or s.words i 0)) (then (get_or s.words i 0)))
+    → Allows (Holds t) slots id me i f then
+several t slots id me i f then more can s h _ at small =
+    let r = can s (h.several more) at in
+    (r.0, keeps, tt, record { one = λ is. absurd (omega arith); several = λ _. r.1 }, r.2)
+
+pub claims_of : (t : Terms) (slots id : ℕ) (me : M) (s : St) (k : Kept t s) → get_elem? s.views id ≡ some me.0 → me.0.view.terms ≡ t → (hs : List Hand) → me.0.view.hands ≡ hs → MayClaim t hs
     → Can t s id me 0 ((get_or s.words 0 0 + 1) % 18446744073709551616) (Claimed (step slots 0 1 0 none) me (get_or s.words 0 0))
 claims_of t slots id me s k at same [] is may = absurd may
 claims_of t slots id me s k at same (h ∷ i ∷ hs) is may = absurd may
@@ -184,14 +192,13 @@ claims_of t slots id me s k at same (h ∷ []) is may =
     let words : set s.words 0 ((x + 1) % 18446744073709551616) ≡ (old.claims + 1) ∷ old.loads =
     ap (λ (n : ℕ). set s.words 0 n) small ∙ (ap (λ (ws : List ℕ). set ws 0 (x + 1)) k.words ∙ ap (λ (n : ℕ). (n + 1) ∷ old.loads) found) in (
       known (with_work f v.view) (after_event t old (claim h.number)),
-      keeps,
-      tt,
       moved t s k id v h f (claim h.number) (set s.words 0 ((x + 1) % 18446744073709551616)) at is same fit.0.0 m words,
       record { view_is = refl; rest_is = refl; step = stepped_so t s k id v h claim 0 at is same m.legal },
+      sym words,
     )
 
-pub claims : (t : Terms) (slots id : ℕ) (me : M) → me.0.view.terms ≡ t → MayClaim t me.0.view.hands → Allows (Kept t) slots id me 0 (λ n. (n + 1) % 2 ^ 64) (Claimed (step slots 0 1 0 none) me)
-claims t slots id me same may s k _ at small = claims_of t slots id me s k at same me.0.view.hands refl may
+pub claims : (t : Terms) (slots id : ℕ) (me : M) → 1 < t.workers → me.0.view.terms ≡ t → MayClaim t me.0.view.hands → Allows (Holds t) slots id me 0 (λ n. (n + 1) % 2 ^ 64) (Claimed (step slots 0 1 0 none) me)
+claims t slots id me more same may = several t slots id me 0 (λ n. (n + 1) % 2 ^ 64) (Claimed (step slots 0 1 0 none) me) more (λ s k at. claims_of t slots id me s k at same me.0.view.hands refl may)
 
 -- the read
 
@@ -212,7 +219,7 @@ read_moves t s c found h f inside is may =
     reading [] l = absurd l
     reading (e ∷ es) l = (let a = l.0 in let b = l.1 in omega arith, l.2)
 
-reads_of : (t : Terms) (slots id c : ℕ) (me : M) (s : St) (k : Kept t s) → get_elem? s.views id ≡ some me.0 → me.0.view.terms ≡ t → (hs : List Hand) → me.0.view.hands ≡ hs → MayRead t c hs
+pub reads_of : (t : Terms) (slots id c : ℕ) (me : M) (s : St) (k : Kept t s) → get_elem? s.views id ≡ some me.0 → me.0.view.terms ≡ t → (hs : List Hand) → me.0.view.hands ≡ hs → MayRead t c hs
     → Can t s id me (c + 1) (get_or s.words (c + 1) 0) (HasRead (step slots (c + 1) 0 0 none) me (get_or s.words (c + 1) 0))
 reads_of t slots id c me s k at same [] is may = absurd may
 reads_of t slots id c me s k at same (h ∷ i ∷ hs) is may = absurd may
@@ -225,14 +232,13 @@ reads_of t slots id c me s k at same (h ∷ []) is may =
     let f : Worker → Worker = has_read x in
     let m = read_moves t old c x h found fit.0.0 fit.0.1 may in (
       known (with_work f v.view) (after_event t old (read h.number)),
-      keeps,
-      tt,
       moved t s k id v h f (read h.number) (set s.words (c + 1) x) at is same fit.0.0 m (set-get_or s.words (c + 1) 0 ∙ k.words),
       record { view_is = refl; rest_is = refl; step = stepped_so t s k id v h read (c + 1) at is same m.legal },
+      sym (set-get_or s.words (c + 1) 0 ∙ k.words),
     )
 
-pub reads : (t : Terms) (slots id c : ℕ) (me : M) → me.0.view.terms ≡ t → MayRead t c me.0.view.hands → Allows (Kept t) slots id me (c + 1) (λ n. n) (HasRead (step slots (c + 1) 0 0 none) me)
-reads t slots id c me same may s k _ at small = reads_of t slots id c me s k at same me.0.view.hands refl may
+pub reads : (t : Terms) (slots id c : ℕ) (me : M) → 1 < t.workers → me.0.view.terms ≡ t → MayRead t c me.0.view.hands → Allows (Holds t) slots id me (c + 1) (λ n. n) (HasRead (step slots (c + 1) 0 0 none) me)
+reads t slots id c me more same may = several t slots id me (c + 1) (λ n. n) (HasRead (step slots (c + 1) 0 0 none) me) more (λ s k at. reads_of t slots id c me s k at same me.0.view.hands refl may)
 
 -- the add
 
@@ -243,7 +249,7 @@ add_moves t s k c found h f inside is may = record {
   workers = λ i. set s.workers h.number (has_added k c (sym f i) (is i));
 }
 
-adds_of : (t : Terms) (slots id n c a : ℕ) (me : M) (s : St) (k : Kept t s) → get_elem? s.views id ≡ some me.0 → me.0.view.terms ≡ t → (hs : List Hand) → me.0.view.hands ≡ hs → MayAdd t n c hs → a ≡ amount_of t n
+pub adds_of : (t : Terms) (slots id n c a : ℕ) (me : M) (s : St) (k : Kept t s) → get_elem? s.views id ≡ some me.0 → me.0.view.terms ≡ t → (hs : List Hand) → me.0.view.hands ≡ hs → MayAdd t n c hs → a ≡ amount_of t n
     → Can t s id me (c + 1) ((get_or s.words (c + 1) 0 + a) % 18446744073709551616) (Added n (step slots (c + 1) a 0 none) me (get_or s.words (c + 1) 0))
 adds_of t slots id n c a me s k at same [] is may amount = absurd may
 adds_of t slots id n c a me s k at same (h ∷ i ∷ hs) is may amount = absurd may
@@ -269,22 +275,21 @@ adds_of t slots id n c a me s k at same (h ∷ []) is may amount =
     let by : ℕ → ℕ → Event = λ d w. add w n d in
     let P : ℕ → Type 0 = λ d. IsStep v.view.terms v.view.hands v.seen (after_event t old e) (by d) (c + 1) x in (
       known (with_work f v.view) (after_event t old e),
-      keeps,
-      tt,
       moved t s k id v h f e (set s.words (c + 1) ((x + a) % 18446744073709551616)) at is same fit.0.0 m words,
       record { view_is = ap (λ (m : ℕ). with_work (has_added n m x) v.view) cell; rest_is = refl; step = subst P cell (stepped_so t s k id v h (by c) (c + 1) at is same m.legal) },
+      sym words,
     )
 
-pub adds : (t : Terms) (slots id n c a : ℕ) (me : M) → me.0.view.terms ≡ t → MayAdd t n c me.0.view.hands → a ≡ amount_of t n → Allows (Kept t) slots id me (c + 1) (λ m. (m + a) % 2 ^ 64) (Added n (step slots (c + 1) a 0 none) me)
-adds t slots id n c a me same may amount s k _ at small = adds_of t slots id n c a me s k at same me.0.view.hands refl may amount
+pub adds : (t : Terms) (slots id n c a : ℕ) (me : M) → 1 < t.workers → me.0.view.terms ≡ t → MayAdd t n c me.0.view.hands → a ≡ amount_of t n → Allows (Holds t) slots id me (c + 1) (λ m. (m + a) % 2 ^ 64) (Added n (step slots (c + 1) a 0 none) me)
+adds t slots id n c a me more same may amount = several t slots id me (c + 1) (λ m. (m + a) % 2 ^ 64) (Added n (step slots (c + 1) a 0 none) me) more (λ s k at. adds_of t slots id n c a me s k at same me.0.view.hands refl may amount)
 
 -- the split
 
 made-splits : (v : Known) → made_of v ≤ splits_of v
 made-splits v = omega arith
 
-pub splits : (t : Terms) (id : ℕ) (v : Known) → v.view.terms ≡ t → 0 < v.view.left → Splits (Kept t) id v (keeps_known v) (cuts_known v)
-splits t id v same some_left s k at =
+splits_several : (t : Terms) (id : ℕ) (v : Known) → v.view.terms ≡ t → 0 < v.view.left → Splits (Kept t) id v (keeps_known v) (cuts_known v)
+splits_several t id v same some_left s k at =
     let old : core.State = after_schedule t (start t) k.events in
     let made = total-put made_of s.views id v (keeps_known v) at in
     let made' = total-snoc made_of (set s.views id (keeps_known v)) (cuts_known v) in
@@ -328,8 +333,8 @@ splits t id v same some_left s k at =
 
 -- the join
 
-pub joins : (t : Terms) (id other : ℕ) (v w : Known) → v.view.terms ≡ t → Joins (Kept t) id v other w (joins_known v w) spent_known
-joins t id other v w same s k at apart there =
+joins_several : (t : Terms) (id other : ℕ) (v w : Known) → v.view.terms ≡ t → Joins (Kept t) id v other w (joins_known v w) spent_known
+joins_several t id other v w same s k at apart there =
     let old : core.State = after_schedule t (start t) k.events in
     let both : Known = joins_known v w in
     let mid : List Known = set s.views id both in
@@ -366,6 +371,31 @@ joins t id other v w same s k at apart there =
           (at_set mid other j spent_known u is);
       fresh = λ n more. k.fresh n (omega arith);
     }
+
+-- one worker alone has the one view
+
+pub only_view : (l : List Known) (id : ℕ) (u v : Known) → l ≡ u ∷ [] → get_elem? l id ≡ some v → (id ≡ 0) × (u ≡ v)
+only_view l id u v is at = by_place id (subst (λ (m : List Known). get_elem? m id ≡ some v) is at)
+  where
+    by_place : (i : ℕ) → get_elem? (u ∷ []) i ≡ some v → (i ≡ 0) × (u ≡ v)
+    by_place zero e = (refl, some-injective u v e)
+    by_place (suc i) e = absurd (some-ne-none v (sym e))
+
+pub splits : (t : Terms) (id : ℕ) (v : Known) → v.view.terms ≡ t → 0 < v.view.left → Splits (Holds t) id v (keeps_known v) (cuts_known v)
+splits t id v same some_left s h at = record {
+  one = λ is. absurd (let k = h.one is in let only = only_view s.views id k.0 v k.1 at in
+      let none_left : total splits_of (k.0 ∷ []) + 1 ≡ t.workers = k.2.splits in
+      let more : 0 < k.0.view.left = subst (λ (u : Known). 0 < u.view.left) (sym only.1) some_left in omega arith);
+  several = λ more. splits_several t id v same some_left s (h.several more) at;
+}
+
+pub joins : (t : Terms) (id other : ℕ) (v w : Known) → v.view.terms ≡ t → Joins (Holds t) id v other w (joins_known v w) spent_known
+joins t id other v w same s h at apart there = record {
+  one = λ is. absurd (let k = h.one is in let only = only_view s.views id k.0 v k.1 at in
+      let now : set s.views id (joins_known v w) ≡ joins_known v w ∷ [] = (λ i. set (k.1 i) (only.0 i) (joins_known v w)) in
+      apart ((only_view _ other (joins_known v w) w now there).0 ∙ sym only.0));
+  several = λ more. joins_several t id other v w same s (h.several more) at apart there;
+}
 
 -- the start
 
@@ -520,8 +550,21 @@ any_default (x ∷ xs) (suc i) d e h = any_default xs i d e (omega arith)
 pub amount_is : (t : Terms) (n a : ℕ) → n < commodity_count t → a ≡ get_or (amounts t) n a → a ≡ amount_of t n
 amount_is t n a few is = is ∙ any_default (amounts t) n a 0 (let m = length-map t.net.commodities (λ (k : Commodity). k.amount) in omega arith)
 
-pub begins_at : (t t' : Terms) (ws : List ℕ) → t' ≡ t → ws ≡ 0 ∷ t.base → IsStart t → Kept t' (opening ws [] (first_known t'))
-begins_at t t' ws same is h = let P : Terms × List ℕ → Type 0 = λ x. Kept x.0 (opening x.1 [] (first_known x.0)) in subst P (λ i. (sym same i, sym is i)) (begins t h)
+pub begins_at : (t t' : Terms) (ws : List ℕ) → t' ≡ t → ws ≡ 0 ∷ t.base → IsStart t → Holds t' (opening ws [] (first_known t'))
+begins_at t t' ws same is h =
+    let P : Terms × List ℕ → Type 0 = λ x. Holds x.0 (opening x.1 [] (first_known x.0)) in
+    subst P (λ i. (sym same i, sym is i)) record { one = λ _. (first_known t, refl, begins t h); several = λ _. begins t h }
+
+-- several workers end as their rule says, and one alone on the words that it has seen
+pub ends_several : (t : Terms) (id : ℕ) (v : Known) (ws : List ℕ) (xs : List (Unit {0})) → 1 < t.workers → Final (Seen (Holds t) id v) ws xs → Final (Seen (Kept t) id v) ws xs
+ends_several t id v ws xs more f = (f.0, (f.1.0.several more, f.1.1), f.2, f.3, f.4)
+
+pub ends_alone : (t : Terms) (id : ℕ) (v : Known) (ws : List ℕ) (xs : List (Unit {0})) → t.workers ≡ 1 → Final (Seen (Holds t) id v) ws xs → Final (Seen (Kept t) 0 v) (words_of v.seen) xs
+ends_alone t id v ws xs is f =
+    let k = f.1.0.one is in
+    let only = only_view f.0.views id k.0 v k.1 f.1.1 in
+    let kept : Kept t record { words = words_of v.seen; homes = f.0.homes; views = v ∷ [] } = subst (λ (u : Known). Kept t record { words = words_of u.seen; homes = f.0.homes; views = u ∷ [] }) only.1 k.2 in
+    (record { words = words_of v.seen; homes = f.0.homes; views = v ∷ [] }, (kept, refl), refl, f.3, f.4)
 
 read_at : (l : List ℕ) (i a : ℕ) → get_elem? l i ≡ some a → get_or l i 0 ≡ a
 read_at [] i a e = absurd (some-ne-none a (sym e))

@@ -1,15 +1,17 @@
 -- The rule of the shared words, and what its steps tell.
-use Rattle.std.specs.Prelude.{◌≡◌, ℕ, ◌+◌, ◌-◌, ◌<◌, ◌≤◌, ◌==◌, nat_lt, false, List, [], ◌∷◌, length, slice_index}
-use mathlib.Core.Option.{some}
+use Rattle.std.specs.Prelude.{◌≡◌, ℕ, ◌+◌, ◌-◌, ◌%◌, ◌^◌, ◌<◌, ◌≤◌, ◌==◌, nat_lt, false, List, [], ◌∷◌, length, slice_index, slice_set, All}
+use mathlib.Core.Option.{none, some}
 use lib.ListN.{get_elem?}
-use Rattle.atomic_table.specs.Table.{State, Me, Step}
+use Rattle.atomic_table.specs.Table.{State, Me, Step, step}
 use Rattle.flow_core.specs.declared.state.Entry.{Entry}
 use Rattle.flow_core.specs.Core as core
-use Rattle.flow_core.specs.Core.{Terms, Event, claim, read, add, IsLegal, AreLegal, Leads, start, after_event, after_schedule, worker_at, idle, IsStart, total, cell_count, ticket_count, LastIsComplete, LastMayAdd, claimed, has_read, has_added}
+use Rattle.flow_core.specs.Core.{Terms, Event, claim, read, add, IsLegal, AreLegal, Leads, start, after_event, after_schedule, worker_at, idle, IsStart, amount_of, total, cell_count, ticket_count, LastIsComplete, LastMayAdd, claimed, has_read, has_added}
 use Rattle.flow_core.specs.Laws.{one_if, IsFalling, added}
+use Rattle.mcf_limits.specs.declared.TheConstants.{MAX_LENGTH}
 use Rattle.load_table.specs.declared.view.Hand.{Hand}
 use Rattle.load_table.specs.declared.view.View.{View}
 use Rattle.load_table.specs.declared.view.Known.{Known}
+use Rattle.load_table.specs.Reading.{reads_all}
 use Rattle.load_table.specs.Views.{with_work, times_in, hands_of, made_of, splits_of}
 
 -- each hand has what the core has of its worker
@@ -35,6 +37,18 @@ pub record Kept (t : Terms) (s : State (Unit {0}) Known) : Type 0 where
   pub once : (n : ℕ) → total (times_in n) s.views ≡ one_if (nat_lt n (total made_of s.views + 1))
   pub fits : (j : ℕ) (v : Known) → get_elem? s.views j ≡ some v → FitsView t (after_schedule t (start t) events) v
   pub fresh : (n : ℕ) → total made_of s.views < n → worker_at (after_schedule t (start t) events) n ≡ idle
+
+-- the words as one list, that of claims first
+abbrev pub words_of : core.State → List ℕ
+words_of s = s.claims ∷ s.loads
+
+-- what one worker alone has seen is what there is: its words are its own, and those of the table stand still
+abbrev pub KeptAlone : Terms → State (Unit {0}) Known → Type 0
+KeptAlone t s = (v : Known) × (s.views ≡ v ∷ []) × Kept t record { words = words_of v.seen; homes = s.homes; views = v ∷ [] }
+
+pub record Holds (t : Terms) (s : State (Unit {0}) Known) : Type 0 where
+  pub one : t.workers ≡ 1 → KeptAlone t s
+  pub several : 1 < t.workers → Kept t s
 
 -- the number of the first worker
 abbrev pub first_number : List Hand → ℕ
@@ -69,6 +83,26 @@ HasRead s v found w = Steps v (with_work (has_read found) v.0.view) read s.word 
 
 abbrev pub Added : ℕ → Step (Unit {0}) → M → ℕ → M → Type 0
 Added k s v found w = Steps v (with_work (has_added k (s.word - 1) found) v.0.view) (λ n. add n k (s.word - 1)) s.word found w
+
+-- a step of one worker alone found the word that it had seen, and left this one in its place
+abbrev pub Turned : ℕ → (ℕ → ℕ) → (ℕ → M → Type 0) → M → M → Type 0
+Turned word f tells v w = tells (slice_index (words_of v.0.seen) word) w × (words_of w.0.seen ≡ slice_set (words_of v.0.seen) word (f (slice_index (words_of v.0.seen) word)))
+
+abbrev pub ClaimedAlone : Step (Unit {0}) → M → ℕ → M → Type 0
+ClaimedAlone s v _ w = Turned 0 (λ n. (n + 1) % 2 ^ 64) (Claimed (step s.slots 0 1 0 none) v) v w
+
+abbrev pub HasReadAlone : ℕ → Step (Unit {0}) → M → ℕ → M → Type 0
+HasReadAlone c s v _ w = Turned (c + 1) (λ n. n) (HasRead (step s.slots (c + 1) 0 0 none) v) v w
+
+abbrev pub AddedAlone : ℕ → ℕ → Step (Unit {0}) → M → ℕ → M → Type 0
+AddedAlone k c s v _ w = let a = amount_of v.0.view.terms k in Turned (c + 1) (λ n. (n + a) % 2 ^ 64) (Added k (step s.slots (c + 1) a 0 none) v) v w
+
+-- one worker alone has read all cells, within their limit, and the words are as before
+pub record HasReadAll (v w : M) : Type 0 where
+  pub view_is : w.0.view ≡ with_work (reads_all v.0.seen.loads) v.0.view
+  pub rest_is : w.1 ≡ v.1
+  pub small : All (λ x. x ≤ MAX_LENGTH) v.0.seen.loads
+  pub words : words_of w.0.seen ≡ words_of v.0.seen
 
 -- the tickets of the hands are below this one, and ascend
 abbrev pub AllFallBelow : ℕ → List Hand → Type 0

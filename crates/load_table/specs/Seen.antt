@@ -1,10 +1,11 @@
 -- What contracts see of the loads and of a pass.
-use Rattle.std.specs.Prelude.{◌≡◌, ℕ, ◌+◌, List}
+use Rattle.std.specs.Prelude.{◌≡◌, ℕ, ◌+◌, ◌==◌, Bool, List, length}
 use Rattle.atomic_table.specs.Seated.{TableId}
 use Rattle.flow_model.specs.Groups.{group_count}
 use Rattle.flow_core.specs.Core.{Terms, State, Event, IsStart, cell_count, amounts}
 use Rattle.load_table.specs.declared.view.View.{View}
-use Rattle.load_table.specs.Rule.{IsStep}
+use Rattle.load_table.specs.declared.view.Known.{Known}
+use Rattle.load_table.specs.Rule.{IsStep, words_of}
 
 -- the table, and what the phase starts from
 pub record LoadsView : Type 0 where
@@ -17,13 +18,24 @@ pub record PassView : Type 0 where
   pub view : View
   pub seen : State
 
--- how the shared words are kept: a word of claims and one a cell, with the amounts of the commodities and the number of groups beside them
-pub record IsLoads (table : TableId) (t : Terms) (sizes : List ℕ) (groups : ℕ) : Type 0 where
+-- how the shared words are kept: a word of claims and one a cell, with the amounts of the commodities, the number of groups, and whether there is one worker beside them
+pub record IsLoads (table : TableId) (t : Terms) (sizes : List ℕ) (groups : ℕ) (alone : Bool) : Type 0 where
   pub words : table.words ≡ cell_count t + 1
   pub slots : table.slots ≡ 0
   pub is_start : IsStart t
   pub sizes_are : sizes ≡ amounts t
   pub groups_are : groups ≡ group_count t.net
+  pub alone_is : alone ≡ (t.workers == 1)
+
+-- the words of a pass are those that it has seen, and it can't be split
+pub record AreWordsOf (v : Known) (own : List ℕ) : Type 0 where
+  pub words : own ≡ words_of v.seen
+  pub count : length own ≡ cell_count v.view.terms + 1
+  pub none_left : v.view.left ≡ 0
+
+-- one worker alone has the words in its pass
+abbrev pub IsOwn : Known → List ℕ → Type 0
+IsOwn v own = v.view.terms.workers ≡ 1 → AreWordsOf v own
 
 -- the pass is of these loads
 abbrev pub IsPassOf : LoadsView → PassView → Type 0

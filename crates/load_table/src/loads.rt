@@ -1,4 +1,5 @@
-//! The words that workers share, and the passes by which they step: one word of claims, and one a cell.
+//! The words that workers share, and the passes by which they step: one word of claims, and one a cell. One worker alone has the
+//! words to itself.
 
 ghost use Rattle.std.specs.Prelude.{◌≡◌, ℕ, ◌+◌, ◌-◌, ◌^◌, ◌<◌, ◌≤◌, [], ◌∷◌, map, length, All, IfOk};
 ghost use Rattle.flow_core.specs.Core.{Terms, IsStart, start, claim, read, add, claimed, has_read, has_added, idle};
@@ -8,7 +9,10 @@ ghost use Rattle.load_table.specs.Views.{hand, first_view, with_work, cut, cut_o
 ghost use Rattle.load_table.specs.Reading.{OneWhere, IsFresh, reads_all};
 ghost use Rattle.load_table.specs.Rule.{MayClaim, MayRead, MayAdd, MayClose, AllFallBelow, Closes};
 
-use crate::rule::{Adds, Claims, Cuts, LoadRule, Named, Reads};
+use crate::rule::{
+    Adds, AddsAlone, Claims, ClaimsAlone, Cuts, LoadRule, Named, Placed, Reads, ReadsAll,
+    ReadsAlone,
+};
 use crate::view::{Known, Origin};
 use atomic_table::{Seat, Table};
 use flow_model::{Commodity, Groups, Net, Setting};
@@ -17,12 +21,15 @@ use std::alloc::{AllocError, Global};
 use std::marker::{Brand, Model};
 use std::snapshot::Snapshot;
 
-/// The shared words. Contracts see the table, and what the phase starts from: the network, whose groups these are, the setting, the base and the number of workers.
+/// The shared words, whose steps are single atomic ones. Where there is one worker, no other thread sees the words: its pass has them,
+/// and steps on them plainly. Contracts see the table, and what the phase starts from: the network, whose groups these are, the setting, the base and the number of workers.
 #[derive(Drop)]
 pub struct Loads {
     table: Table<(), Known, Origin, LoadRule, Global>,
     amounts: Vec<u64>,
     groups: u16,
+    alone: bool,
+    alloc: Global,
 }
 
 impl Model for Loads {
@@ -32,24 +39,26 @@ impl Model for Loads {
 
     ghost view = { λ l. record { table = l.table.shared.table_id; terms = l.table.shared.key } };
 
-    ghost invariant = { λ l. IsLoads l.table.shared.table_id l.table.shared.key l.amounts.items l.groups };
+    ghost invariant = { λ l. IsLoads l.table.shared.table_id l.table.shared.key l.amounts.items l.groups l.alone };
 }
 
 /// What some workers have done. Contracts see the table, and what the pass knows: its workers with their entries and stops, and its splits left and made.
 #[derive(Drop)]
 pub struct Pass {
     seat: Seat<(), Known>,
+    // the words, where there is one worker
+    own: Vec<u64>,
 }
 
 impl Model for Pass {
     ghost use Rattle.std.specs.Prelude.{◌≡◌, []};
-    ghost use Rattle.load_table.specs.Seen.{PassView};
+    ghost use Rattle.load_table.specs.Seen.{PassView, IsOwn};
 
     ghost Value = { PassView };
 
     ghost view = { λ p. record { table = p.seat.table_id; view = p.seat.me.0.view; seen = p.seat.me.0.seen } };
 
-    ghost invariant = { λ p. p.seat.me.1 ≡ [] };
+    ghost invariant = { λ p. (p.seat.me.1 ≡ []) × IsOwn p.seat.me.0 p.own.items };
 }
 
 fn amounts_of(alloc: Global, commodities: &[Commodity]) -> Result<Vec<u64>, AllocError>
@@ -65,6 +74,13 @@ fn words_of(alloc: Global, base: &[u64]) -> Result<Vec<u64>, AllocError>
     words.push(0)?;
     words.extend_from_slice(base)?;
     Ok(words)
+}
+
+/// The words, where there is one worker.
+fn own_words(alloc: Global, words: Vec<u64>, workers: u16) -> Vec<u64>
+    ensures { workers ≡ 1 → result.items ≡ words.items }
+{
+    if workers == 1 { words } else { Vec::new(alloc) }
 }
 
 impl Loads {
@@ -99,8 +115,13 @@ impl Loads {
                 table,
                 amounts,
                 groups,
+                alone: workers == 1,
+                alloc,
             },
-            Pass { seat },
+            Pass {
+                seat,
+                own: own_words(alloc, words, workers),
+            },
         ))
     }
 
@@ -127,7 +148,37 @@ impl Loads {
         ensures seen { (pass.new.seen ≡ pass.old.seen) × (result.seen ≡ pass.old.seen) }
     {
         let seat = self.table.shared.split_seat::<Cuts>(&mut pass.seat);
-        Pass { seat }
+        Pass {
+            seat,
+            own: Vec::new(self.alloc),
+        }
+    }
+
+    fn claim_shared(&self, pass: &mut Pass) -> u64
+        requires several { 1 < self.now.terms.workers }
+        requires of { IsPassOf self.now pass.old }
+        requires may { MayClaim self.now.terms pass.old.view.hands }
+        ensures of { IsPassOf self.now pass.new }
+        ensures view { pass.new.view ≡ with_work (claimed (group_count self.now.terms.net) result) pass.old.view }
+        ensures step { HasStepped self.now pass.old pass.new claim 0 result }
+        ensures order { AllFallBelow result pass.old.view.hands }
+    {
+        self.table.shared.fetch_add::<Claims>(&mut pass.seat, 0, 1)
+    }
+
+    fn claim_alone(&self, pass: &mut Pass) -> u64
+        requires one { self.now.terms.workers ≡ 1 }
+        requires of { IsPassOf self.now pass.old }
+        requires may { MayClaim self.now.terms pass.old.view.hands }
+        ensures of { IsPassOf self.now pass.new }
+        ensures view { pass.new.view ≡ with_work (claimed (group_count self.now.terms.net) result) pass.old.view }
+        ensures step { HasStepped self.now pass.old pass.new claim 0 result }
+        ensures order { AllFallBelow result pass.old.view.hands }
+    {
+        let found = pass.own[0];
+        self.table.shared.load::<ClaimsAlone>(&mut pass.seat, 0);
+        pass.own[0] = found.wrapping_add(1);
+        found
     }
 
     /// Takes a ticket by one `fetch_add` on word 0. One below the number of groups is the group to route, any other says that all have been claimed.
@@ -139,11 +190,15 @@ impl Loads {
         ensures step { HasStepped self.now pass.old pass.new claim 0 result }
         ensures order { AllFallBelow result pass.old.view.hands }
     {
-        self.table.shared.fetch_add::<Claims>(&mut pass.seat, 0, 1)
+        if self.alone {
+            self.claim_alone(pass)
+        } else {
+            self.claim_shared(pass)
+        }
     }
 
-    /// Reads a cell's word by one load. Cells are read in order.
-    pub fn read_cell(&self, pass: &mut Pass, cell: u16) -> u64
+    fn read_shared(&self, pass: &mut Pass, cell: u16) -> u64
+        requires several { 1 < self.now.terms.workers }
         requires of { IsPassOf self.now pass.old }
         requires may { MayRead self.now.terms cell pass.old.view.hands }
         ensures of { IsPassOf self.now pass.new }
@@ -155,8 +210,39 @@ impl Loads {
         self.table.shared.load::<Reads>(&mut pass.seat, word)
     }
 
-    /// Reads each cell's word by one load, in order, for the group that was claimed.
-    pub fn read_all(&self, pass: &mut Pass, reads: &mut [u64])
+    // The step does not see which cell of the pass's own words it is at: the parameter tells the proof.
+    fn read_at<L: Placed>(&self, pass: &mut Pass, cell: u16) -> u64
+        requires placed { cell ≡ L.cell }
+        requires one { self.now.terms.workers ≡ 1 }
+        requires of { IsPassOf self.now pass.old }
+        requires may { MayRead self.now.terms cell pass.old.view.hands }
+        ensures of { IsPassOf self.now pass.new }
+        ensures view { pass.new.view ≡ with_work (has_read result) pass.old.view }
+        ensures step { HasStepped self.now pass.old pass.new read (cell + 1) result }
+        ensures within { result ≤ MAX_LENGTH }
+    {
+        let found = pass.own[cell as usize + 1];
+        self.table.shared.load::<ReadsAlone<L>>(&mut pass.seat, 0);
+        found
+    }
+
+    /// Reads a cell's word by one load. Cells are read in order.
+    pub fn read_cell(&self, pass: &mut Pass, cell: u16) -> u64
+        requires of { IsPassOf self.now pass.old }
+        requires may { MayRead self.now.terms cell pass.old.view.hands }
+        ensures of { IsPassOf self.now pass.new }
+        ensures view { pass.new.view ≡ with_work (has_read result) pass.old.view }
+        ensures step { HasStepped self.now pass.old pass.new read (cell + 1) result }
+        ensures within { result ≤ MAX_LENGTH }
+    {
+        if self.alone {
+            self.read_at::<Brand>(pass, cell)
+        } else {
+            self.read_shared(pass, cell)
+        }
+    }
+
+    fn read_each(&self, pass: &mut Pass, reads: &mut [u64])
         requires of { IsPassOf self.now pass.old }
         requires fresh { OneWhere IsFresh pass.old.view.hands }
         requires room { length reads.old ≡ length self.now.terms.net.cells }
@@ -169,9 +255,39 @@ impl Loads {
         }
     }
 
+    fn read_own(&self, pass: &mut Pass, reads: &mut [u64])
+        requires one { self.now.terms.workers ≡ 1 }
+        requires of { IsPassOf self.now pass.old }
+        requires fresh { OneWhere IsFresh pass.old.view.hands }
+        requires room { length reads.old ≡ length self.now.terms.net.cells }
+        ensures of { IsPassOf self.now pass.new }
+        ensures view { pass.new.view ≡ with_work (reads_all reads.new) pass.old.view }
+        ensures small { All (λ x. x ≤ MAX_LENGTH) reads.new }
+    {
+        self.table.shared.load::<ReadsAll>(&mut pass.seat, 0);
+        reads.copy_from_slice(&pass.own[1..]);
+    }
+
+    /// Reads each cell's word by one load, in order, for the group that was claimed.
+    pub fn read_all(&self, pass: &mut Pass, reads: &mut [u64])
+        requires of { IsPassOf self.now pass.old }
+        requires fresh { OneWhere IsFresh pass.old.view.hands }
+        requires room { length reads.old ≡ length self.now.terms.net.cells }
+        ensures of { IsPassOf self.now pass.new }
+        ensures view { pass.new.view ≡ with_work (reads_all reads.new) pass.old.view }
+        ensures small { All (λ x. x ≤ MAX_LENGTH) reads.new }
+    {
+        if self.alone {
+            self.read_own(pass, reads)
+        } else {
+            self.read_each(pass, reads)
+        }
+    }
+
     // The step does not see which commodity it is for: the parameter tells the proof.
     fn add_for<J: Named>(&self, pass: &mut Pass, k: u32, cell: u16) -> u64
         requires named { k ≡ J.commodity }
+        requires several { 1 < self.now.terms.workers }
         requires of { IsPassOf self.now pass.old }
         requires may { MayAdd self.now.terms k cell pass.old.view.hands }
         ensures of { IsPassOf self.now pass.new }
@@ -184,6 +300,25 @@ impl Loads {
         shared.fetch_add::<Adds<J>>(&mut pass.seat, word, amount)
     }
 
+    // Nor at which cell of the pass's own words.
+    fn add_at<J: Named, L: Placed>(&self, pass: &mut Pass, k: u32, cell: u16) -> u64
+        requires named { k ≡ J.commodity }
+        requires placed { cell ≡ L.cell }
+        requires one { self.now.terms.workers ≡ 1 }
+        requires of { IsPassOf self.now pass.old }
+        requires may { MayAdd self.now.terms k cell pass.old.view.hands }
+        ensures of { IsPassOf self.now pass.new }
+        ensures view { pass.new.view ≡ with_work (has_added J.commodity cell result) pass.old.view }
+        ensures step { HasStepped self.now pass.old pass.new (λ w. add w J.commodity cell) (cell + 1) result }
+    {
+        let amount = self.amounts[k as usize];
+        let word = cell as usize + 1;
+        let found = pass.own[word];
+        self.table.shared.load::<AddsAlone<J, L>>(&mut pass.seat, 0);
+        pass.own[word] = found.wrapping_add(amount);
+        found
+    }
+
     /// Adds a commodity's amount to a cell by one `fetch_add`, and answers the word before it.
     pub fn add_cell(&self, pass: &mut Pass, k: u32, cell: u16) -> u64
         requires of { IsPassOf self.now pass.old }
@@ -192,7 +327,11 @@ impl Loads {
         ensures view { pass.new.view ≡ with_work (has_added k cell result) pass.old.view }
         ensures step { HasStepped self.now pass.old pass.new (λ w. add w k cell) (cell + 1) result }
     {
-        self.add_for::<Brand>(pass, k, cell)
+        if self.alone {
+            self.add_at::<Brand, Brand>(pass, k, cell)
+        } else {
+            self.add_for::<Brand>(pass, k, cell)
+        }
     }
 
     /// Hands what the other pass has to this one.
@@ -202,8 +341,37 @@ impl Loads {
         ensures view { pass.new.view ≡ joined pass.old.view other.view }
         ensures seen { pass.new.seen ≡ pass.old.seen }
     {
-        let Pass { seat } = other;
+        let Pass { seat, own: _ } = other;
         self.table.shared.join_seat::<Cuts>(&mut pass.seat, seat);
+    }
+
+    fn close_shared(self, pass: Pass, into: &mut [u64])
+        requires several { 1 < self.terms.workers }
+        requires of { IsPassOf self pass }
+        requires whole { MayClose self.terms pass.view }
+        requires room { length into.old ≡ length self.terms.net.cells }
+        ensures { Closes self.terms pass.seen pass.view.hands into.new }
+    {
+        let Loads { table, .. } = self;
+        let Pass { seat, own: _ } = pass;
+        let closed = table.close_with(seat);
+        for i in 0..into.len() {
+            into[i] = closed.word(i + 1);
+        }
+        closed.free();
+    }
+
+    fn close_alone(self, pass: Pass, into: &mut [u64])
+        requires one { self.terms.workers ≡ 1 }
+        requires of { IsPassOf self pass }
+        requires whole { MayClose self.terms pass.view }
+        requires room { length into.old ≡ length self.terms.net.cells }
+        ensures { Closes self.terms pass.seen pass.view.hands into.new }
+    {
+        let Loads { table, .. } = self;
+        let Pass { seat, own } = pass;
+        table.close_with(seat).free();
+        into.copy_from_slice(&own[1..]);
     }
 
     /// Puts the load of each cell in its place: the base and all adds. Some schedule leads there with the entries and stops of the pass and no others.
@@ -213,16 +381,10 @@ impl Loads {
         requires room { length into.old ≡ length self.terms.net.cells }
         ensures { Closes self.terms pass.seen pass.view.hands into.new }
     {
-        let Loads {
-            table,
-            amounts: _,
-            groups: _,
-        } = self;
-        let Pass { seat } = pass;
-        let closed = table.close_with(seat);
-        for i in 0..into.len() {
-            into[i] = closed.word(i + 1);
+        if self.alone {
+            self.close_alone(pass, into)
+        } else {
+            self.close_shared(pass, into)
         }
-        closed.free();
     }
 }

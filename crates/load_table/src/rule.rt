@@ -2,17 +2,18 @@
 
 ghost use Rattle.std.specs.Prelude.{ℕ};
 ghost use Rattle.load_table.specs.Views.{first_known, keeps_known, cuts_known, joins_known, spent_known};
-ghost use Rattle.load_table.specs.Rule.{Kept, Claimed, HasRead, Added};
+ghost use Rattle.load_table.specs.Rule.{Holds, Claimed, HasRead, Added, ClaimedAlone, HasReadAlone, AddedAlone, HasReadAll};
 
 use crate::view::{Known, Origin};
 use atomic_table::{Join, Play, Split, TableRule};
 use std::marker::{Brand, PhantomData};
 
-/// Some schedule of the core leads to the words and to what the passes know.
+/// Some schedule of the core leads to the words and to what the passes know. The words are those of the table, or, where there is one
+/// worker, its pass's own.
 pub(crate) struct LoadRule;
 
 impl TableRule<(), Known, Origin> for LoadRule {
-    ghost holds = { Kept };
+    ghost holds = { Holds };
 
     ghost first = { first_known };
 }
@@ -38,12 +39,51 @@ impl Named for Brand {
     ghost commodity = { 0 };
 }
 
+/// Which cell a step on a pass's own words is at.
+pub trait Placed {
+    ghost cell: { ℕ };
+}
+
+impl Placed for Brand {
+    ghost cell = { 0 };
+}
+
 pub(crate) struct Adds<J> {
     named: PhantomData<J>,
 }
 
 impl<J: Named> Play<(), Known> for Adds<J> {
     ghost then = { Added J.commodity };
+}
+
+/// A claim on a pass's own words: the step on the table is a load, for the proof alone. So are those of the other three.
+pub(crate) struct ClaimsAlone;
+
+impl Play<(), Known> for ClaimsAlone {
+    ghost then = { ClaimedAlone };
+}
+
+pub(crate) struct ReadsAlone<L> {
+    placed: PhantomData<L>,
+}
+
+impl<L: Placed> Play<(), Known> for ReadsAlone<L> {
+    ghost then = { HasReadAlone L.cell };
+}
+
+pub(crate) struct AddsAlone<J, L> {
+    named: PhantomData<J>,
+    placed: PhantomData<L>,
+}
+
+impl<J: Named, L: Placed> Play<(), Known> for AddsAlone<J, L> {
+    ghost then = { AddedAlone J.commodity L.cell };
+}
+
+pub(crate) struct ReadsAll;
+
+impl Play<(), Known> for ReadsAll {
+    ghost then = { λ _ v _ w. HasReadAll v w };
 }
 
 pub(crate) struct Cuts;

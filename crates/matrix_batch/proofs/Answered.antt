@@ -1,10 +1,9 @@
 -- From what is read and scaled to what is answered of a list.
-use Rattle.std.proofs.Common.{◌≡◌, ℕ, ◌≤◌, List, length, map, Option, Some, None, Result, Ok, Err, refl, ap, sym, subst, ◌∙◌, arith}
-use Rattle.std.specs.Prelude.{All, IfOk}
+use Rattle.std.proofs.Common.{◌≡◌, ℕ, List, length, Option, Some, None, Result, Ok, Err, refl, ap, sym, subst, ◌∙◌, arith}
+use Rattle.std.specs.Prelude.{IfOk}
 use Rattle.std.specs.declared.vec.Vec.{Vec}
 use Rattle.std.specs.declared.alloc.Global.{Global}
 use Rattle.std.proofs.lemmas.List.{length-map}
-use Rattle.mcf_limits.specs.declared.TheConstants.{MAX_MATRICES}
 use Rattle.sndlib_grammar.specs.Rows.{NetRows, AreNetRows}
 use Rattle.sndlib_grammar.specs.declared.refusal.NetKind.TheVariants as netkinds
 use Rattle.unit_scale.specs.declared.options.NetOptions.{NetOptions}
@@ -12,19 +11,17 @@ use Rattle.unit_scale.specs.Scaling.{or_else as or_fault}
 use Rattle.matrix_batch.specs.declared.list_refusal.ListRefusal.{ListRefusal}
 use Rattle.matrix_batch.specs.Refusals.{BatchRefusal, InNet, InList}
 use Rattle.matrix_batch.specs.Matrices.{Matrix, matrix_of}
-use Rattle.matrix_batch.specs.Faults.{fine_link, in_net}
+use Rattle.matrix_batch.specs.Faults.{fine_link}
 use Rattle.matrix_batch.specs.Batch.{IsBatch}
-use Rattle.matrix_batch.specs.Grammar.{MatrixEntry}
 use Rattle.matrix_batch.specs.declared.list_refusal.ListKind.TheVariants.{TooMany}
 use Rattle.matrix_batch.specs.Faults.{too_many, in_list}
 use Rattle.matrix_batch.proofs.Sound.{scaled, names_counted}
 use Rattle.matrix_batch.specs.Lists.{NamedDemands, IsRead}
-use Rattle.matrix_batch.specs.Scaled.{ReadIsScaled, scaling_fault, scaled_matrix, batch_of, unless_fault}
+use Rattle.matrix_batch.specs.Scaled.{ReadIsScaled, batch_of}
 use Rattle.matrix_batch.specs.declared.matrix.Matrix.{Matrix as MatrixRows}
 use Rattle.matrix_batch.specs.declared.refusal.BatchEnd.{BatchEnd}
 use Rattle.matrix_batch.specs.declared.refusal.BatchEnd.TheVariants.{Net, List as OfList, Memory}
 use Rattle.matrix_batch.specs.Answer.{Answers, AreOwn}
-use Rattle.matrix_batch.specs.Scaling.{scaled_all, none_yet}
 use Rattle.matrix_batch.specs.Steps.{AreScaled}
 use Rattle.matrix_batch.specs.Views.{batch_view}
 use Rattle.matrix_batch.proofs.Batched.{in_batch, scaled_is_batch}

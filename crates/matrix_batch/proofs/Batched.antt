@@ -5,17 +5,16 @@ use Rattle.sndlib_grammar.specs.Rows.{NetRows}
 use Rattle.unit_scale.specs.declared.options.NetOptions.{NetOptions}
 use Rattle.unit_scale.specs.declared.refusal.RowRefusal.{RowRefusal}
 use Rattle.unit_scale.specs.Scaling.{ScaledNet}
-use Rattle.unit_scale.specs.Sorts.{scaled_at}
 use Rattle.matrix_batch.specs.declared.list_refusal.ListKind.TheVariants.{TooFine, TooLarge, NoDemand}
 use Rattle.matrix_batch.specs.declared.list_refusal.ListRefusal.{ListRefusal}
 use Rattle.matrix_batch.specs.Refusals.{BatchRefusal, InList}
 use Rattle.matrix_batch.specs.Matrices.{Matrix}
 use Rattle.matrix_batch.specs.Faults.{fine_link, in_net}
 use Rattle.matrix_batch.specs.Lists.{NamedDemands}
-use Rattle.matrix_batch.specs.Scaled.{own_rows, fine_demand, large_row, no_commodity, scaling_fault, scaled_matrix, batch_of, unless_fault}
+use Rattle.matrix_batch.specs.Scaled.{fine_demand, large_row, no_commodity, scaled_matrix, batch_of, unless_fault}
 use Rattle.unit_scale.specs.Scaling.{or_else as or_fault}
 use Rattle.matrix_batch.specs.Faults.{in_list}
-use Rattle.matrix_batch.specs.Scaling.{Sofar, none_yet, line_of_large, behind, at_line, finished, then_all, scaled_one, scaled_all}
+use Rattle.matrix_batch.specs.Scaling.{Sofar, none_yet, line_of_large, behind, at_line, finished, then_all, scaled_all}
 use Rattle.matrix_batch.proofs.Telling.{Told, Fine, Large, Empty, Whole, told}
 
 -- the refusal is the list's

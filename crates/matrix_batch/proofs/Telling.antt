@@ -1,18 +1,17 @@
 -- What scaling tells of one matrix.
-use Rattle.std.proofs.Common.{◌≡◌, ℕ, Bool, true, false, List, [], ◌∷◌, Option, Some, None, Result, Ok, Err, refl, ap, sym, ◌∙◌}
+use Rattle.std.proofs.Common.{◌≡◌, ℕ, Bool, true, false, List, [], ◌∷◌, Option, Some, None, Ok, Err, refl, ap, ◌∙◌}
 use Rattle.std.specs.Prelude.{if◌then◌else◌, ◌||◌}
 use Rattle.std.specs.List.{list_all, list_any}
-use Rattle.sndlib_grammar.specs.Rows.{NetRows, NetLink, NetDemand}
+use Rattle.sndlib_grammar.specs.Rows.{NetRows, NetLink}
 use Rattle.sndlib_grammar.specs.declared.refusal.NetRefusal.{NetRefusal}
 use Rattle.sndlib_grammar.specs.declared.refusal.NetKind.TheVariants as netkinds
 use Rattle.unit_scale.specs.declared.options.NetOptions.{NetOptions}
-use Rattle.unit_scale.specs.declared.modes.ModuleMode.{ModuleMode}
 use Rattle.unit_scale.specs.declared.refusal.RowSort.{RowSort}
 use Rattle.unit_scale.specs.declared.refusal.RowSort.TheVariants.{Link, Demand, End}
 use Rattle.unit_scale.specs.declared.refusal.RowRefusal.{RowRefusal}
-use Rattle.unit_scale.specs.Sizes.{is_fine_link, is_fine_demand, is_left_out}
+use Rattle.unit_scale.specs.Sizes.{is_left_out}
 use Rattle.unit_scale.specs.Scaling.{ScaledNet, scaled_with, refused, first_line, first_large, is_large_link, no_demand, or_else}
-use Rattle.unit_scale.specs.Sorts.{sorted, refused_row, unless_refused_row, scaled_at}
+use Rattle.unit_scale.specs.Sorts.{sorted, unless_refused_row, scaled_at}
 use Rattle.matrix_batch.specs.Matrices.{decimals_for}
 use Rattle.matrix_batch.specs.Faults.{fine_link}
 use Rattle.matrix_batch.specs.Lists.{NamedDemands}

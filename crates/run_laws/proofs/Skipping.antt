@@ -4,7 +4,6 @@ use Rattle.std.specs.Prelude.{◌==◌, MatchBool, Result, Ok, Err, nat_eq}
 use Rattle.std.specs.List.{after_first, flat_map, position_or_len, starts_with}
 use Rattle.std.proofs.lemmas.List.{length-map}
 use Rattle.mcf_limits.specs.declared.TheConstants.{MAX_NET_BYTES}
-use Rattle.sndlib_grammar.specs.Tokens.{lexemes}
 use Rattle.sndlib_grammar.specs.Grammar.{Entries, File, Skip, Symbol, demand, entries, link, node, section, skip, spelled, symbol}
 use Rattle.sndlib_grammar.specs.Rows.{NetRows}
 use Rattle.sndlib_grammar.specs.Text.{end_of, header, tokens_of}

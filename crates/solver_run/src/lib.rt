@@ -1,8 +1,9 @@
-//! What a run of the solver is, and what holds of its certificate.
+//! What a run of the solver is, with the setting of each phase, and what holds of its certificate.
 #![tactic(auto)]
 
 mod laws;
 mod options;
+mod settings;
 mod small;
 
 pub use laws::{
@@ -11,6 +12,7 @@ pub use laws::{
     solved_is_certified,
 };
 pub use options::{Entry, SolveOptions};
+pub use settings::{setting_after_first, setting_at_first};
 pub use small::{
     a_cut_is_solved, a_phase_is_solved, small_has_a_fullest_cell, small_has_groups,
     small_phases_load,

@@ -1,5 +1,5 @@
 -- An amount along a path, cell by cell, and the greatest exponent then.
-use Rattle.std.proofs.Common.{◌≡◌, ◌≢◌, ℕ, zero, suc, ◌+◌, ◌*◌, ◌/◌, ◌<◌, ◌≤◌, Bool, true, false, max, eqb, cond, List, [], ◌∷◌, length, get_or, set, drop, add-one, inl, inr, sym, ap, subst, ◌∙◌, arith, refl, eq-eqb, ne_eqb}
+use Rattle.std.proofs.Common.{◌≡◌, ℕ, zero, suc, ◌+◌, ◌*◌, ◌/◌, ◌<◌, ◌≤◌, Bool, true, false, max, eqb, cond, List, [], ◌∷◌, length, get_or, set, drop, add-one, inl, inr, sym, ap, subst, ◌∙◌, arith, refl, eq-eqb, ne_eqb}
 use Rattle.std.proofs.Math.Nat.{mul-le-mul_left, mul-le-mul_right, div-mul-le_self}
 use Rattle.std.proofs.Math.Seq.{drop-cons}
 use Rattle.std.proofs.lemmas.Nat.{le-div}

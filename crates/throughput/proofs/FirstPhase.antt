@@ -1,6 +1,6 @@
 -- The first phase routes something.
-use Rattle.std.proofs.Common.{◌≡◌, ℕ, zero, suc, ◌+◌, ◌*◌, ◌<◌, ◌≤◌, Bool, true, false, eqb, cond, List, [], ◌∷◌, ◌++◌, length, get_or, take, map, Option, Some, None, sym, ap, subst, ◌∙◌, arith, refl, eq-eqb}
-use Rattle.std.specs.Prelude.{slice_get, flat_map}
+use Rattle.std.proofs.Common.{◌≡◌, ℕ, zero, suc, ◌+◌, ◌*◌, ◌<◌, ◌≤◌, Bool, eqb, cond, List, [], ◌∷◌, ◌++◌, length, get_or, take, map, Option, Some, None, sym, ap, subst, ◌∙◌, arith, refl, eq-eqb}
+use Rattle.std.specs.Prelude.{flat_map}
 use Rattle.std.specs.List.{range_with_len}
 use Rattle.std.proofs.lemmas.List.{length-append}
 use Rattle.std.proofs.lemmas.List.FromFn.{length-map-range_with_len}
@@ -8,15 +8,14 @@ use Rattle.std.proofs.lemmas.List.Sums.{sum_by-append, sum_by-cons}
 use Rattle.std.proofs.lemmas.Option.{slice_get_within, get_or_from_slice_get}
 use Rattle.flow_model.specs.declared.net.Cell.{Cell}
 use Rattle.flow_model.specs.declared.net.Commodity.{Commodity}
-use Rattle.flow_model.specs.declared.setting.Setting.{Setting}
 use Rattle.flow_model.specs.Network.{Network, IsNetwork, IsCommodity}
 use Rattle.flow_model.specs.Routing.{Row, carried, load_of}
-use Rattle.flow_model.specs.Lengths.{greatest_exponent, least_capacity, length_at, lengths_at, lengths_of}
+use Rattle.flow_model.specs.Lengths.{greatest_exponent, least_capacity, length_at, lengths_at}
 use Rattle.flow_model.proofs.Duality.{no_commodity}
 use Rattle.flow_paths.specs.Evaluation.{loads_of}
 use Rattle.route_tally.specs.Asked.{first_setting}
-use Rattle.gates.specs.Gates.{gated, gated_loads, gated_lengths, IsPrice}
-use Rattle.throughput.specs.Run.{IsPartPhase, IsPartTurn, IsRouted, routed, turns_after}
+use Rattle.gates.specs.Gates.{gated_loads, gated_lengths, IsPrice}
+use Rattle.throughput.specs.Run.{IsPartPhase, IsPartTurn, routed, turns_after}
 
 -- in the first phase loads have no effect
 

@@ -1,7 +1,6 @@
 -- What is loaded, with one row more.
-use Rattle.std.proofs.Common.{◌≡◌, ◌≢◌, ℕ, zero, suc, ◌+◌, ◌*◌, ◌<◌, ◌≤◌, Bool, true, false, eqb, cond, List, [], ◌∷◌, ◌++◌, length, get_or, set, length-set, inl, inr, sym, ap, subst, ◌∙◌, arith, refl, eq-eqb, ne_eqb}
-use Rattle.std.specs.Prelude.{All, map, replicate}
-use Rattle.std.specs.List.{sum_by, range_with_len}
+use Rattle.std.proofs.Common.{◌≡◌, ℕ, zero, suc, ◌+◌, ◌*◌, ◌<◌, ◌≤◌, Bool, true, false, eqb, cond, List, [], ◌∷◌, ◌++◌, length, get_or, set, length-set, inl, inr, sym, ap, subst, ◌∙◌, arith, refl, eq-eqb, ne_eqb}
+use Rattle.std.specs.Prelude.{All, replicate}
 use Rattle.std.proofs.Math.Nat.{mul-le-mul_left}
 use Rattle.std.proofs.lemmas.Bool.{cases_eq}
 use Rattle.std.proofs.lemmas.List.{get_or-set_same, get_or-set_other, length-replicate, get_or-replicate}
@@ -12,7 +11,6 @@ use Rattle.flow_model.specs.Network.{Network}
 use Rattle.flow_model.specs.Routing.{Row, carried, load_of}
 use Rattle.flow_model.specs.Walk.{times}
 use Rattle.flow_model.specs.Least.{AreDifferent}
-use Rattle.flow_paths.specs.Evaluation.{loads_of}
 use Rattle.route_tally.specs.Tally.{IsCollected, TakesTurn}
 use Rattle.route_tally.proofs.TurnSums.{same_carried}
 use Rattle.solver_run.proofs.Weights.{times-once, load-below}

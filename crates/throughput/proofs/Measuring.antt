@@ -1,8 +1,8 @@
 -- The bound of lengths of cells and gates: where its rows stand, and that it shows its bound.
-use Rattle.std.proofs.Common.{◌≡◌, ℕ, zero, suc, ◌+◌, ◌*◌, ◌^◌, ◌<◌, ◌≤◌, min, Bool, true, false, eqb, cond, List, [], ◌∷◌, ◌++◌, length, get_or, take, Option, Some, None, sym, ap, subst, ◌∙◌, arith, refl, eq-eqb}
+use Rattle.std.proofs.Common.{◌≡◌, ℕ, zero, suc, ◌+◌, ◌*◌, ◌^◌, ◌<◌, ◌≤◌, Bool, true, false, eqb, cond, List, [], ◌∷◌, ◌++◌, length, get_or, take, Option, Some, None, sym, ap, subst, ◌∙◌, arith, refl, eq-eqb}
 use Rattle.std.specs.Prelude.{All, IsTrue, count_by, find, slice_get}
 use Rattle.std.proofs.Math.Nat.{mul-le-mul_right}
-use Rattle.std.proofs.lemmas.List.{length-append, length-take-le, get_or_append_left, get_or-append-add}
+use Rattle.std.proofs.lemmas.List.{length-append, length-take-le, get_or-append-add}
 use Rattle.std.proofs.lemmas.List.Folds.{list_any_at}
 use Rattle.std.proofs.lemmas.List.Sums.{sum_by-cons}
 use Rattle.std.proofs.lemmas.Option.{slice_get_within, slice_get-get_or, get_or_from_slice_get, same_Some}
@@ -14,7 +14,7 @@ use Rattle.flow_model.specs.Network.{Network, IsNetwork, IsCommodity}
 use Rattle.flow_model.specs.Groups.{group_sources, is_source}
 use Rattle.flow_model.specs.Walk.{PositiveWalk}
 use Rattle.flow_model.specs.Bound.{walk_length}
-use Rattle.flow_model.specs.Least.{IsLeast, IsLeastWalk, far_or}
+use Rattle.flow_model.specs.Least.{IsLeast}
 use Rattle.flow_model.specs.Lengths.{AreLengths, greatest_exponent, least_capacity, length_at, lengths_at, lengths_of}
 use Rattle.flow_model.proofs.Duality.{no_cell, no_commodity}
 use Rattle.fixed_exp.specs.Far.{EmptyAreFar}
@@ -29,14 +29,14 @@ use Rattle.dual_bound.proofs.Bounding.{Makes, bound-makes, lengths-small, source
 use Rattle.solver_run.proofs.Duals.{bound-shows}
 use Rattle.solver_run.proofs.Short.{least-short}
 use Rattle.throughput.specs.declared.part_proof.PartDual.{PartDual}
-use Rattle.gates.specs.Gates.{gate, AreGates, gated, IsPrice, IsLeastPrice}
+use Rattle.gates.specs.Gates.{gate, AreGates, gated, IsPrice}
 use Rattle.gates.specs.Prices.{IsLeastIfAny}
 use Rattle.throughput.specs.declared.loaded.Loaded.{Loaded}
 use Rattle.throughput.specs.Loaded.{HasLoaded, IsPrepared, lengths_under}
 use Rattle.throughput.proofs.Loading.{cells-long, gates-long}
 use Rattle.throughput.specs.Run.{HasNoWalk, HasSomeWalk, IsPartBoundOf}
 use Rattle.gates.proofs.Appended.{least-append, lengths-within}
-use Rattle.gates.proofs.Pricing.{same_length, same_commodity}
+use Rattle.gates.proofs.Pricing.{same_length}
 
 small-cond : (b : Bool) → cond {A = ℕ} b 1 0 ≤ 1
 small-cond true = omega arith

@@ -1,6 +1,6 @@
 -- What the last phase makes a run.
-use Rattle.std.proofs.Common.{◌≡◌, ℕ, ◌*◌, ◌≤◌, Bool, true, false, List, [], ◌∷◌, length, Option, Some, refl, sym, ap, ◌∙◌, subst, arith, inr}
-use Rattle.std.specs.Prelude.{IsTrue, ◌↔◌, slice_get}
+use Rattle.std.proofs.Common.{◌≡◌, ℕ, ◌*◌, ◌≤◌, false, List, length, sym, ap, ◌∙◌, subst, arith, inr}
+use Rattle.std.specs.Prelude.{IsTrue, ◌↔◌}
 use Rattle.flow_model.specs.declared.net.Cell.{Cell}
 use Rattle.flow_model.specs.Network.{Network}
 use Rattle.flow_model.specs.Routing.{Row}
@@ -11,7 +11,6 @@ use Rattle.flow_paths.specs.Fullness.{fullness}
 use Rattle.route_tally.specs.declared.options.RunOptions.{RunOptions}
 use Rattle.route_tally.specs.Tally.{IsCollected, IsTally}
 use Rattle.route_tally.proofs.TurnSums.{collected, same_total}
-use Rattle.throughput.specs.declared.part_proof.PartDual.{PartDual}
 use Rattle.throughput.specs.declared.part_proof.PartProof.{PartProof}
 use Rattle.throughput.specs.declared.reached.Reached.{Reached}
 use Rattle.throughput.specs.Partial.{total_of, part_lower_of, part_upper_of}

@@ -1,23 +1,23 @@
 -- Where no commodity has a walk: the bound is 0.
-use Rattle.std.proofs.Common.{◌≡◌, ℕ, zero, suc, ◌+◌, ◌-◌, ◌*◌, ◌<◌, ◌≤◌, Bool, eqb, List, [], ◌∷◌, length, get_or, map, Some, refl, sym, ap, ◌∙◌, subst, arith}
-use Rattle.std.specs.Prelude.{All, find, slice_get}
+use Rattle.std.proofs.Common.{◌≡◌, ℕ, ◌-◌, ◌*◌, ◌≤◌, List, [], ◌∷◌, get_or, map, Some, refl, sym, ap, ◌∙◌, subst, arith}
+use Rattle.std.specs.Prelude.{All, slice_get}
 use Rattle.std.proofs.lemmas.List.Elements.{All-head, All-tail}
-use Rattle.std.proofs.lemmas.Option.{slice_get_within, slice_get-get_or, get_or_from_slice_get}
+use Rattle.std.proofs.lemmas.Option.{slice_get-get_or, get_or_from_slice_get}
 use Rattle.flow_model.specs.declared.net.Commodity.{Commodity}
 use Rattle.flow_model.specs.Network.{Network, IsNetwork}
-use Rattle.flow_model.specs.Bound.{volume, weighted_sum, weighted_distance}
-use Rattle.flow_model.specs.Least.{HasCut, IsCutOff}
+use Rattle.flow_model.specs.Bound.{volume, weighted_distance}
+use Rattle.flow_model.specs.Least.{IsCutOff}
 use Rattle.flow_model.proofs.Duality.{no_commodity}
 use Rattle.dijkstra_paths.specs.Reach.{IsFirstCut}
 use Rattle.flow_paths.specs.DualRows.{Potential, DualRows}
 use Rattle.flow_paths.specs.Certificate.{distance_of, distances_in, lengths_in}
-use Rattle.dual_bound.specs.Bounds.{IsCutDual, IsCutPotential, IsRowWith, ShowsBound, cut_lengths}
+use Rattle.dual_bound.specs.Bounds.{IsCutDual, IsCutPotential, IsRowWith, ShowsBound}
 use Rattle.dual_bound.proofs.DualRows.{row-found}
 use Rattle.dual_bound.proofs.Distances.{cut-positive, cut-volume, distance-by}
 use Rattle.dual_bound.proofs.Bounding.{has-cut}
 use Rattle.solver_run.proofs.Duals.{cut-shows}
 use Rattle.throughput.specs.declared.part_proof.PartDual.{PartDual}
-use Rattle.throughput.specs.Partial.{excess, part_volume, part_upper_of}
+use Rattle.throughput.specs.Partial.{excess, part_upper_of}
 use Rattle.throughput.specs.Run.{HasNoWalk}
 use Rattle.throughput.proofs.Measuring.{named, source-one}
 

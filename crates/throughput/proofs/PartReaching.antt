@@ -1,12 +1,11 @@
 -- What is reached with the first phase, and with one phase more.
 use Rattle.std.proofs.Common.{◌≡◌, ℕ, ◌+◌, ◌*◌, ◌<◌, ◌≤◌, Bool, true, false, eqb, cond, List, [], ◌∷◌, ◌++◌, length, get_or, take, Option, refl, sym, ap, ◌∙◌, subst, arith}
-use Rattle.std.specs.Prelude.{All}
 use Rattle.std.specs.List.{sum_by}
 use Rattle.std.proofs.Math.Seq.{take-length}
 use Rattle.std.proofs.lemmas.List.{length-append}
 use Rattle.std.proofs.lemmas.List.Elements.{All-append, All-cons, All-nil}
 use Rattle.std.proofs.lemmas.List.Sums.{sum_by-append}
-use Rattle.mcf_limits.specs.declared.TheConstants.{MAX_LENGTH, MAX_TOTAL}
+use Rattle.mcf_limits.specs.declared.TheConstants.{MAX_LENGTH}
 use Rattle.flow_model.specs.declared.net.Cell.{Cell}
 use Rattle.flow_model.specs.declared.net.Commodity.{Commodity}
 use Rattle.flow_model.specs.declared.setting.Setting.{Setting}
@@ -19,21 +18,21 @@ use Rattle.flow_paths.specs.Fullness.{IsFill, fullness}
 use Rattle.flow_paths.specs.Least.{least_by}
 use Rattle.flow_paths.proofs.Least.{least-push}
 use Rattle.route_tally.specs.declared.options.RunOptions.{RunOptions}
-use Rattle.route_tally.specs.Asked.{first_setting, later_setting, setting_after}
+use Rattle.route_tally.specs.Asked.{first_setting, later_setting}
 use Rattle.throughput.specs.declared.part_proof.PartDual.{PartDual}
 use Rattle.throughput.specs.declared.loaded.Loaded.{Loaded}
 use Rattle.throughput.specs.declared.reached.Room.{Room}
 use Rattle.throughput.specs.declared.reached.Kept.{Kept}
 use Rattle.throughput.specs.declared.reached.Reached.{Reached}
 use Rattle.throughput.specs.Partial.{total_of, part_upper_of}
-use Rattle.gates.specs.Gates.{gated_lengths, IsLeastPrice}
+use Rattle.gates.specs.Gates.{gated_lengths}
 use Rattle.throughput.specs.Run.{IsPartBoundOf, IsPartClosedAfter, no_part_dual, part_fill_after, part_kept_after, part_lower_after, routed, turns_after}
-use Rattle.throughput.specs.Loaded.{HasLoaded, IsLoaded, IsPrepared, lengths_under}
+use Rattle.throughput.specs.Loaded.{HasLoaded, IsLoaded, lengths_under}
 use Rattle.throughput.specs.Reached.{AllDivide, HasPhase, IsMet, IsReached, IsRoom, carried_in}
 use Rattle.throughput.proofs.Loading.{gate-load}
 use Rattle.throughput.proofs.FirstPhase.{carried-first, first-loads}
 use Rattle.throughput.proofs.Phasing.{loads-behind, lengths-behind}
-use Rattle.throughput.proofs.PartNexts.{turns-kept, turns-last, fill-kept, later-kept, after-some, phases-more, next-of, no-phases}
+use Rattle.throughput.proofs.PartNexts.{turns-last, fill-kept, after-some, phases-more, next-of, no-phases}
 
 -- what was measured of loads
 pub record IsMeasured (net : Network) (gates : List Cell) (later : Setting) (s : Loaded) (kept : Kept) : Type 0 where

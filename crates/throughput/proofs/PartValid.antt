@@ -1,29 +1,25 @@
 -- The proof of a run is valid.
-use Rattle.std.proofs.Common.{◌≡◌, ◌≢◌, ◌⊎◌, ℕ, zero, suc, ◌+◌, ◌*◌, ◌<◌, ◌≤◌, Bool, true, false, List, [], ◌∷◌, ◌++◌, length, get_or, take, Option, Some, None, refl, sym, ap, ◌∙◌, subst, arith, inl, inr}
-use Rattle.std.specs.Prelude.{All, IsTrue, ◌↔◌, flat_map, slice_get}
+use Rattle.std.proofs.Common.{◌≡◌, ◌≢◌, ◌⊎◌, ℕ, zero, suc, ◌+◌, ◌*◌, ◌<◌, ◌≤◌, List, [], ◌∷◌, ◌++◌, length, get_or, take, Some, refl, sym, ap, ◌∙◌, subst, arith, inl, inr}
+use Rattle.std.specs.Prelude.{All, IsTrue, ◌↔◌, slice_get}
 use Rattle.std.proofs.Math.Seq.{take-length}
 use Rattle.std.proofs.lemmas.Bool.{cases_lt}
 use Rattle.std.proofs.lemmas.List.{length-append}
 use Rattle.std.proofs.lemmas.List.Elements.{All-append, All-nil, All-weaker, All-from_get_or}
 use Rattle.std.proofs.lemmas.Option.{slice_get_within, slice_get-get_or, get_or_from_slice_get}
-use Rattle.mcf_limits.specs.declared.TheConstants.{MAX_GAP, MAX_LENGTH, MAX_PHASES, MAX_UNITS}
+use Rattle.mcf_limits.specs.declared.TheConstants.{MAX_LENGTH, MAX_PHASES, MAX_UNITS}
 use Rattle.flow_model.specs.declared.net.Cell.{Cell}
 use Rattle.flow_model.specs.declared.net.Commodity.{Commodity}
-use Rattle.flow_model.specs.declared.setting.Setting.{Setting}
 use Rattle.flow_model.specs.Network.{Network, IsNetwork}
 use Rattle.flow_model.specs.Routing.{Row, carried, load_of, Joins}
 use Rattle.flow_model.specs.Walk.{PositiveWalk}
 use Rattle.flow_model.specs.Least.{IsCutOff}
 use Rattle.flow_model.proofs.Duality.{no_commodity}
 use Rattle.gap_fraction.specs.Fraction.{Fraction, IsWithinGap}
-use Rattle.flow_paths.specs.declared.certificate.Routing.{Routing}
-use Rattle.flow_paths.specs.Evaluation.{fill}
-use Rattle.flow_paths.specs.Certificate.{PathsAreWalks, LoadsFit, ScaleDivides, IsRoutingOf, IsRowOf, lengths_in}
+use Rattle.flow_paths.specs.Certificate.{LoadsFit, IsRowOf}
 use Rattle.flow_paths.specs.Least.{least_by}
 use Rattle.flow_paths.proofs.FillLimits.{fill-positive, fill-cap}
 use Rattle.flow_paths.proofs.Least.{least-one}
 use Rattle.flow_paths.proofs.NoneFuller.{IsFullest, fullest}
-use Rattle.dual_bound.specs.Bounds.{ShowsBound}
 use Rattle.route_tally.specs.declared.options.RunOptions.{RunOptions}
 use Rattle.route_tally.specs.Asked.{AreRunOptions, later_setting, setting_after}
 use Rattle.route_tally.proofs.TurnSums.{collected, same_carried, same_loads, same_total}
@@ -31,8 +27,8 @@ use Rattle.throughput.specs.declared.part_proof.PartDual.{PartDual}
 use Rattle.throughput.specs.declared.part_proof.PartProof.{PartProof}
 use Rattle.throughput.specs.Partial.{total_of, part_lower_of, part_upper_of}
 use Rattle.throughput.specs.Conditions.{AmountsFit, PartFractionsArePrinted, IsValidPart, IsPartProofOf}
-use Rattle.gates.specs.Gates.{gate, AreGates, gated, gated_loads}
-use Rattle.throughput.specs.Run.{HasNoWalk, HasSomeWalk, IsNothingProof, IsPartPhasedRun, IsThroughputRun, no_part_dual, part_fill_after, part_kept_after, part_lower_after, routed, turns_after}
+use Rattle.gates.specs.Gates.{gate, AreGates, gated_loads}
+use Rattle.throughput.specs.Run.{HasNoWalk, HasSomeWalk, IsNothingProof, IsPartPhasedRun, IsThroughputRun, no_part_dual, part_fill_after, part_kept_after, part_lower_after, turns_after}
 use Rattle.throughput.proofs.FirstPhase.{first-loads, loads-long}
 use Rattle.throughput.proofs.Measuring.{IsSound, part-sound, back-at, front-at, named}
 use Rattle.throughput.proofs.Turning.{walk-inside}

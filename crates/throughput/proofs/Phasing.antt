@@ -12,11 +12,10 @@ use Rattle.flow_model.specs.declared.setting.Setting.{Setting}
 use Rattle.flow_model.specs.Network.{Network}
 use Rattle.flow_model.specs.Routing.{Row, carried}
 use Rattle.flow_model.specs.Lengths.{lengths_of}
-use Rattle.flow_paths.specs.Evaluation.{loads_of}
 use Rattle.throughput.specs.declared.loaded.Loaded.{Loaded}
 use Rattle.gates.specs.Gates.{gated, gated_loads, gated_lengths, IsLeastPrice}
-use Rattle.throughput.specs.Run.{IsPartPhase, IsPartTurn, routed}
-use Rattle.throughput.specs.Loaded.{HasTurned, IsLoaded, amount_of, lengths_under, no_commodity}
+use Rattle.throughput.specs.Run.{IsPartTurn, routed}
+use Rattle.throughput.specs.Loaded.{HasTurned, IsLoaded, lengths_under, no_commodity}
 use Rattle.throughput.specs.Reached.{HasPhase}
 
 -- the loads behind the rows, and the lengths under them

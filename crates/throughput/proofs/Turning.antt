@@ -1,5 +1,5 @@
 -- The turn of one commodity, from its least distance.
-use Rattle.std.proofs.Common.{◌≡◌, ◌≢◌, ℕ, ◌+◌, ◌*◌, ◌/◌, ◌^◌, ◌<◌, ◌≤◌, max, min, List, [], ◌∷◌, ◌++◌, length, get_or, Option, Some, None, Bool, true, false, eqb, cond, ◌-◌, sym, ap, subst, ◌∙◌, arith, refl}
+use Rattle.std.proofs.Common.{◌≡◌, ◌≢◌, ℕ, ◌+◌, ◌*◌, ◌/◌, ◌^◌, ◌<◌, ◌≤◌, max, List, [], ◌∷◌, ◌++◌, length, get_or, Option, Some, None, Bool, true, false, eqb, cond, ◌-◌, sym, ap, subst, ◌∙◌, arith, refl}
 use Rattle.std.specs.Prelude.{All, slice_get}
 use Rattle.std.proofs.lemmas.Bool.Decides.{nat_tests}
 use Rattle.std.proofs.lemmas.List.{append-nil}
@@ -25,7 +25,7 @@ use Rattle.throughput.specs.declared.loaded.Loaded.{Loaded}
 use Rattle.throughput.specs.declared.turns.Tops.{Tops}
 use Rattle.gates.specs.Gates.{gate, IsPrice}
 use Rattle.gates.specs.Prices.{IsPriceOf}
-use Rattle.throughput.specs.Run.{IsPartTurn, routed}
+use Rattle.throughput.specs.Run.{IsPartTurn}
 use Rattle.throughput.specs.Loaded.{Follow, HasLoaded, HasTurned, IsLoaded, IsPrepared, lengths_under}
 use Rattle.gates.proofs.Appended.{least-append, greatest-append, lengths-append, lengths-within}
 use Rattle.gates.proofs.Pricing.{same_length, same_commodity, priced}

@@ -1,5 +1,5 @@
 -- What a run has routed so far, and the lengths that follow it.
-use Rattle.std.specs.Prelude.{◌≡◌, ℕ, ◌<◌, ◌≤◌, min, max, List, [], ◌∷◌, ◌++◌, All, Option, length, map, slice_index_or}
+use Rattle.std.specs.Prelude.{◌≡◌, ℕ, ◌≤◌, min, max, List, [], ◌∷◌, ◌++◌, All, Option, length, map, slice_index_or}
 use Rattle.std.specs.List.{range_with_len}
 use Rattle.mcf_limits.specs.declared.TheConstants.{MAX_UNITS}
 use Rattle.flow_model.specs.declared.net.Cell.{Cell}

@@ -13,7 +13,7 @@ use crate::measured::{measured, value_of};
 use crate::part_proof::{PartDual, PartProof};
 use crate::prepared::Prepared;
 use crate::reached::{Kept, Reached, Room};
-use crate::steps::{carried, first, is_met, next, setting_at_first};
+use crate::steps::{carried, first, is_met, next};
 use dijkstra_paths::{Graph, Scratch};
 use dual_bound::{Bounded, cut_bound};
 use fixed_exp::Powers;
@@ -23,6 +23,7 @@ use gap_fraction::Frac;
 use gates::{gates, least_of};
 use mcf_limits::MAX_LENGTH;
 use route_tally::RunOptions;
+use solver_run::setting_at_first;
 use std::alloc::{AllocError, Global};
 
 /// The last phase's state, and whether the gap was met.

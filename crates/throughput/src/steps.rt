@@ -1,10 +1,10 @@
 //! From phase to phase.
 
-ghost use Rattle.std.specs.Prelude.{◌≡◌, ℕ, ◌+◌, ◌*◌, ◌<◌, ◌≤◌, ◌↔◌, ◌++◌, [], if◌then◌else◌, true, false, IsTrue, IfOk, length, slice_index};
+ghost use Rattle.std.specs.Prelude.{◌≡◌, ℕ, ◌+◌, ◌*◌, ◌<◌, ◌≤◌, ◌↔◌, ◌++◌, [], if◌then◌else◌, IsTrue, IfOk, length, slice_index};
 ghost use Rattle.flow_model.specs.Lengths.{IsSetting};
 ghost use Rattle.flow_paths.specs.Evaluation.{fill, fraction_le};
 ghost use Rattle.flow_paths.specs.Fullness.{IsFill, fullness};
-ghost use Rattle.route_tally.specs.Asked.{AreRunOptions, first_setting, later_setting};
+ghost use Rattle.route_tally.specs.Asked.{AreRunOptions, first_setting};
 ghost use Rattle.throughput.specs.Partial.{part_upper_of};
 ghost use Rattle.gates.specs.Gates.{IsLeastPrice};
 ghost use Rattle.throughput.specs.Run.{HasSomeWalk, IsPartBoundOf};
@@ -22,6 +22,7 @@ use flow_paths::{Fill, fullest};
 use gap_fraction::Frac;
 use mcf_limits::{MAX_LENGTH, MAX_PHASES, MAX_TOTAL, MAX_UNITS};
 use route_tally::RunOptions;
+use solver_run::{setting_after_first, setting_at_first};
 use std::alloc::{AllocError, Global};
 use std::cmp::Ordering;
 
@@ -50,30 +51,6 @@ fn fullest_of(on: &Prepared<'_>, loaded: &Loaded) -> Fill
 {
     let cells = fullest(on.net.cells(), &loaded.cells);
     fuller(cells, fullest(on.gates, &loaded.gates))
-}
-
-/// The setting of the first phase, in which loads have no effect.
-pub fn setting_at_first(step: u32) -> Setting
-    ensures { result ≡ first_setting step }
-{
-    Setting {
-        first: true,
-        ref_cap: 0,
-        ref_load: 1,
-        step,
-    }
-}
-
-/// The setting of every other phase, with the fullest cell or gate of the first as the reference.
-fn setting_after_first(reference: Fill, step: u32) -> Setting
-    ensures { result ≡ later_setting step (fullness reference) }
-{
-    Setting {
-        first: false,
-        ref_cap: reference.cap,
-        ref_load: reference.load,
-        step,
-    }
 }
 
 /// The bound of these loads, and what it says.

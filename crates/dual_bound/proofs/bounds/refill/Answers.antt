@@ -1,4 +1,4 @@
-use Rattle.std.proofs.Common.{◌≡◌, ◌∙◌, length, arith}
+use Rattle.std.proofs.Common.{◌≡◌, ◌∙◌, arith}
 use Rattle.dual_bound.specs.Rows.{sources_of}
 use Rattle.dual_bound.proofs.Bounding.{sources-kept}
 use Rattle.dual_bound.proofs.bounds.refill.Goals as goal

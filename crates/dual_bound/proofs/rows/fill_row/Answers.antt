@@ -12,13 +12,13 @@ returns-clause-row c =
     let lengths = c.args.lengths.now in
     let row = c.args.row.now in
     let values = c.put_distances.new.values in
-    let many : length values ≡ net.nodes = omega (arith, c.requires.row.count, ap (λ (xs : List ℕ). length xs) c.deref_mut.ensures.value) in
-    let whole : length values ≡ row.values.len = omega (arith, c.requires.row.count) in
+    let many : length values ≡ net.nodes = omega (arith, c.requires.row.room.count, ap (λ (xs : List ℕ). length xs) c.deref_mut.ensures.value) in
+    let whole : length values ≡ row.values.len = omega (arith, c.requires.row.room.count) in
     let same = with_items_is row.values values whole in
     record {
       source = refl;
       filled = λ on. record {
-        node = c.requires.row.source;
+        node = c.requires.row.room.source;
         count = ap (λ (xs : List ℕ). length xs) same ∙ many;
         small = subst (λ (xs : List ℕ). All (λ x. x ≤ MAX_LENGTH) xs) (sym same) c.put_distances.ensures.small;
         each = λ v l.

@@ -24,7 +24,7 @@ returns-clause-search c =
         lengths = ap (λ (xs : List ℕ). length xs) c.in_ok-zeros-2.ensures ∙ length-replicate (length c.cells-cells.result.now) 0 ∙ cells;
         rows = record {
           sources = c.in_ok-source_rows.ensures.sources;
-          each = All-weaker (IsBlank net.nodes) (IsRoom net.nodes) (λ row b. record { source = b.source; count = b.count }) c.in_ok-source_rows.field-0.items c.in_ok-source_rows.ensures.blank;
+          each = All-weaker (IsBlank net.nodes) (IsRoom net.nodes) (λ row b. b.room) c.in_ok-source_rows.field-0.items c.in_ok-source_rows.ensures.blank;
         };
       };
       hands = idle-hands net c.in_ok-new_hands.field-0.items (omega (arith, count)) (omega (arith, count)) (λ k d l. c.in_ok-new_hands.ensures.fresh k d (omega (arith, count)));

@@ -1,4 +1,4 @@
-use Rattle.std.proofs.Common.{◌≡◌, ℕ, ◌+◌, ◌*◌, List, length, sym, ap, subst, ◌∙◌, arith}
+use Rattle.std.proofs.Common.{◌≡◌, ℕ, ◌*◌, List, length, ap, subst, ◌∙◌, arith}
 use Rattle.flow_model.specs.declared.net.Commodity.{Commodity}
 use Rattle.flow_model.specs.declared.setting.Setting.{Setting}
 use Rattle.throughput.specs.Loaded.{HasTurned}

@@ -1,4 +1,4 @@
-use Rattle.std.proofs.Common.{◌≡◌, ℕ, ◌+◌, ◌*◌, ◌≤◌, List, length, drop}
+use Rattle.std.proofs.Common.{◌≡◌, ◌+◌, ◌*◌, ◌≤◌, List, length, drop}
 use Rattle.std.specs.List.{sum_by}
 use Rattle.flow_model.specs.declared.net.Commodity.{Commodity}
 use Rattle.flow_model.specs.Routing.{Row}

@@ -1,4 +1,4 @@
-use Rattle.std.proofs.Common.{◌≡◌, List, Option, Some, subst}
+use Rattle.std.proofs.Common.{Option, subst}
 use Rattle.std.specs.Prelude.{MatchOption}
 use Rattle.throughput.specs.declared.part_proof.PartDual.{PartDual}
 use Rattle.throughput.specs.Run.{HasNoWalk, IsPartBoundOf}

@@ -1,4 +1,4 @@
-use Rattle.std.proofs.Common.{◌≡◌, refl, subst}
+use Rattle.std.proofs.Common.{refl, subst}
 use Rattle.gap_fraction.specs.Fraction.{Fraction}
 use Rattle.gap_fraction.specs.Decimals.{millionths_down}
 use Rattle.flow_paths.specs.Certificate.{IsPrinted}

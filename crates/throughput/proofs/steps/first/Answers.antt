@@ -1,4 +1,4 @@
-use Rattle.std.proofs.Common.{◌≡◌, List, subst}
+use Rattle.std.proofs.Common.{subst}
 use Rattle.flow_model.specs.declared.setting.Setting.{Setting}
 use Rattle.flow_paths.specs.Fullness.{fullness}
 use Rattle.route_tally.specs.Asked.{first_setting, later_setting}

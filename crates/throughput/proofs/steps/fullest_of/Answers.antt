@@ -1,4 +1,4 @@
-use Rattle.std.proofs.Common.{◌≡◌, ℕ, ◌++◌, cond, List, length, sym, ap, subst, ◌∙◌}
+use Rattle.std.proofs.Common.{◌≡◌, ℕ, cond, List, length, sym, ap, ◌∙◌}
 use Rattle.flow_model.specs.declared.net.Cell.{Cell}
 use Rattle.gap_fraction.specs.Fraction.{Fraction}
 use Rattle.flow_paths.specs.declared.fill.Fill.{Fill}

@@ -1,4 +1,4 @@
-use Rattle.std.proofs.Common.{◌≡◌, ◌<◌, ◌+◌, get_or, length, arith}
+use Rattle.std.proofs.Common.{◌<◌, ◌+◌, get_or, length, arith}
 use Rattle.throughput.proofs.Along.{greatest-set}
 use Rattle.throughput.proofs.turns.add_at.Goals as goal
 

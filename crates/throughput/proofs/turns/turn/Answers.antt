@@ -1,4 +1,4 @@
-use Rattle.std.proofs.Common.{◌≡◌, ℕ, ◌+◌, ◌<◌, ◌≤◌, ◌++◌, ◌∷◌, [], max, List, get_or, length, Option, Some, None, sym, ap, subst, ◌∙◌, arith, refl}
+use Rattle.std.proofs.Common.{◌≡◌, ℕ, ◌+◌, ◌<◌, ◌≤◌, max, List, get_or, length, Option, Some, None, sym, ap, subst, ◌∙◌, arith, refl}
 use Rattle.std.specs.Prelude.{slice_get}
 use Rattle.std.specs.Option.{option_map}
 use Rattle.std.specs.Borrow.{Bor}
@@ -13,7 +13,7 @@ use Rattle.flow_model.specs.Lengths.{AreLengths, exponent, length_at}
 use Rattle.fixed_exp.specs.Kept.{cell_at}
 use Rattle.dijkstra_paths.specs.Searched.{dist_at, path_at, IsPath}
 use Rattle.gates.specs.declared.lengths.Under.{Under}
-use Rattle.throughput.specs.Loaded.{HasTurned, IsLoaded, lengths_under, no_commodity}
+use Rattle.throughput.specs.Loaded.{lengths_under, no_commodity}
 use Rattle.throughput.proofs.Loading.{gates-long, gates-small}
 use Rattle.throughput.proofs.Turning.{lengths-fit, lengths-long, lengths-split, gate_lengths, gate-least, gate-top, length-small, IsFoundPath, path-found, price-now, far-turn, dear-turn, routed-turn, turned-none, turned-some}
 use Rattle.throughput.proofs.turns.turn.Goals as goal

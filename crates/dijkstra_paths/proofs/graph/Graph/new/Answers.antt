@@ -1,5 +1,9 @@
-use Rattle.std.proofs.Common.{arith, ◌≤◌, ◌≡◌, length, ap, sym, refl, length-append, [], ◌∷◌}
+use Rattle.std.proofs.Common.{arith, rules, ◌≤◌, ◌≡◌, ◌↔◌, ◌∙◌, List, length, ap, sym, subst, refl, length-append, [], ◌∷◌}
+use Rattle.std.specs.Prelude.{IsTrue}
+use Rattle.flow_model.specs.declared.net.Cell.{Cell}
+use Rattle.flow_model.specs.Network.{Network}
 use Rattle.dijkstra_paths.specs.Arcs.{arcs_below}
+use Rattle.dijkstra_paths.specs.Tree.{GoBothWays}
 use Rattle.dijkstra_paths.proofs.ArcLaws.{below-fits, below-suc, below-zero, begins-more}
 use Rattle.dijkstra_paths.proofs.graph.Graph.new.Goals as goal
 use Rattle.mcf_limits.specs.declared.TheConstants.{MAX_CELLS, MAX_NODES}
@@ -29,3 +33,13 @@ loop-from-preserved c =
       count = rw c.in_ok-push.ensures.items (omega (arith, length-append c.loop-from.first.items (c.len.result ∷ []), c.loop-from.invariant.count));
       first = rw c.in_ok-push.ensures.items (begins-more cells c.loop-from.first.items u c.len.result c.loop-from.invariant.count x c.loop-from.invariant.first);
     }
+
+pub invariant_of-result : goal.invariant_of-result
+invariant_of-result c =
+    let cells : c.cells-cells.result.now ≡ c.of.result.value.cells = c.cells-cells.ensures.value ∙ ap (λ (n : Network). n.cells) (sym c.of.ensures) in (
+      search rules,
+      search rules,
+      search rules,
+      search rules,
+      subst (λ (cs : List Cell). IsTrue c.go_both_ways.result ↔ GoBothWays cs) cells c.go_both_ways.ensures,
+    )

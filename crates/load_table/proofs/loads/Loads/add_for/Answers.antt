@@ -15,4 +15,4 @@ fetch_add-requires g c =
     let few : c.args.cell < cell_count t = inside.0 in
     let wide = c.self.invariant.words in
     let amount = amount_is t c.args.k c.index-amount.result.now inside.1 (c.index-amount.ensures ∙ ap (λ (xs : List ℕ). slice_index_or xs c.args.k c.index-amount.result.now) c.self.invariant.sizes_are) in
-    (search rules, omega arith, adds _ _ _ _ _ _ _ same may' (subst (λ (n : ℕ). c.index-amount.result.now ≡ slice_index_or (amounts t) n 0) c.requires.named amount))
+    (search rules, omega arith, adds t _ _ _ _ _ _ (search rules) same may' (subst (λ (n : ℕ). c.index-amount.result.now ≡ slice_index_or (amounts t) n 0) c.requires.named amount))

@@ -3,10 +3,10 @@ use Rattle.flow_core.specs.Core.{IsStart, claim}
 use Rattle.load_table.specs.Rule.{IsStep}
 use Rattle.load_table.specs.Seen.{LoadsView}
 use Rattle.load_table.proofs.Keeps.{claims, order_of}
-use Rattle.load_table.proofs.loads.Loads.claim.Goals as goal
+use Rattle.load_table.proofs.loads.Loads.claim_shared.Goals as goal
 
 pub fetch_add-requires : goal.fetch_add-requires
-fetch_add-requires c = (search rules, search rules, claims _ _ _ _ (search rules) (search rules))
+fetch_add-requires c = (search rules, search rules, claims c.self.inside.table.shared.key _ _ _ (search rules) (search rules) (search rules))
 
 pub returns-clause-order : goal.returns-clause-order
 returns-clause-order c =

@@ -5,7 +5,7 @@ use Rattle.load_table.specs.Rule.{IsStep}
 use Rattle.load_table.specs.Seen.{LoadsView}
 use Rattle.flow_core.specs.Core.{IsStart, read}
 use Rattle.load_table.proofs.Keeps.{reads, read_inside, word_within}
-use Rattle.load_table.proofs.loads.Loads.read_cell.Goals as goal
+use Rattle.load_table.proofs.loads.Loads.read_shared.Goals as goal
 
 pub load-requires : goal.load-requires
 load-requires c =
@@ -14,7 +14,7 @@ load-requires c =
     let may : MayRead t c.args.cell hands = search rules in
     let few : c.args.cell < cell_count t = read_inside t c.args.cell hands may in
     let wide = c.self.invariant.words in
-    (search rules, omega arith, reads _ _ _ _ _ (search rules) may)
+    (search rules, omega arith, reads t _ _ _ _ (search rules) (search rules) may)
 
 pub returns-clause-within : goal.returns-clause-within
 returns-clause-within c =

@@ -3,7 +3,7 @@ use Rattle.mcf_limits.specs.declared.TheConstants.{MAX_LENGTH}
 use Rattle.load_table.specs.Seen.{IsPassOf}
 use Rattle.load_table.specs.Views.{with_work}
 use Rattle.load_table.specs.Reading.{reads_all}
-use Rattle.load_table.proofs.loads.Loads.read_all.Given as goal
+use Rattle.load_table.proofs.loads.Loads.read_each.Given as goal
 
 abbrev pub invariant-loop-cell : goal.invariant-loop-cell
 invariant-loop-cell l = record {

@@ -3,8 +3,8 @@ use Rattle.flow_core.specs.Core.{Terms, State, cell_count}
 use Rattle.load_table.specs.declared.view.View.{View}
 use Rattle.load_table.specs.Rule.{MayClose, Closes}
 use Rattle.load_table.specs.Seen.{LoadsView, PassView}
-use Rattle.load_table.proofs.Keeps.{closes, copied}
-use Rattle.load_table.proofs.loads.Loads.close.Goals as goal
+use Rattle.load_table.proofs.Keeps.{closes, copied, ends_several}
+use Rattle.load_table.proofs.loads.Loads.close_shared.Goals as goal
 
 pub loop-i-preserved : goal.loop-i-preserved
 loop-i-preserved c = copied _ _ _ _ (omega arith) c.loop-i.invariant c.word.ensures
@@ -19,4 +19,4 @@ returns c =
     let seen = ap (λ (p : PassView). p.seen) c.pass.view_is in
     let same : c.pass.inside.seat.me.0.view.terms ≡ c.self.inside.table.shared.key = search rules in
     let P : Terms × State × View → Type 0 = λ x. Closes x.0 x.1 x.2.hands c.loop-i.into in
-    subst P (λ i. (terms i, seen i, view i)) (closes _ _ _ _ _ c.loop-i.into may same c.close_with-closed.ensures.values.2 long (λ k inside. c.loop-i.invariant k (omega arith)))
+    subst P (λ i. (terms i, seen i, view i)) (closes _ _ _ _ _ c.loop-i.into may same (ends_several _ _ _ _ _ (search rules) c.close_with-closed.ensures.values.2) long (λ k inside. c.loop-i.invariant k (omega arith)))

@@ -1,0 +1,167 @@
+-- The steps of one worker alone, whose words are its own.
+use Rattle.std.proofs.Common.{◌≡◌, ℕ, zero, suc, ◌+◌, ◌-◌, ◌%◌, ◌<◌, ◌≤◌, List, [], ◌∷◌, ◌++◌, take, length, min, get_or, set, refl, sym, ap, ◌∙◌, subst, arith, length-set, drop, add-one}
+use Rattle.std.proofs.lemmas.List.{set-get_or, take_more, length-take, take_all}
+use mathlib.Core.Option.{Option, none}
+use Rattle.atomic_table.specs.Table.{State, step, keeps, Allows}
+use Rattle.flow_core.specs.Core as core
+use Rattle.flow_core.specs.Core.{Terms, IsStart, Event, start, after_schedule, read, add, has_read, has_added, amount_of, cell_count}
+use Rattle.flow_core.specs.Laws.{Loads}
+use Rattle.flow_core.proofs.Steps.{laws, loads_of}
+use Rattle.mcf_limits.specs.declared.TheConstants.{MAX_LENGTH}
+use Rattle.atomic_table.specs.Seated.{TableId}
+use Rattle.load_table.specs.declared.view.Known.{Known}
+use Rattle.load_table.specs.declared.view.View.{View}
+use Rattle.load_table.specs.Rule.{Kept, Holds, words_of, M, Claimed, HasRead, Added, ClaimedAlone, HasReadAlone, AddedAlone, Turned, HasReadAll, Steps, IsStep, MayClaim, MayRead, MayAdd}
+use Rattle.load_table.specs.Seen.{LoadsView, PassView, IsPassOf, AreWordsOf}
+use Rattle.load_table.specs.Views.{with_work}
+use Rattle.load_table.specs.Reading.{OneWhere, IsFresh, reads_all}
+use Rattle.load_table.proofs.Works.{reads_none, reads_one, may_read}
+use Rattle.load_table.proofs.Keeps.{Can, claims_of, reads_of, adds_of, only_view}
+
+abbrev St : Type 0
+St = State (Unit {0}) Known
+
+-- the state of the table with the words that the view has seen
+abbrev own_state : List (Option (Unit {0})) → Known → St
+own_state homes v = record { words = words_of v.seen; homes = homes; views = v ∷ [] }
+
+-- a step that can be taken on the words that were seen can be taken beside a load of the table
+alone : (t : Terms) (slots id word i : ℕ) (me : M) (f : ℕ → ℕ) (tells : ℕ → M → Type 0) → t.workers ≡ 1
+    → ((homes : List (Option (Unit {0}))) → Kept t (own_state homes me.0) → Can t (own_state homes me.0) 0 me i (f (get_or (words_of me.0.seen) i 0)) (tells (get_or (words_of me.0.seen) i 0)))
+    → Allows (Holds t) slots id me word (λ n. n) (λ _ w. Turned i f tells me w)
+alone t slots id word i me f tells is can s h _ at small =
+    let k = h.one is in
+    let only = only_view s.views id k.0 me.0 k.1 at in
+    let kept : Kept t (own_state s.homes me.0) = subst (λ (v : Known). Kept t (own_state s.homes v)) only.1 k.2 in
+    let r = can s.homes kept in
+    let views : set s.views id r.0 ≡ r.0 ∷ [] = (λ j. set (k.1 j) (only.0 j) r.0) in
+    let now : Kept t (own_state s.homes r.0) = subst (λ (ws : List ℕ). Kept t record { words = ws; homes = s.homes; views = r.0 ∷ [] }) (sym r.3) r.1 in
+    (r.0, keeps, tt, record { one = λ _. (r.0, views, now); several = λ more. absurd (omega arith) }, (r.2, r.3))
+
+pub claims_alone : (t : Terms) (slots id : ℕ) (me : M) → t.workers ≡ 1 → me.0.view.terms ≡ t → MayClaim t me.0.view.hands
+    → Allows (Holds t) slots id me 0 (λ n. n) (ClaimedAlone (step slots 0 0 0 none) me)
+claims_alone t slots id me is same may =
+    alone t slots id 0 0 me (λ n. (n + 1) % 18446744073709551616) (Claimed (step slots 0 1 0 none) me) is (λ homes k. claims_of t slots 0 me _ k refl same me.0.view.hands refl may)
+
+pub reads_alone : (t : Terms) (slots id c : ℕ) (me : M) → t.workers ≡ 1 → me.0.view.terms ≡ t → MayRead t c me.0.view.hands
+    → Allows (Holds t) slots id me 0 (λ n. n) (HasReadAlone c (step slots 0 0 0 none) me)
+reads_alone t slots id c me is same may =
+    alone t slots id 0 (c + 1) me (λ n. n) (HasRead (step slots (c + 1) 0 0 none) me) is (λ homes k. reads_of t slots 0 c me _ k refl same me.0.view.hands refl may)
+
+pub adds_alone : (t : Terms) (slots id n c : ℕ) (me : M) → t.workers ≡ 1 → me.0.view.terms ≡ t → MayAdd t n c me.0.view.hands
+    → Allows (Holds t) slots id me 0 (λ m. m) (AddedAlone n c (step slots 0 0 0 none) me)
+adds_alone t slots id n c me is same may =
+    let a = amount_of me.0.view.terms n in
+    alone t slots id 0 (c + 1) me (λ m. (m + a) % 18446744073709551616) (Added n (step slots (c + 1) a 0 none) me) is
+    (λ homes k. adds_of t slots 0 n c a me _ k refl same me.0.view.hands refl may (ap (λ (x : Terms). amount_of x n) same))
+
+-- any value stands for none at a place that is there
+any_else : (xs : List ℕ) (i d e : ℕ) → i < length xs → get_or xs i d ≡ get_or xs i e
+any_else [] i d e h = absurd (omega arith)
+any_else (x ∷ xs) zero d e h = refl
+any_else (x ∷ xs) (suc i) d e h = any_else xs i d e (omega arith)
+
+pub own_rest : (s : core.State) (own : List ℕ) (n : ℕ) → own ≡ words_of s → length own ≤ n + 1 → take n (drop 1 own) ≡ s.loads
+own_rest s own n is few = ap (λ (ws : List ℕ). take n (drop 1 ws)) is ∙ take_all n s.loads (let l = ap (λ (ws : List ℕ). length ws) is in omega arith)
+
+-- all reads, one after the other
+
+record ReadSoFar (t : Terms) (homes : List (Option (Unit {0}))) (v : Known) (c : ℕ) : Type 0 where
+  known : Known
+  kept : Kept t (own_state homes known)
+  view_is : known.view ≡ with_work (reads_all (take c v.seen.loads)) v.view
+  words : words_of known.seen ≡ words_of v.seen
+
+-- the loads that were seen are those after the events
+loads_law : (t : Terms) (homes : List (Option (Unit {0}))) (v : Known) (k : Kept t (own_state homes v)) → Loads t record { claims = v.seen.claims; loads = v.seen.loads; workers = (after_schedule t (start t) k.events).workers }
+loads_law t homes v k =
+    let old : core.State = after_schedule t (start t) k.events in
+    let parts : List ℕ → core.State = λ ws. record { claims = get_or ws 0 0; loads = drop 1 ws; workers = old.workers } in
+    subst (Loads t) (ap parts (sym k.words)) (loads_of t old k.is_start (laws t k.events k.is_start k.legal))
+
+read_so_far : (t : Terms) (homes : List (Option (Unit {0}))) (v : Known) → Kept t (own_state homes v) → v.view.terms ≡ t → OneWhere IsFresh v.view.hands → (c : ℕ) → c ≤ cell_count t → ReadSoFar t homes v c
+read_so_far t homes v k same fresh zero few = record { known = v; kept = k; view_is = reads_none v.view fresh; words = refl }
+read_so_far t homes v k same fresh (suc c) few =
+    let r = read_so_far t homes v k same fresh c (omega arith) in
+    let u = r.known in
+    let law = loads_law t homes v k in
+    let long : c < length v.seen.loads = (let l = law.cells in omega arith) in
+    let of : u.view.terms ≡ t = ap (λ (x : View). x.terms) r.view_is ∙ same in
+    let may : MayRead t c u.view.hands = may_read t c (take c v.seen.loads) v.view u.view fresh r.view_is (length-take c v.seen.loads ∙ (let z : min c (length v.seen.loads) ≡ c = omega arith in z)) (omega arith) in
+    let got = reads_of t 0 0 c (u, []) (own_state homes u) r.kept refl of u.view.hands refl may in
+    let x : ℕ = get_or (words_of u.seen) (c + 1) 0 in
+    let is : x ≡ get_or v.seen.loads c 0 = ap (λ (ws : List ℕ). get_or ws (c + 1) 0) r.words ∙ ap (λ (n : ℕ). get_or (words_of v.seen) n 0) (add-one c) in
+    let all : take c v.seen.loads ++ x ∷ [] ≡ take (suc c) v.seen.loads = ap (λ (y : ℕ). take c v.seen.loads ++ y ∷ []) is ∙ (sym (take_more v.seen.loads c 0 long) ∙ ap (λ (n : ℕ). take n v.seen.loads) (add-one c)) in
+    let words : words_of got.0.seen ≡ words_of u.seen = got.3 ∙ set-get_or (words_of u.seen) (c + 1) 0 in
+    record {
+      known = got.0;
+      kept = subst (λ (ws : List ℕ). Kept t record { words = ws; homes = homes; views = got.0 ∷ [] }) {y = words_of got.0.seen} (sym got.3) got.1;
+      view_is = got.2.view_is ∙ (reads_one x (take c v.seen.loads) v.view u.view r.view_is ∙ ap (λ (rs : List ℕ). with_work (reads_all rs) v.view) all);
+      words = words ∙ r.words;
+    }
+
+pub all_read : (t : Terms) (slots id : ℕ) (me : M) → t.workers ≡ 1 → me.0.view.terms ≡ t → OneWhere IsFresh me.0.view.hands
+    → Allows (Holds t) slots id me 0 (λ n. n) (λ _ w. HasReadAll me w)
+all_read t slots id me is same fresh s h _ at small =
+    let k = h.one is in
+    let only = only_view s.views id k.0 me.0 k.1 at in
+    let v = me.0 in
+    let kept : Kept t (own_state s.homes v) = subst (λ (u : Known). Kept t (own_state s.homes u)) only.1 k.2 in
+    let r = read_so_far t s.homes v kept same fresh (cell_count t) (omega arith) in
+    let views : set s.views id r.known ≡ r.known ∷ [] = (λ j. set (k.1 j) (only.0 j) r.known) in
+    let law = loads_law t s.homes v kept in
+    let whole : take (cell_count t) v.seen.loads ≡ v.seen.loads = take_all (cell_count t) v.seen.loads (let l = law.cells in omega arith) in (
+      r.known,
+      keeps,
+      tt,
+      record { one = λ _. (r.known, views, r.kept); several = λ more. absurd (omega arith) },
+      record {
+        view_is = r.view_is ∙ ap (λ (rs : List ℕ). with_work (reads_all rs) v.view) whole;
+        rest_is = refl;
+        small = λ i d inside. (let w = law.within i (let l = law.cells in omega arith) in subst (λ (x : ℕ). x ≤ MAX_LENGTH) (any_else v.seen.loads i 0 d inside) w);
+        words = r.words;
+      },
+    )
+
+-- what a call makes of such a step
+
+pub one_inside : (l : LoadsView) (p : PassView) (table : TableId) (v : Known) → record { table = table; view = v.view; seen = v.seen } ≡ p → IsPassOf l p → l.terms.workers ≡ 1 → v.view.terms.workers ≡ 1
+one_inside l p table v is of one = ap (λ (q : PassView). q.view.terms.workers) is ∙ (ap (λ (t : Terms). t.workers) of.1 ∙ one)
+
+pub outside : (l : LoadsView) (p : PassView) (table : TableId) (v : Known) (now : core.State) (event : ℕ → Event) (word x : ℕ) → record { table = table; view = v.view; seen = v.seen } ≡ p → IsPassOf l p
+    → IsStep v.view.terms v.view.hands v.seen now event word x → IsStep l.terms p.view.hands p.seen now event word x
+outside l p table v now event word x is of s =
+    let here : IsStep p.view.terms p.view.hands p.seen now event word x = subst (λ (q : PassView). IsStep q.view.terms q.view.hands q.seen now event word x) is s in
+    subst (λ (t : Terms). IsStep t p.view.hands p.seen now event word x) of.1 here
+
+pub word_at : (v : Known) (own : List ℕ) (i x : ℕ) → AreWordsOf v own → i < length own → x ≡ get_or own i x → x ≡ get_or (words_of v.seen) i 0
+word_at v own i x are inside is = is ∙ (any_else own i x 0 inside ∙ ap (λ (ws : List ℕ). get_or ws i 0) are.words)
+
+pub own_after : (v w : M) (own : List ℕ) (i y : ℕ) → AreWordsOf v.0 own → (words_of w.0.seen ≡ set (words_of v.0.seen) i y) → w.0.view.terms ≡ v.0.view.terms → w.0.view.left ≡ v.0.view.left → AreWordsOf w.0 (set own i y)
+own_after v w own i y are is terms left = record {
+  words = ap (λ (ws : List ℕ). set ws i y) are.words ∙ sym is;
+  count = length-set own i y ∙ (are.count ∙ ap (λ (t : Terms). cell_count t + 1) (sym terms));
+  none_left = left ∙ are.none_left;
+}
+
+pub added_so : (slots k c a x : ℕ) (v w : M) → x ≡ get_or (words_of v.0.seen) (c + 1) 0 → Added k (step slots (c + 1) a 0 none) v (get_or (words_of v.0.seen) (c + 1) 0) w
+    → Steps v (with_work (has_added k c x) v.0.view) (λ n. add n k c) (c + 1) x w
+added_so slots k c a x v w is s =
+    let cell : (c + 1) - 1 ≡ c = omega arith in
+    let P : ℕ × ℕ → Type 0 = λ z. Steps v (with_work (has_added k z.0 z.1) v.0.view) (λ n. add n k z.0) (c + 1) z.1 w in
+    subst P (λ i. (cell i, sym is i)) s
+
+pub read_so : (slots c x : ℕ) (v w : M) → x ≡ get_or (words_of v.0.seen) (c + 1) 0 → HasRead (step slots (c + 1) 0 0 none) v (get_or (words_of v.0.seen) (c + 1) 0) w
+    → Steps v (with_work (has_read x) v.0.view) read (c + 1) x w
+read_so slots c x v w is s = let P : ℕ → Type 0 = λ z. Steps v (with_work (has_read z) v.0.view) read (c + 1) z w in subst P (sym is) s
+
+-- a read leaves the words as they were
+pub own_same : (v w : M) (own : List ℕ) (i : ℕ) → AreWordsOf v.0 own → (words_of w.0.seen ≡ set (words_of v.0.seen) i (get_or (words_of v.0.seen) i 0)) → w.0.view.terms ≡ v.0.view.terms → w.0.view.left ≡ v.0.view.left → AreWordsOf w.0 own
+own_same v w own i are is terms left = record {
+  words = are.words ∙ sym (is ∙ set-get_or (words_of v.0.seen) i 0);
+  count = are.count ∙ ap (λ (t : Terms). cell_count t + 1) (sym terms);
+  none_left = left ∙ are.none_left;
+}
+
+pub own_count : (l : LoadsView) (p : PassView) (table : TableId) (v : Known) (own : List ℕ) → record { table = table; view = v.view; seen = v.seen } ≡ p → IsPassOf l p → AreWordsOf v own → length own ≡ cell_count l.terms + 1
+own_count l p table v own is of are = are.count ∙ ap (λ (t : Terms). cell_count t + 1) (ap (λ (q : PassView). q.view.terms) is ∙ of.1)

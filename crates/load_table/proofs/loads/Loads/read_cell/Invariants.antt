@@ -1,0 +1,4 @@
+use Rattle.load_table.proofs.loads.Loads.read_cell.Given as goal
+
+abbrev pub ghosts-read_at : goal.ghosts-read_at
+ghosts-read_at a = record { cell = a.cell }
