@@ -173,14 +173,18 @@ pub fn bound_of<R: Threads + Sync>(
     bound_in(rt, alloc, on.net, on.graph, lengths, rows, threads)
 }
 
-/// Whether noting the rows of so many paths takes no longer than the start of a thread, or there is to be one thread alone.
-fn is_short(rt: &impl Threads, paths: usize, threads: u16) -> bool {
-    paths < PATHS_OF_A_THREAD || mcf_base::thread_count(rt, threads) == 1
+/// How many threads are left for a bound, of at most so many, where one notes the rows of so many paths meanwhile. None, where that
+/// takes no longer than the start of a thread, or there is to be one thread alone.
+fn threads_beside(rt: &impl Threads, paths: usize, threads: u16) -> u16 {
+    if paths < PATHS_OF_A_THREAD {
+        return 0;
+    }
+    (mcf_base::thread_count(rt, threads) - 1) as u16
 }
 
 /// Notes the rows of the phase that the hands have routed, and makes the bound of the loads of all phases, in at most so many threads.
-/// Where that pays, and there may be several, one more notes the rows meanwhile. `Err` is for want of memory, and then the search can't
-/// go on.
+/// Where that pays, and there may be several, one of them notes the rows meanwhile. `Err` is for want of memory, and then the search
+/// can't go on.
 pub fn note_and_bound<R: Threads + Sync>(
     rt: &R,
     alloc: Global,
@@ -213,7 +217,8 @@ pub fn note_and_bound<R: Threads + Sync>(
     let history = &mut search.history;
     let sought = &mut search.sought;
     let room = &mut search.room;
-    let alone = is_short(rt, places.len(), threads);
+    let beside = threads_beside(rt, places.len(), threads);
+    let alone = beside == 0;
     if alone {
         history.note_phase(alloc, net, places, sought)?;
         return bound_of(rt, alloc, on, setting, loads, room, threads);
@@ -227,7 +232,7 @@ pub fn note_and_bound<R: Threads + Sync>(
         requires { CanBeBounded on.now.net.now setting.now loads.now room.now }
         ensures { OnOk result (IsBoundRoom on.entry.now.net.now room.exit.now)
             × IfOk result (IsBoundUnder on.entry.now.net.now setting.entry.now loads.entry.now) }
-    { bound_of(rt, alloc, on, setting, loads, room, threads) };
+    { bound_of(rt, alloc, on, setting, loads, room, beside) };
     let (noted, bounded) = join_mut(rt, &mut note, &mut bound);
     noted?;
     bounded

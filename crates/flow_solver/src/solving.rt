@@ -211,8 +211,8 @@ pub fn solve<G: Gate, R: Threads + Sync>(
     solve_in(rt, alloc, net, options, gate, MAX_WORKERS)
 }
 
-/// As `solve`, with bounds that take at most so many threads, their caller's among them, beside which one more may note the rows; 0
-/// stands for 1. So with 1, and with one worker, a solve starts no thread of its own.
+/// As `solve`, with bounds that are made in at most so many threads, their caller's among them, one of which may note the rows
+/// meanwhile; 0 stands for 1. So with 1, and with one worker, a solve starts no thread of its own.
 pub fn solve_in<G: Gate, R: Threads + Sync>(
     rt: &R,
     alloc: Global,
