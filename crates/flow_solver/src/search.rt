@@ -30,6 +30,10 @@ use std::thread::{Threads, join_mut};
 /// From so many commodities on, noting the rows of their paths takes longer than the start of a thread.
 const PATHS_OF_A_THREAD: usize = 4_096;
 
+/// From so many sources times cells on, threads make a bound sooner than a worker that is alone does: other processors have to be woken
+/// for them in each phase, which can take longer than their start.
+const WORK_OF_SEVERAL: usize = 1_000_000;
+
 /// Room for bounds, from one to the next: a length for each cell, and a row for each source.
 #[derive(Drop)]
 pub struct BoundRoom {
@@ -173,6 +177,17 @@ pub fn bound_of<R: Threads + Sync>(
     bound_in(rt, alloc, on.net, on.graph, lengths, rows, threads)
 }
 
+/// In how many threads rows are noted and a bound is made, of at most so many, where so many workers have routed: in one, where one
+/// worker has routed a network that is not large.
+fn threads_for(on: &Prepared<'_>, workers: usize, most: u16) -> u16 {
+    let work = on.groups.count() as usize * on.net.cells().len();
+    if workers == 1 && work < WORK_OF_SEVERAL {
+        1
+    } else {
+        most
+    }
+}
+
 /// How many threads are left for a bound, of at most so many, where one notes the rows of so many paths meanwhile. None, where that
 /// takes no longer than the start of a thread, or there is to be one thread alone.
 fn threads_beside(rt: &impl Threads, paths: usize, threads: u16) -> u16 {
@@ -217,6 +232,7 @@ pub fn note_and_bound<R: Threads + Sync>(
     let history = &mut search.history;
     let sought = &mut search.sought;
     let room = &mut search.room;
+    let threads = threads_for(on, search.hands.len(), threads);
     let beside = threads_beside(rt, places.len(), threads);
     let alone = beside == 0;
     if alone {
