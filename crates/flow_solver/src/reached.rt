@@ -43,7 +43,7 @@ fn measured(net: &Net, loads: &[u64]) -> Fill
     fullest(net.cells(), loads)
 }
 
-/// The first phase, and the bound after it, in at most so many threads, one of which may note the rows meanwhile.
+/// The first phase, and the bound after it. The bound is made in at most so many threads, one of which may note the rows meanwhile.
 pub fn first<G: Gate, R: Threads + Sync>(
     rt: &R,
     alloc: Global,
@@ -72,8 +72,8 @@ pub fn first<G: Gate, R: Threads + Sync>(
     })
 }
 
-/// One phase more, and the lesser of the least bound and the bound after it, in at most so many threads, one of which may note the
-/// rows meanwhile.
+/// One phase more, and the lesser of the least bound and the bound after it. That is made in at most so many threads, one of which may
+/// note the rows meanwhile.
 pub fn next<G: Gate, R: Threads + Sync>(
     rt: &R,
     alloc: Global,

@@ -1,6 +1,6 @@
 //! Loads, hands and history, from phase to phase.
 
-ghost use Rattle.std.specs.Prelude.{◌≡◌, ℕ, ◌+◌, ◌*◌, ◌<◌, ◌≤◌, List, ◌++◌, ◌∷◌, [], IfOk, OnOk, None, length, replicate, slice_index_or};
+ghost use Rattle.std.specs.Prelude.{◌≡◌, ℕ, ◌+◌, ◌*◌, ◌<◌, ◌≤◌, List, ◌++◌, ◌∷◌, [], IfOk, OnOk, None, length, max, replicate, slice_index_or};
 ghost use Rattle.flow_model.specs.Least.{HasNoCut};
 ghost use Rattle.flow_model.specs.Lengths.{IsSetting};
 ghost use Rattle.flow_core.specs.Core.{IsStart};
@@ -179,7 +179,9 @@ pub fn bound_of<R: Threads + Sync>(
 
 /// In how many threads rows are noted and a bound is made, of at most so many, where so many workers have routed: in one, where one
 /// worker has routed a network that is not large.
-fn threads_for(on: &Prepared<'_>, workers: usize, most: u16) -> u16 {
+fn threads_for(on: &Prepared<'_>, workers: usize, most: u16) -> u16
+    ensures { result ≤ max most 1 }
+{
     let work = on.groups.count() as usize * on.net.cells().len();
     if workers == 1 && work < WORK_OF_SEVERAL {
         1
@@ -190,7 +192,9 @@ fn threads_for(on: &Prepared<'_>, workers: usize, most: u16) -> u16 {
 
 /// How many threads are left for a bound, of at most so many, where one notes the rows of so many paths meanwhile. None, where that
 /// takes no longer than the start of a thread, or there is to be one thread alone.
-fn threads_beside(rt: &impl Threads, paths: usize, threads: u16) -> u16 {
+fn threads_beside(rt: &impl Threads, paths: usize, threads: u16) -> u16
+    ensures { result < max threads 1 }
+{
     if paths < PATHS_OF_A_THREAD {
         return 0;
     }
@@ -234,8 +238,8 @@ pub fn note_and_bound<R: Threads + Sync>(
     let room = &mut search.room;
     let threads = threads_for(on, search.hands.len(), threads);
     let beside = threads_beside(rt, places.len(), threads);
-    let alone = beside == 0;
-    if alone {
+    let in_turn = beside == 0;
+    if in_turn {
         history.note_phase(alloc, net, places, sought)?;
         return bound_of(rt, alloc, on, setting, loads, room, threads);
     }

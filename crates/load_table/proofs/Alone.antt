@@ -4,7 +4,7 @@ use Rattle.std.proofs.lemmas.List.{set-get_or, take_more, length-take, take_all}
 use mathlib.Core.Option.{Option, none}
 use Rattle.atomic_table.specs.Table.{State, step, keeps, Allows}
 use Rattle.flow_core.specs.Core as core
-use Rattle.flow_core.specs.Core.{Terms, IsStart, Event, start, after_schedule, read, add, has_read, has_added, amount_of, cell_count}
+use Rattle.flow_core.specs.Core.{Terms, IsStart, Event, Leads, start, after_schedule, read, add, has_read, has_added, amount_of, cell_count}
 use Rattle.flow_core.specs.Laws.{Loads}
 use Rattle.flow_core.proofs.Steps.{laws, loads_of}
 use Rattle.mcf_limits.specs.declared.TheConstants.{MAX_LENGTH}
@@ -16,7 +16,7 @@ use Rattle.load_table.specs.Seen.{LoadsView, PassView, IsPassOf, AreWordsOf}
 use Rattle.load_table.specs.Views.{with_work}
 use Rattle.load_table.specs.Reading.{OneWhere, IsFresh, reads_all}
 use Rattle.load_table.proofs.Works.{reads_none, reads_one, may_read}
-use Rattle.load_table.proofs.Keeps.{Can, claims_of, reads_of, adds_of, only_view}
+use Rattle.load_table.proofs.Keeps.{Can, leads-on, step_leads, claims_of, reads_of, adds_of, only_view}
 
 abbrev St : Type 0
 St = State (Unit {0}) Known
@@ -56,7 +56,7 @@ adds_alone t slots id n c me is same may =
     (λ homes k. adds_of t slots 0 n c a me _ k refl same me.0.view.hands refl may (ap (λ (x : Terms). amount_of x n) same))
 
 -- any value stands for none at a place that is there
-any_else : (xs : List ℕ) (i d e : ℕ) → i < length xs → get_or xs i d ≡ get_or xs i e
+pub any_else : (xs : List ℕ) (i d e : ℕ) → i < length xs → get_or xs i d ≡ get_or xs i e
 any_else [] i d e h = absurd (omega arith)
 any_else (x ∷ xs) zero d e h = refl
 any_else (x ∷ xs) (suc i) d e h = any_else xs i d e (omega arith)
@@ -71,6 +71,7 @@ record ReadSoFar (t : Terms) (homes : List (Option (Unit {0}))) (v : Known) (c :
   kept : Kept t (own_state homes known)
   view_is : known.view ≡ with_work (reads_all (take c v.seen.loads)) v.view
   words : words_of known.seen ≡ words_of v.seen
+  since : Leads t v.seen known.seen
 
 -- the loads that were seen are those after the events
 loads_law : (t : Terms) (homes : List (Option (Unit {0}))) (v : Known) (k : Kept t (own_state homes v)) → Loads t record { claims = v.seen.claims; loads = v.seen.loads; workers = (after_schedule t (start t) k.events).workers }
@@ -80,7 +81,7 @@ loads_law t homes v k =
     subst (Loads t) (ap parts (sym k.words)) (loads_of t old k.is_start (laws t k.events k.is_start k.legal))
 
 read_so_far : (t : Terms) (homes : List (Option (Unit {0}))) (v : Known) → Kept t (own_state homes v) → v.view.terms ≡ t → OneWhere IsFresh v.view.hands → (c : ℕ) → c ≤ cell_count t → ReadSoFar t homes v c
-read_so_far t homes v k same fresh zero few = record { known = v; kept = k; view_is = reads_none v.view fresh; words = refl }
+read_so_far t homes v k same fresh zero few = record { known = v; kept = k; view_is = reads_none v.view fresh; words = refl; since = ([], tt, refl) }
 read_so_far t homes v k same fresh (suc c) few =
     let r = read_so_far t homes v k same fresh c (omega arith) in
     let u = r.known in
@@ -98,6 +99,7 @@ read_so_far t homes v k same fresh (suc c) few =
       kept = subst (λ (ws : List ℕ). Kept t record { words = ws; homes = homes; views = got.0 ∷ [] }) {y = words_of got.0.seen} (sym got.3) got.1;
       view_is = got.2.view_is ∙ (reads_one x (take c v.seen.loads) v.view u.view r.view_is ∙ ap (λ (rs : List ℕ). with_work (reads_all rs) v.view) all);
       words = words ∙ r.words;
+      since = leads-on t v.seen u.seen got.0.seen r.since (subst (λ (x : Terms). Leads x u.seen got.0.seen) of (step_leads u.view.terms u.view.hands u.seen got.0.seen read (c + 1) x got.2.step));
     }
 
 pub all_read : (t : Terms) (slots id : ℕ) (me : M) → t.workers ≡ 1 → me.0.view.terms ≡ t → OneWhere IsFresh me.0.view.hands
@@ -120,6 +122,7 @@ all_read t slots id me is same fresh s h _ at small =
         rest_is = refl;
         small = λ i d inside. (let w = law.within i (let l = law.cells in omega arith) in subst (λ (x : ℕ). x ≤ MAX_LENGTH) (any_else v.seen.loads i 0 d inside) w);
         words = r.words;
+        since = subst (λ (x : Terms). Leads x v.seen r.known.seen) (sym same) r.since;
       },
     )
 

@@ -21,7 +21,7 @@ use Rattle.load_table.specs.declared.view.Hand.{Hand}
 use Rattle.load_table.specs.declared.view.Known.{Known}
 use Rattle.load_table.specs.Views.{known, first_known, times_in, hands_of, made_of, splits_of, first_works, with_work, keeps_known, cuts_known, joins_known, spent_known}
 use Rattle.flow_model.specs.declared.net.Commodity.{Commodity}
-use Rattle.load_table.specs.Rule.{AllFallBelow, AllFit, FitsView, Kept, Holds, words_of, IsStep, M, Claimed, HasRead, Added, MayClaim, LastReads, MayRead, MayAdd, MayClose, Closes}
+use Rattle.load_table.specs.Rule.{AllFallBelow, AllFit, FitsView, Kept, Holds, words_of, IsStep, first_number, M, Claimed, HasRead, Added, MayClaim, LastReads, MayRead, MayAdd, MayClose, Closes}
 use Rattle.load_table.proofs.Totals.{total-put, total-snoc, total-append, total-of, total-two, total-whole, same_lists}
 
 abbrev St : Type 0
@@ -40,12 +40,16 @@ AreLegal-snoc t s (d ∷ es) e legal now = (legal.0, AreLegal-snoc t (after_even
 leads-more : (t : Terms) (a s : core.State) (e : Event) → Leads t a s → IsLegal t s e → Leads t a (after_event t s e)
 leads-more t a s e l now = (l.0 ++ e ∷ [], AreLegal-snoc t a l.0 e l.1 (subst (λ (x : core.State). IsLegal t x e) (sym l.2) now), schedule-snoc t a l.0 e ∙ ap (λ (x : core.State). after_event t x e) l.2)
 
-leads-on : (t : Terms) (a b c : core.State) → Leads t a b → Leads t b c → Leads t a c
+pub leads-on : (t : Terms) (a b c : core.State) → Leads t a b → Leads t b c → Leads t a c
 leads-on t a b c l m = go l.0 a l.1 l.2
   where
     go : (es : List Event) (x : core.State) → AreLegal t x es → after_schedule t x es ≡ b → Leads t x c
     go [] x legal is = subst (λ (y : core.State). Leads t y c) (sym is) m
     go (e ∷ es) x legal is = let r = go es (after_event t x e) legal.1 is in (e ∷ r.0, (legal.0, r.1), r.2)
+
+-- a step leads on from what the pass saw
+pub step_leads : (t : Terms) (hands : List Hand) (seen now : core.State) (event : ℕ → Event) (word found : ℕ) → IsStep t hands seen now event word found → Leads t seen now
+step_leads t hands seen now event word found s = subst (Leads t seen) (sym s.now_is) (leads-more t seen s.before (event (first_number hands)) s.since s.legal)
 
 -- hands fit on where another worker gets on
 

@@ -1,5 +1,7 @@
 -- How the one worker of a view gets on.
-use Rattle.std.proofs.Common.{◌≡◌, ℕ, ◌<◌, List, [], ◌∷◌, ◌++◌, length, refl, sym, ap, ◌∙◌, subst}
+use Rattle.std.proofs.Common.{◌≡◌, ℕ, ◌+◌, ◌<◌, ◌≤◌, List, [], ◌∷◌, ◌++◌, length, get_or, set, refl, sym, ap, ◌∙◌, subst, arith, get_or-set_same, get_or-set_other}
+use mathlib.Core.Logic.{dite}
+use native.Mathlib.Decide.{ℕ_discrete}
 use Rattle.flow_core.specs.declared.state.Entry.{Entry}
 use Rattle.flow_core.specs.declared.state.Worker.{Worker}
 use Rattle.flow_core.specs.Core.{Terms, entry, worker, cell_count, with_read, has_read}
@@ -56,3 +58,9 @@ may_read t c rs v w one is here few = subst (λ (x : View). MayRead t c x.hands)
     hands [] h = absurd h
     hands (x ∷ []) h = log x.work.log h
     hands (x ∷ y ∷ xs) h = absurd h
+
+-- numbers within a limit, and one more
+pub small-more : (xs : List ℕ) (c x most : ℕ) → c < length xs → ((k : ℕ) → k < c → get_or xs k 0 ≤ most) → x ≤ most → (k : ℕ) → k < c + 1 → get_or (set xs c x) k 0 ≤ most
+small-more xs c x most inside below here k l = dite (ℕ_discrete k c)
+    (λ same. subst (λ (j : ℕ). get_or (set xs c x) j 0 ≤ most) (sym same) (subst (λ (y : ℕ). y ≤ most) (sym (get_or-set_same xs c x 0 inside)) here))
+    (λ apart. subst (λ (y : ℕ). y ≤ most) (sym (get_or-set_other xs c k x 0 apart)) (below k (omega arith)))

@@ -42,10 +42,11 @@ pub record Kept (t : Terms) (s : State (Unit {0}) Known) : Type 0 where
 abbrev pub words_of : core.State → List ℕ
 words_of s = s.claims ∷ s.loads
 
--- what one worker alone has seen is what there is: its words are its own, and those of the table stand still
+-- some schedule leads to the words that one worker alone has seen, which are its own: of the table's words nothing is said
 abbrev pub KeptAlone : Terms → State (Unit {0}) Known → Type 0
 KeptAlone t s = (v : Known) × (s.views ≡ v ∷ []) × Kept t record { words = words_of v.seen; homes = s.homes; views = v ∷ [] }
 
+-- the rule: of several workers, some schedule leads to the table's words; of one, to those that it has seen
 pub record Holds (t : Terms) (s : State (Unit {0}) Known) : Type 0 where
   pub one : t.workers ≡ 1 → KeptAlone t s
   pub several : 1 < t.workers → Kept t s
@@ -97,11 +98,12 @@ HasReadAlone c s v _ w = Turned (c + 1) (λ n. n) (HasRead (step s.slots (c + 1)
 abbrev pub AddedAlone : ℕ → ℕ → Step (Unit {0}) → M → ℕ → M → Type 0
 AddedAlone k c s v _ w = let a = amount_of v.0.view.terms k in Turned (c + 1) (λ n. (n + a) % 2 ^ 64) (Added k (step s.slots (c + 1) a 0 none) v) v w
 
--- one worker alone has read all cells, within their limit, and the words are as before
+-- one worker alone has read all cells, within their limit, by some schedule from what it saw, and the words are as before
 pub record HasReadAll (v w : M) : Type 0 where
   pub view_is : w.0.view ≡ with_work (reads_all v.0.seen.loads) v.0.view
   pub rest_is : w.1 ≡ v.1
   pub small : All (λ x. x ≤ MAX_LENGTH) v.0.seen.loads
+  pub since : Leads v.0.view.terms v.0.seen w.0.seen
   pub words : words_of w.0.seen ≡ words_of v.0.seen
 
 -- the tickets of the hands are below this one, and ascend

@@ -1,4 +1,5 @@
-//! The words that workers share in a phase, over a table of atomic words: each call is an event of the core, and no call waits.
+//! The words that workers share in a phase, over a table of atomic words: a claim, a read and an add are an event of the core each, and
+//! no call waits. One worker alone has the words to itself.
 #![tactic(auto)]
 
 mod loads;

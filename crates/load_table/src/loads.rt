@@ -2,7 +2,7 @@
 //! words to itself.
 
 ghost use Rattle.std.specs.Prelude.{◌≡◌, ℕ, ◌+◌, ◌-◌, ◌^◌, ◌<◌, ◌≤◌, [], ◌∷◌, map, length, All, IfOk};
-ghost use Rattle.flow_core.specs.Core.{Terms, IsStart, start, claim, read, add, claimed, has_read, has_added, idle};
+ghost use Rattle.flow_core.specs.Core.{Terms, IsStart, Leads, start, claim, read, add, claimed, has_read, has_added, idle};
 ghost use Rattle.flow_model.specs.Groups.{group_count};
 ghost use Rattle.load_table.specs.Seen.{IsPassOf, HasStepped};
 ghost use Rattle.load_table.specs.Views.{hand, first_view, with_work, cut, cut_off, joined};
@@ -67,7 +67,7 @@ fn amounts_of(alloc: Global, commodities: &[Commodity]) -> Result<Vec<u64>, Allo
     commodities.iter().map(|k| k.amount).collect(alloc)
 }
 
-fn words_of(alloc: Global, base: &[u64]) -> Result<Vec<u64>, AllocError>
+fn words_over(alloc: Global, base: &[u64]) -> Result<Vec<u64>, AllocError>
     ensures { IfOk result (λ v. v.items ≡ 0 ∷ base.now) }
 {
     let mut words = Vec::new(alloc);
@@ -101,7 +101,7 @@ impl Loads {
         ensures seen { IfOk result (λ r. r.1.seen ≡ start r.0.terms) }
     {
         let amounts = amounts_of(alloc, net.commodities())?;
-        let words = words_of(alloc, base)?;
+        let words = words_over(alloc, base)?;
         let origin = Origin {
             net: Snapshot::of(net),
             setting,
@@ -181,7 +181,7 @@ impl Loads {
         found
     }
 
-    /// Takes a ticket by one `fetch_add` on word 0. One below the number of groups is the group to route, any other says that all have been claimed.
+    /// Takes a ticket by one `fetch_add` on word 0, or plainly where there is one worker. One below the number of groups is the group to route, any other says that all have been claimed.
     pub fn claim(&self, pass: &mut Pass) -> u64
         requires of { IsPassOf self.now pass.old }
         requires may { MayClaim self.now.terms pass.old.view.hands }
@@ -226,7 +226,7 @@ impl Loads {
         found
     }
 
-    /// Reads a cell's word by one load. Cells are read in order.
+    /// Reads a cell's word by one load, or plainly where there is one worker. Cells are read in order.
     pub fn read_cell(&self, pass: &mut Pass, cell: u16) -> u64
         requires of { IsPassOf self.now pass.old }
         requires may { MayRead self.now.terms cell pass.old.view.hands }
@@ -248,6 +248,7 @@ impl Loads {
         requires room { length reads.old ≡ length self.now.terms.net.cells }
         ensures of { IsPassOf self.now pass.new }
         ensures view { pass.new.view ≡ with_work (reads_all reads.new) pass.old.view }
+        ensures since { Leads self.now.terms pass.old.seen pass.new.seen }
         ensures small { All (λ x. x ≤ MAX_LENGTH) reads.new }
     {
         for cell in 0..self.cell_count() {
@@ -262,19 +263,21 @@ impl Loads {
         requires room { length reads.old ≡ length self.now.terms.net.cells }
         ensures of { IsPassOf self.now pass.new }
         ensures view { pass.new.view ≡ with_work (reads_all reads.new) pass.old.view }
+        ensures since { Leads self.now.terms pass.old.seen pass.new.seen }
         ensures small { All (λ x. x ≤ MAX_LENGTH) reads.new }
     {
         self.table.shared.load::<ReadsAll>(&mut pass.seat, 0);
         reads.copy_from_slice(&pass.own[1..]);
     }
 
-    /// Reads each cell's word by one load, in order, for the group that was claimed.
+    /// Reads each cell's word by one load, in order, for the group that was claimed; where there is one worker, all of them plainly.
     pub fn read_all(&self, pass: &mut Pass, reads: &mut [u64])
         requires of { IsPassOf self.now pass.old }
         requires fresh { OneWhere IsFresh pass.old.view.hands }
         requires room { length reads.old ≡ length self.now.terms.net.cells }
         ensures of { IsPassOf self.now pass.new }
         ensures view { pass.new.view ≡ with_work (reads_all reads.new) pass.old.view }
+        ensures since { Leads self.now.terms pass.old.seen pass.new.seen }
         ensures small { All (λ x. x ≤ MAX_LENGTH) reads.new }
     {
         if self.alone {
@@ -319,7 +322,7 @@ impl Loads {
         found
     }
 
-    /// Adds a commodity's amount to a cell by one `fetch_add`, and answers the word before it.
+    /// Adds a commodity's amount to a cell by one `fetch_add`, or plainly where there is one worker, and answers the word before it.
     pub fn add_cell(&self, pass: &mut Pass, k: u32, cell: u16) -> u64
         requires of { IsPassOf self.now pass.old }
         requires may { MayAdd self.now.terms k cell pass.old.view.hands }

@@ -32,7 +32,7 @@ HasRoomOf net h = IfSome h.room (IsRoomOf net)
 abbrev pub IsFresh : Network → ℕ → Hand → Type 0
 IsFresh net k h = (h.worker ≡ k) × (h.turn ≡ None) × (h.routes ≡ []) × (h.scratch.nodes ≡ net.nodes) × HasRoomOf net h
 
--- the hand has the pass of its worker, with nothing done
+-- the hand has the pass of its worker, with nothing done, and room of the network, or none yet
 abbrev pub IsReady : LoadsView → Hand → Type 0
 IsReady l h = OfTurn h.turn (λ w. IsPassOf l w.pass × (w.pass.view ≡ start_view l.terms h.worker) × (h.routes ≡ []) × (h.scratch.nodes ≡ l.terms.net.nodes) × HasRoomOf l.terms.net h)
 
@@ -48,6 +48,7 @@ IsSameWorker h g = (g.worker ≡ h.worker) × (g.scratch.nodes ≡ h.scratch.nod
 abbrev pub AreSameWorkers : List Hand → List Hand → Type 0
 AreSameWorkers old new = (k : ℕ) (d : Hand) → k < length old → IsSameWorker (slice_index_or old k d) (slice_index_or new k d)
 
+-- the hand of the same worker after the work, whose room, if it has any, is of the network
 abbrev pub Runs : LoadsView → Hand → Hand → Type 0
 Runs l h g = IsSameWorker h g × IsDone l g × HasRoomOf l.terms.net g
 

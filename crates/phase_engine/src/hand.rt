@@ -3,8 +3,8 @@
 use crate::{Room, Routes, Worked};
 use dijkstra_paths::Scratch;
 
-/// What a worker works with, and what it has done. Its pass stands in the turn while a phase lasts; the rest is kept from phase to
-/// phase, and there is no room before the first.
+/// What a worker works with, and what it has done. Its pass stands in the turn while a phase lasts. The scratch, the room and the memory
+/// of the routes are kept from phase to phase; before the first there is no room.
 #[derive(Drop)]
 pub struct Hand {
     pub worker: u16,

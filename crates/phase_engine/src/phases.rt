@@ -31,7 +31,8 @@ fn clear_all(hands: &mut [Hand])
     }
 }
 
-/// One phase over the loads, which grow by the routes of the hands. The words and the pass are new ones of these loads.
+/// One phase over the loads, which grow by the routes of the hands. The words and the pass are new ones of these loads; a hand's room is
+/// of this network, or it has none.
 /// Where some worker has stopped the phase is whole, although another was refused room. Else `Err`, for want of memory,
 /// is the pass of all workers, none of which has stopped: the loads are as before, and the routes are cleared.
 pub fn phase<G: Gate, R: Threads + Sync>(

@@ -1,6 +1,6 @@
 //! A worker's whole work: it claims groups until all are claimed, or room is refused.
 
-ghost use Rattle.std.specs.Prelude.{◌≡◌, ℕ, ◌+◌, ◌*◌, ◌<◌, ◌≤◌, ◌++◌, [], ◌∷◌, length, IfSome};
+ghost use Rattle.std.specs.Prelude.{◌≡◌, ℕ, ◌+◌, ◌*◌, ◌<◌, ◌≤◌, ◌++◌, [], ◌∷◌, length, IfSome, IsFalse, IsSome};
 ghost use Rattle.flow_model.specs.Groups.{group_count, members_of};
 ghost use Rattle.flow_model.specs.Network.{IsNetwork};
 ghost use Rattle.flow_model.specs.Least.{HasNoCut};
@@ -162,6 +162,7 @@ pub fn work<G: Gate>(
     ensures worked { HasWorked shared.now.loads.now.terms worker pass.view result.pass.view
         result.memory routes.new }
     ensures room { IfSome room.new (IsRoomOf shared.now.input.now.net.now) }
+    ensures kept { IsFalse result.memory → IsSome room.new }
     ensures scratch { (scratch.new.nodes ≡ scratch.old.nodes) × (scratch.new.cells ≡ scratch.old.cells) }
 {
     let mut pass = pass;

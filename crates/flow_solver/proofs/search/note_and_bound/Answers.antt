@@ -10,8 +10,8 @@ on_any : {T E P : Type 0} (r : Result T E) → P → OnOk r P
 on_any (Ok x) p = p
 on_any (Err e) p = tt
 
-pub returns-then-alone-clause-phases : goal.returns-then-alone-clause-phases
-returns-then-alone-clause-phases g c =
+pub returns-then-in_turn-clause-phases : goal.returns-then-in_turn-clause-phases
+returns-then-in_turn-clause-phases g c =
     let hands = c.args.search.now.hands.items in
     let places : ArePlaces c.args.on.now.net.now hands c.as_slice-places.result.now =
     subst (λ (ps : List Place). ArePlaces c.args.on.now.net.now hands ps) (sym c.as_slice-places.ensures.value)
