@@ -1,6 +1,6 @@
 -- The steps of one worker alone, whose words are its own.
 use Rattle.std.proofs.Common.{◌≡◌, ℕ, zero, suc, ◌+◌, ◌-◌, ◌%◌, ◌<◌, ◌≤◌, List, [], ◌∷◌, ◌++◌, take, length, min, get_or, set, refl, sym, ap, ◌∙◌, subst, arith, length-set, drop, add-one}
-use Rattle.std.proofs.lemmas.List.{set-get_or, take_more, length-take, take_all}
+use Rattle.std.proofs.lemmas.List.{get_or_default, set-get_or, take_more, length-take, take_all}
 use mathlib.Core.Option.{Option, none}
 use Rattle.atomic_table.specs.Table.{State, step, keeps, Allows}
 use Rattle.flow_core.specs.Core as core
@@ -11,7 +11,7 @@ use Rattle.mcf_limits.specs.declared.TheConstants.{MAX_LENGTH}
 use Rattle.atomic_table.specs.Seated.{TableId}
 use Rattle.load_table.specs.declared.view.Known.{Known}
 use Rattle.load_table.specs.declared.view.View.{View}
-use Rattle.load_table.specs.Rule.{Kept, Holds, words_of, M, Claimed, HasRead, Added, ClaimedAlone, HasReadAlone, AddedAlone, Turned, HasReadAll, Steps, IsStep, MayClaim, MayRead, MayAdd}
+use Rattle.load_table.specs.Rule.{Kept, Holds, words_of, M, Claimed, HasRead, Added, ClaimedAlone, HasReadAlone, AddedAlone, HasFoundAndPut, HasReadAll, Steps, IsStep, MayClaim, MayRead, MayAdd}
 use Rattle.load_table.specs.Seen.{LoadsView, PassView, IsPassOf, AreWordsOf}
 use Rattle.load_table.specs.Views.{with_work}
 use Rattle.load_table.specs.Reading.{OneWhere, IsFresh, reads_all}
@@ -28,7 +28,7 @@ own_state homes v = record { words = words_of v.seen; homes = homes; views = v �
 -- a step that can be taken on the words that were seen can be taken beside a load of the table
 alone : (t : Terms) (slots id word i : ℕ) (me : M) (f : ℕ → ℕ) (tells : ℕ → M → Type 0) → t.workers ≡ 1
     → ((homes : List (Option (Unit {0}))) → Kept t (own_state homes me.0) → Can t (own_state homes me.0) 0 me i (f (get_or (words_of me.0.seen) i 0)) (tells (get_or (words_of me.0.seen) i 0)))
-    → Allows (Holds t) slots id me word (λ n. n) (λ _ w. Turned i f tells me w)
+    → Allows (Holds t) slots id me word (λ n. n) (λ _ w. HasFoundAndPut i f tells me w)
 alone t slots id word i me f tells is can s h _ at small =
     let k = h.one is in
     let only = only_view s.views id k.0 me.0 k.1 at in
@@ -54,12 +54,6 @@ adds_alone t slots id n c me is same may =
     let a = amount_of me.0.view.terms n in
     alone t slots id 0 (c + 1) me (λ m. (m + a) % 18446744073709551616) (Added n (step slots (c + 1) a 0 none) me) is
     (λ homes k. adds_of t slots 0 n c a me _ k refl same me.0.view.hands refl may (ap (λ (x : Terms). amount_of x n) same))
-
--- any value stands for none at a place that is there
-pub any_else : (xs : List ℕ) (i d e : ℕ) → i < length xs → get_or xs i d ≡ get_or xs i e
-any_else [] i d e h = absurd (omega arith)
-any_else (x ∷ xs) zero d e h = refl
-any_else (x ∷ xs) (suc i) d e h = any_else xs i d e (omega arith)
 
 pub own_rest : (s : core.State) (own : List ℕ) (n : ℕ) → own ≡ words_of s → length own ≤ n + 1 → take n (drop 1 own) ≡ s.loads
 own_rest s own n is few = ap (λ (ws : List ℕ). take n (drop 1 ws)) is ∙ take_all n s.loads (let l = ap (λ (ws : List ℕ). length ws) is in omega arith)
@@ -120,7 +114,7 @@ all_read t slots id me is same fresh s h _ at small =
       record {
         view_is = r.view_is ∙ ap (λ (rs : List ℕ). with_work (reads_all rs) v.view) whole;
         rest_is = refl;
-        small = λ i d inside. (let w = law.within i (let l = law.cells in omega arith) in subst (λ (x : ℕ). x ≤ MAX_LENGTH) (any_else v.seen.loads i 0 d inside) w);
+        small = λ i d inside. (let w = law.within i (let l = law.cells in omega arith) in subst (λ (x : ℕ). x ≤ MAX_LENGTH) (get_or_default v.seen.loads i 0 d inside) w);
         words = r.words;
         since = subst (λ (x : Terms). Leads x v.seen r.known.seen) (sym same) r.since;
       },
@@ -138,7 +132,7 @@ outside l p table v now event word x is of s =
     subst (λ (t : Terms). IsStep t p.view.hands p.seen now event word x) of.1 here
 
 pub word_at : (v : Known) (own : List ℕ) (i x : ℕ) → AreWordsOf v own → i < length own → x ≡ get_or own i x → x ≡ get_or (words_of v.seen) i 0
-word_at v own i x are inside is = is ∙ (any_else own i x 0 inside ∙ ap (λ (ws : List ℕ). get_or ws i 0) are.words)
+word_at v own i x are inside is = is ∙ (get_or_default own i x 0 inside ∙ ap (λ (ws : List ℕ). get_or ws i 0) are.words)
 
 pub own_after : (v w : M) (own : List ℕ) (i y : ℕ) → AreWordsOf v.0 own → (words_of w.0.seen ≡ set (words_of v.0.seen) i y) → w.0.view.terms ≡ v.0.view.terms → w.0.view.left ≡ v.0.view.left → AreWordsOf w.0 (set own i y)
 own_after v w own i y are is terms left = record {

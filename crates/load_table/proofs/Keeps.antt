@@ -1,7 +1,7 @@
 -- Each step keeps the rule.
 use Rattle.std.proofs.Common.{◌≡◌, ◌≢◌, ℕ, zero, suc, ◌+◌, ◌-◌, ◌%◌, ◌^◌, ◌<◌, ◌≤◌, Bool, true, false, nat_eq, nat_lt, List, [], ◌∷◌, ◌++◌, length, get_or, set, min, refl, sym, ap, ◌∙◌, subst, ⊎_elim, arith, add-one, get_or-set_same, get_or-set_other, length-set, length-append, eq-eqb, ne_eqb}
 use Rattle.std.proofs.lemmas.Bool.Decides.{nat_tests}
-use Rattle.std.proofs.lemmas.List.{set-get_or, length-map}
+use Rattle.std.proofs.lemmas.List.{get_or_default, set-get_or, length-map}
 use mathlib.Core.Logic.{dite}
 use native.Mathlib.Decide.{ℕ_discrete}
 use mathlib.Core.Option.{none, some, some-ne-none, some-injective}
@@ -546,13 +546,8 @@ add_inside t n c (h ∷ []) may = (may.0, last h.work.log may.1)
     last (e ∷ es) l = l.1
 add_inside t n c (h ∷ i ∷ hs) may = absurd may
 
-any_default : (xs : List ℕ) (i d e : ℕ) → i < length xs → get_or xs i d ≡ get_or xs i e
-any_default [] i d e h = absurd (omega arith)
-any_default (x ∷ xs) zero d e h = refl
-any_default (x ∷ xs) (suc i) d e h = any_default xs i d e (omega arith)
-
 pub amount_is : (t : Terms) (n a : ℕ) → n < commodity_count t → a ≡ get_or (amounts t) n a → a ≡ amount_of t n
-amount_is t n a few is = is ∙ any_default (amounts t) n a 0 (let m = length-map t.net.commodities (λ (k : Commodity). k.amount) in omega arith)
+amount_is t n a few is = is ∙ get_or_default (amounts t) n a 0 (let m = length-map t.net.commodities (λ (k : Commodity). k.amount) in omega arith)
 
 pub begins_at : (t t' : Terms) (ws : List ℕ) → t' ≡ t → ws ≡ 0 ∷ t.base → IsStart t → Holds t' (opening ws [] (first_known t'))
 begins_at t t' ws same is h =

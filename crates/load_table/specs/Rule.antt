@@ -86,17 +86,17 @@ abbrev pub Added : ℕ → Step (Unit {0}) → M → ℕ → M → Type 0
 Added k s v found w = Steps v (with_work (has_added k (s.word - 1) found) v.0.view) (λ n. add n k (s.word - 1)) s.word found w
 
 -- a step of one worker alone found the word that it had seen, and left this one in its place
-abbrev pub Turned : ℕ → (ℕ → ℕ) → (ℕ → M → Type 0) → M → M → Type 0
-Turned word f tells v w = tells (slice_index (words_of v.0.seen) word) w × (words_of w.0.seen ≡ slice_set (words_of v.0.seen) word (f (slice_index (words_of v.0.seen) word)))
+abbrev pub HasFoundAndPut : ℕ → (ℕ → ℕ) → (ℕ → M → Type 0) → M → M → Type 0
+HasFoundAndPut word f tells v w = tells (slice_index (words_of v.0.seen) word) w × (words_of w.0.seen ≡ slice_set (words_of v.0.seen) word (f (slice_index (words_of v.0.seen) word)))
 
 abbrev pub ClaimedAlone : Step (Unit {0}) → M → ℕ → M → Type 0
-ClaimedAlone s v _ w = Turned 0 (λ n. (n + 1) % 2 ^ 64) (Claimed (step s.slots 0 1 0 none) v) v w
+ClaimedAlone s v _ w = HasFoundAndPut 0 (λ n. (n + 1) % 2 ^ 64) (Claimed (step s.slots 0 1 0 none) v) v w
 
 abbrev pub HasReadAlone : ℕ → Step (Unit {0}) → M → ℕ → M → Type 0
-HasReadAlone c s v _ w = Turned (c + 1) (λ n. n) (HasRead (step s.slots (c + 1) 0 0 none) v) v w
+HasReadAlone c s v _ w = HasFoundAndPut (c + 1) (λ n. n) (HasRead (step s.slots (c + 1) 0 0 none) v) v w
 
 abbrev pub AddedAlone : ℕ → ℕ → Step (Unit {0}) → M → ℕ → M → Type 0
-AddedAlone k c s v _ w = let a = amount_of v.0.view.terms k in Turned (c + 1) (λ n. (n + a) % 2 ^ 64) (Added k (step s.slots (c + 1) a 0 none) v) v w
+AddedAlone k c s v _ w = let a = amount_of v.0.view.terms k in HasFoundAndPut (c + 1) (λ n. (n + a) % 2 ^ 64) (Added k (step s.slots (c + 1) a 0 none) v) v w
 
 -- one worker alone has read all cells, within their limit, by some schedule from what it saw, and the words are as before
 pub record HasReadAll (v w : M) : Type 0 where

@@ -27,7 +27,7 @@ pub record IsLoads (table : TableId) (t : Terms) (sizes : List ℕ) (groups : �
   pub groups_are : groups ≡ group_count t.net
   pub alone_is : alone ≡ (t.workers == 1)
 
--- the words of a pass are those that it has seen, and it can't be split
+-- the words of a pass are those that it has seen, one of claims and one a cell, and no split is left: no other pass needs them
 pub record AreWordsOf (v : Known) (own : List ℕ) : Type 0 where
   pub words : own ≡ words_of v.seen
   pub count : length own ≡ cell_count v.view.terms + 1

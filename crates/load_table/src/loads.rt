@@ -10,7 +10,7 @@ ghost use Rattle.load_table.specs.Reading.{OneWhere, IsFresh, reads_all};
 ghost use Rattle.load_table.specs.Rule.{MayClaim, MayRead, MayAdd, MayClose, AllFallBelow, Closes};
 
 use crate::rule::{
-    Adds, AddsAlone, Claims, ClaimsAlone, Cuts, LoadRule, Named, Placed, Reads, ReadsAll,
+    Adds, AddsAlone, Claims, ClaimsAlone, Cuts, LoadRule, OfCell, OfCommodity, Reads, ReadsAll,
     ReadsAlone,
 };
 use crate::view::{Known, Origin};
@@ -211,7 +211,7 @@ impl Loads {
     }
 
     // The step does not see which cell of the pass's own words it is at: the parameter tells the proof.
-    fn read_at<L: Placed>(&self, pass: &mut Pass, cell: u16) -> u64
+    fn read_at<L: OfCell>(&self, pass: &mut Pass, cell: u16) -> u64
         requires placed { cell ≡ L.cell }
         requires one { self.now.terms.workers ≡ 1 }
         requires of { IsPassOf self.now pass.old }
@@ -243,6 +243,7 @@ impl Loads {
     }
 
     fn read_each(&self, pass: &mut Pass, reads: &mut [u64])
+        requires several { 1 < self.now.terms.workers }
         requires of { IsPassOf self.now pass.old }
         requires fresh { OneWhere IsFresh pass.old.view.hands }
         requires room { length reads.old ≡ length self.now.terms.net.cells }
@@ -252,7 +253,7 @@ impl Loads {
         ensures small { All (λ x. x ≤ MAX_LENGTH) reads.new }
     {
         for cell in 0..self.cell_count() {
-            reads[cell as usize] = self.read_cell(pass, cell);
+            reads[cell as usize] = self.read_shared(pass, cell);
         }
     }
 
@@ -288,7 +289,7 @@ impl Loads {
     }
 
     // The step does not see which commodity it is for: the parameter tells the proof.
-    fn add_for<J: Named>(&self, pass: &mut Pass, k: u32, cell: u16) -> u64
+    fn add_for<J: OfCommodity>(&self, pass: &mut Pass, k: u32, cell: u16) -> u64
         requires named { k ≡ J.commodity }
         requires several { 1 < self.now.terms.workers }
         requires of { IsPassOf self.now pass.old }
@@ -304,7 +305,7 @@ impl Loads {
     }
 
     // Nor at which cell of the pass's own words.
-    fn add_at<J: Named, L: Placed>(&self, pass: &mut Pass, k: u32, cell: u16) -> u64
+    fn add_at<J: OfCommodity, L: OfCell>(&self, pass: &mut Pass, k: u32, cell: u16) -> u64
         requires named { k ≡ J.commodity }
         requires placed { cell ≡ L.cell }
         requires one { self.now.terms.workers ≡ 1 }

@@ -31,20 +31,20 @@ impl Play<(), Known> for Reads {
 }
 
 /// Which commodity an add is for.
-pub trait Named {
+pub trait OfCommodity {
     ghost commodity: { ℕ };
 }
 
-impl Named for Brand {
+impl OfCommodity for Brand {
     ghost commodity = { 0 };
 }
 
 /// Which cell a step on a pass's own words is at.
-pub trait Placed {
+pub trait OfCell {
     ghost cell: { ℕ };
 }
 
-impl Placed for Brand {
+impl OfCell for Brand {
     ghost cell = { 0 };
 }
 
@@ -52,7 +52,7 @@ pub(crate) struct Adds<J> {
     named: PhantomData<J>,
 }
 
-impl<J: Named> Play<(), Known> for Adds<J> {
+impl<J: OfCommodity> Play<(), Known> for Adds<J> {
     ghost then = { Added J.commodity };
 }
 
@@ -67,7 +67,7 @@ pub(crate) struct ReadsAlone<L> {
     placed: PhantomData<L>,
 }
 
-impl<L: Placed> Play<(), Known> for ReadsAlone<L> {
+impl<L: OfCell> Play<(), Known> for ReadsAlone<L> {
     ghost then = { HasReadAlone L.cell };
 }
 
@@ -76,7 +76,7 @@ pub(crate) struct AddsAlone<J, L> {
     placed: PhantomData<L>,
 }
 
-impl<J: Named, L: Placed> Play<(), Known> for AddsAlone<J, L> {
+impl<J: OfCommodity, L: OfCell> Play<(), Known> for AddsAlone<J, L> {
     ghost then = { AddedAlone J.commodity L.cell };
 }
 

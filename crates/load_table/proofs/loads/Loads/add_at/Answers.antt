@@ -11,7 +11,7 @@ use Rattle.load_table.proofs.Alone.{adds_alone, one_inside, own_count, word_at, 
 use Rattle.load_table.proofs.loads.Loads.add_at.Goals as goal
 
 pub load-requires : goal.load-requires
-load-requires g c = (search rules, search rules, adds_alone c.self.inside.table.shared.key _ _ g.J.Named.commodity g.L.Placed.cell _ (search rules) (search rules) (search rules))
+load-requires g c = (search rules, search rules, adds_alone c.self.inside.table.shared.key _ _ g.J.OfCommodity.commodity g.L.OfCell.cell _ (search rules) (search rules) (search rules))
 
 pub index-found-requires : goal.index-found-requires
 index-found-requires g c =
@@ -33,7 +33,7 @@ pub invariant_of-pass : goal.invariant_of-pass
 invariant_of-pass g c =
     let v = c.pass.inside.seat.me in
     let w = c.load.new.seat.me in
-    let k = g.J.Named.commodity in
+    let k = g.J.OfCommodity.commodity in
     let xs = c.pass.inside.own.items in
     let x = c.index-found.result.now in
     let own : AreWordsOf v.0 xs = c.pass.invariant.1 (one_inside c.args.self.now c.args.pass.now _ v.0 c.pass.view_is c.requires.of c.requires.one) in
@@ -57,7 +57,7 @@ pub returns-clause-view : goal.returns-clause-view
 returns-clause-view g c =
     let v = c.pass.inside.seat.me in
     let w = c.load.new.seat.me in
-    let k = g.J.Named.commodity in
+    let k = g.J.OfCommodity.commodity in
     let xs = c.pass.inside.own.items in
     let x = c.index-found.result.now in
     let own : AreWordsOf v.0 xs = c.pass.invariant.1 (one_inside c.args.self.now c.args.pass.now _ v.0 c.pass.view_is c.requires.of c.requires.one) in
@@ -72,7 +72,7 @@ pub returns-clause-step : goal.returns-clause-step
 returns-clause-step g c =
     let v = c.pass.inside.seat.me in
     let w = c.load.new.seat.me in
-    let k = g.J.Named.commodity in
+    let k = g.J.OfCommodity.commodity in
     let xs = c.pass.inside.own.items in
     let x = c.index-found.result.now in
     let own : AreWordsOf v.0 xs = c.pass.invariant.1 (one_inside c.args.self.now c.args.pass.now _ v.0 c.pass.view_is c.requires.of c.requires.one) in

@@ -11,7 +11,7 @@ use Rattle.load_table.proofs.Alone.{reads_alone, one_inside, own_count, word_at,
 use Rattle.load_table.proofs.loads.Loads.read_at.Goals as goal
 
 pub load-requires : goal.load-requires
-load-requires g c = (search rules, search rules, reads_alone c.self.inside.table.shared.key _ _ g.L.Placed.cell _ (search rules) (search rules) (search rules))
+load-requires g c = (search rules, search rules, reads_alone c.self.inside.table.shared.key _ _ g.L.OfCell.cell _ (search rules) (search rules) (search rules))
 
 pub index-found-requires : goal.index-found-requires
 index-found-requires g c =

@@ -1,12 +1,11 @@
 use Rattle.std.proofs.Common.{ℕ, List, ◌+◌, ◌≤◌, take, sym, ap, ◌∙◌, subst, arith}
-use Rattle.std.proofs.lemmas.List.{take_more_set}
+use Rattle.std.proofs.lemmas.List.{get_or_default, take_more_set}
 use Rattle.mcf_limits.specs.declared.TheConstants.{MAX_LENGTH}
 use Rattle.flow_core.specs.Core.{read}
 use Rattle.load_table.specs.Views.{with_work}
 use Rattle.load_table.specs.Reading.{reads_all}
 use Rattle.load_table.proofs.Works.{reads_one, small-more}
 use Rattle.load_table.proofs.Keeps.{leads-on, step_leads}
-use Rattle.load_table.proofs.Alone.{any_else}
 use Rattle.load_table.proofs.loads.Loads.read_each.Goals as goal
 
 pub loop-cell-preserved : goal.loop-cell-preserved
@@ -15,13 +14,13 @@ loop-cell-preserved c =
     let pass = c.loop-cell.pass in
     let reads = c.loop-cell.reads in
     let i = c.loop-cell.cell in
-    let x = c.read_cell.result in
+    let x = c.read_shared.result in
     record {
-      of = c.read_cell.ensures.of;
-      view = c.read_cell.ensures.view ∙ (reads_one x (take i reads) c.args.pass.now.view pass.view c.loop-cell.invariant.view ∙ ap (λ (rs : List ℕ). with_work (reads_all rs) c.args.pass.now.view) (sym (take_more_set reads i x (omega arith))));
-      small = small-more reads i x MAX_LENGTH (omega arith) c.loop-cell.invariant.small c.read_cell.ensures.within;
-      since = leads-on t c.args.pass.now.seen pass.seen c.read_cell.new.pass.seen c.loop-cell.invariant.since (step_leads t pass.view.hands pass.seen c.read_cell.new.pass.seen read (i + 1) x c.read_cell.ensures.step);
+      of = c.read_shared.ensures.of;
+      view = c.read_shared.ensures.view ∙ (reads_one x (take i reads) c.args.pass.now.view pass.view c.loop-cell.invariant.view ∙ ap (λ (rs : List ℕ). with_work (reads_all rs) c.args.pass.now.view) (sym (take_more_set reads i x (omega arith))));
+      small = small-more reads i x MAX_LENGTH (omega arith) c.loop-cell.invariant.small c.read_shared.ensures.within;
+      since = leads-on t c.args.pass.now.seen pass.seen c.read_shared.new.pass.seen c.loop-cell.invariant.since (step_leads t pass.view.hands pass.seen c.read_shared.new.pass.seen read (i + 1) x c.read_shared.ensures.step);
     }
 
 pub returns-clause-small : goal.returns-clause-small
-returns-clause-small c = λ k d l. subst (λ (x : ℕ). x ≤ MAX_LENGTH) (any_else c.loop-cell.reads k 0 d l) (c.loop-cell.invariant.small k (omega arith))
+returns-clause-small c = λ k d l. subst (λ (x : ℕ). x ≤ MAX_LENGTH) (get_or_default c.loop-cell.reads k 0 d l) (c.loop-cell.invariant.small k (omega arith))
