@@ -4,7 +4,7 @@ use Rattle.std.proofs.lemmas.List.{get_or_default, set-get_or, take_more, length
 use mathlib.Core.Option.{Option, none}
 use Rattle.atomic_table.specs.Table.{State, step, keeps, Allows}
 use Rattle.flow_core.specs.Core as core
-use Rattle.flow_core.specs.Core.{Terms, IsStart, Event, Leads, start, after_schedule, read, add, has_read, has_added, amount_of, cell_count}
+use Rattle.flow_core.specs.Core.{Terms, Event, Leads, start, after_schedule, read, add, has_read, has_added, amount_of, cell_count}
 use Rattle.flow_core.specs.Laws.{Loads}
 use Rattle.flow_core.proofs.Steps.{laws, loads_of}
 use Rattle.mcf_limits.specs.declared.TheConstants.{MAX_LENGTH}

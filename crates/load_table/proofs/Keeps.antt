@@ -11,7 +11,7 @@ use Rattle.atomic_table.proofs.Lists.{at_set, at_snoc}
 use Rattle.flow_core.specs.declared.state.Entry.{Entry}
 use Rattle.flow_core.specs.declared.state.Worker.{Worker}
 use Rattle.flow_core.specs.Core as core
-use Rattle.flow_core.specs.Core.{Terms, Event, claim, read, add, IsLegal, AreLegal, Leads, start, after_event, after_schedule, worker, worker_at, idle, IsStart, total, cell_count, ticket_count, commodity_count, amounts, amount_of, LastIsComplete, LastIsReading, LastMayAdd, claimed, has_read, has_added, next_cell}
+use Rattle.flow_core.specs.Core.{Terms, Event, claim, read, add, IsLegal, AreLegal, Leads, start, after_event, after_schedule, worker_at, idle, IsStart, total, cell_count, ticket_count, commodity_count, amounts, amount_of, LastIsComplete, LastIsReading, LastMayAdd, claimed, has_read, has_added, next_cell}
 use Rattle.flow_core.specs.Laws.{one_if, IsFalling, added}
 use Rattle.mcf_limits.specs.declared.TheConstants.{MAX_LENGTH}
 use Rattle.flow_core.proofs.Members.{few-groups}

@@ -1,11 +1,11 @@
 //! The words that workers share, and the passes by which they step: one word of claims, and one a cell. One worker alone has the
 //! words to itself.
 
-ghost use Rattle.std.specs.Prelude.{◌≡◌, ℕ, ◌+◌, ◌-◌, ◌^◌, ◌<◌, ◌≤◌, [], ◌∷◌, map, length, All, IfOk};
-ghost use Rattle.flow_core.specs.Core.{Terms, IsStart, Leads, start, claim, read, add, claimed, has_read, has_added, idle};
+ghost use Rattle.std.specs.Prelude.{◌≡◌, ◌+◌, ◌-◌, ◌<◌, ◌≤◌, [], ◌∷◌, map, length, All, IfOk};
+ghost use Rattle.flow_core.specs.Core.{IsStart, Leads, start, claim, read, add, claimed, has_read, has_added};
 ghost use Rattle.flow_model.specs.Groups.{group_count};
 ghost use Rattle.load_table.specs.Seen.{IsPassOf, HasStepped};
-ghost use Rattle.load_table.specs.Views.{hand, first_view, with_work, cut, cut_off, joined};
+ghost use Rattle.load_table.specs.Views.{first_view, with_work, cut, cut_off, joined};
 ghost use Rattle.load_table.specs.Reading.{OneWhere, IsFresh, reads_all};
 ghost use Rattle.load_table.specs.Rule.{MayClaim, MayRead, MayAdd, MayClose, AllFallBelow, Closes};
 
