@@ -112,6 +112,16 @@ fn two_links(alloc: Global) -> Result<Net, AllocError>
     Ok(Net::new(2, cells, commodities))
 }
 
+/// A link of 3 one way and one of 10 both ways, and 5 each way.
+fn link_and_two_ways(alloc: Global) -> Result<Net, AllocError>
+    ensures { IfOk result (λ n. n ≡ record
+        { nodes = 2; cells = THREE ∷ UNDIRECTED ∷ []; commodities = THERE ∷ BACK ∷ [] }) }
+{
+    let cells = vec![in alloc; THREE, UNDIRECTED]?;
+    let commodities = vec![in alloc; THERE, BACK]?;
+    Ok(Net::new(2, cells, commodities))
+}
+
 #[tactic(auto, unfolding(flow_model::specs::Groups::group_in, flow_model::specs::Groups::group_count))]
 #[test]
 fn one_claim_routes_two_demands(rt: HostRuntime) -> Result<(), Fail> {
@@ -161,6 +171,112 @@ fn one_worker_takes_the_second_link(rt: HostRuntime) -> Result<(), Fail> {
     assert_eq!(rt; ticket, 1);
     let mut into = [0, 0];
     loads.close(pass, &mut into);
+    assert_eq!(rt; into, [0, 20]);
+    Ok(())
+}
+
+#[tactic(auto, unfolding(flow_model::specs::Groups::group_in, flow_model::specs::Groups::group_count))]
+#[test]
+fn one_of_two_claims_routes_two_demands(rt: HostRuntime) -> Result<(), Fail> {
+    let alloc = rt.alloc();
+    let net = one_source(alloc)?;
+    let groups = Groups::new(alloc, &net)?;
+    let (loads, mut first) = Loads::new(alloc, &net, &groups, FIRST, &[0], 2)?;
+    let ticket = loads.claim(&mut first);
+    assert_eq!(rt; ticket, 0);
+    let mut second = loads.split(&mut first);
+    let ticket = loads.claim(&mut second);
+    assert_eq!(rt; ticket, 1);
+    let read = loads.read_cell(&mut first, 0);
+    assert_eq!(rt; read, 0);
+    let is_least = is_least_path(alloc, &net, &FIRST, &[0], 0, &[0])?;
+    assert!(rt; is_least);
+    let is_least = is_least_path(alloc, &net, &FIRST, &[0], 1, &[0])?;
+    assert!(rt; is_least);
+    let word = loads.add_cell(&mut first, 0, 0);
+    assert_eq!(rt; word, 0);
+    let word = loads.add_cell(&mut first, 1, 0);
+    assert_eq!(rt; word, 4);
+    let ticket = loads.claim(&mut first);
+    assert_eq!(rt; ticket, 2);
+    loads.join(&mut first, second);
+    let mut into = [0];
+    loads.close(first, &mut into);
+    assert_eq!(rt; into, [10]);
+    Ok(())
+}
+
+#[tactic(auto, unfolding(flow_model::specs::Groups::group_in, flow_model::specs::Groups::group_count))]
+#[test]
+fn one_of_two_workers_takes_the_second_link(rt: HostRuntime) -> Result<(), Fail> {
+    let alloc = rt.alloc();
+    let net = two_links(alloc)?;
+    let groups = Groups::new(alloc, &net)?;
+    let (loads, mut first) = Loads::new(alloc, &net, &groups, LATER, &[0, 10], 2)?;
+    let second = loads.split(&mut first);
+    let ticket = loads.claim(&mut first);
+    assert_eq!(rt; ticket, 0);
+    let read = loads.read_cell(&mut first, 0);
+    assert_eq!(rt; read, 0);
+    let read = loads.read_cell(&mut first, 1);
+    assert_eq!(rt; read, 10);
+    let is_least = is_least_path(alloc, &net, &LATER, &[0, 10], 0, &[1])?;
+    assert!(rt; is_least);
+    let word = loads.add_cell(&mut first, 0, 1);
+    assert_eq!(rt; word, 10);
+    let ticket = loads.claim(&mut first);
+    assert_eq!(rt; ticket, 1);
+    loads.join(&mut first, second);
+    let mut into = [0, 0];
+    loads.close(first, &mut into);
+    assert_eq!(rt; into, [0, 20]);
+    Ok(())
+}
+
+#[tactic(auto, unfolding(flow_model::specs::Groups::group_in, flow_model::specs::Groups::group_count))]
+#[test]
+fn one_worker_reads_all_cells(rt: HostRuntime) -> Result<(), Fail> {
+    let alloc = rt.alloc();
+    let net = two_links(alloc)?;
+    let groups = Groups::new(alloc, &net)?;
+    let (loads, mut pass) = Loads::new(alloc, &net, &groups, LATER, &[0, 10], 1)?;
+    let ticket = loads.claim(&mut pass);
+    assert_eq!(rt; ticket, 0);
+    let mut reads = [0, 0];
+    loads.read_all(&mut pass, &mut reads);
+    assert_eq!(rt; reads, [0, 10]);
+    let word = loads.add_cell(&mut pass, 0, 1);
+    assert_eq!(rt; word, 10);
+    let mut into = [0, 0];
+    loads.close(pass, &mut into);
+    assert_eq!(rt; into, [0, 20]);
+    Ok(())
+}
+
+#[tactic(auto, unfolding(flow_model::specs::Groups::group_in, flow_model::specs::Groups::group_count))]
+#[test]
+fn the_second_worker_reads_what_the_first_added(rt: HostRuntime) -> Result<(), Fail> {
+    let alloc = rt.alloc();
+    let net = link_and_two_ways(alloc)?;
+    let groups = Groups::new(alloc, &net)?;
+    let (loads, mut first) = Loads::new(alloc, &net, &groups, LATER, &[0, 10], 2)?;
+    let mut second = loads.split(&mut first);
+    let ticket = loads.claim(&mut first);
+    assert_eq!(rt; ticket, 0);
+    let mut reads = [0, 0];
+    loads.read_all(&mut first, &mut reads);
+    assert_eq!(rt; reads, [0, 10]);
+    let word = loads.add_cell(&mut first, 0, 1);
+    assert_eq!(rt; word, 10);
+    let ticket = loads.claim(&mut second);
+    assert_eq!(rt; ticket, 1);
+    loads.read_all(&mut second, &mut reads);
+    assert_eq!(rt; reads, [0, 15]);
+    let word = loads.add_cell(&mut second, 1, 1);
+    assert_eq!(rt; word, 15);
+    loads.join(&mut first, second);
+    let mut into = [0, 0];
+    loads.close(first, &mut into);
     assert_eq!(rt; into, [0, 20]);
     Ok(())
 }
