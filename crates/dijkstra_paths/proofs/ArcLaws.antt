@@ -9,8 +9,7 @@ use Rattle.std.proofs.Math.Seq.{get_or-append_seam}
 use Rattle.std.proofs.lemmas.List.{get_or_append_left}
 use Rattle.std.proofs.lemmas.Grind.{common_steps}
 use Rattle.flow_model.specs.declared.net.Cell.{Cell}
-use Rattle.flow_model.specs.Network.{Network, IsNetwork, IsCell}
-use Rattle.std.proofs.lemmas.Option.{slice_get_within, get_or_from_slice_get}
+use Rattle.flow_model.specs.Network.{Network}
 use Rattle.dijkstra_paths.specs.declared.graph.Arc.{Arc}
 use Rattle.dijkstra_paths.specs.Arcs.{arcs_over, arcs_from, arcs_below, AreArcs}
 use Rattle.mcf_limits.specs.declared.TheConstants.{MAX_CELLS, MAX_NODES}
@@ -199,14 +198,3 @@ pub arcs-each : (cells : List Cell) (u c x : ℕ) → PassesOver cells c u x →
 arcs-each cells u c x p =
     let e : 0 + c ≡ c = omega arith in
     subst (λ (n : ℕ). Contains (arcs_from cells 0 u) (record { cell = n; to = x })) e (each-from cells 0 c u x p)
-
--- a way over a cell leads to a node, and the cell is one of the network's
-pub pass-inside : (net : Network) (c u x : ℕ) → IsNetwork net → PassesOver net.cells c u x → (x < net.nodes) × (c < length net.cells)
-pass-inside net c u x n p =
-    let within : c < length net.cells = slice_get_within net.cells c p.0 p.1 in
-    let is : get_or net.cells c p.0 ≡ p.0 = get_or_from_slice_get net.cells c p.0 p.0 p.1 in
-    let fits : IsCell net.nodes p.0 = subst (λ (k : Cell). IsCell net.nodes k) is (n.cells c p.0 within) in
-    elim p.3 [
-      | inl g ↦ (rw g.1 fits.head, within)
-      | inr g ↦ (rw g.2 fits.tail, within)
-    ]

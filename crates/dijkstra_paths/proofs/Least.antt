@@ -3,7 +3,6 @@ use Rattle.std.proofs.Common.{◌≡◌, ◌≢◌, inl, inr, ℕ, zero, suc, �
 use Rattle.std.proofs.Math.Nat.{mul-le-mul_right, le_trans}
 use Rattle.std.proofs.lemmas.List.Sums.{sum_by-cons, sum_by_push}
 use Rattle.std.proofs.lemmas.Bool.{cases_eq, cases_lt, lt-ltb, le-ltb}
-use Rattle.flow_model.specs.declared.net.Cell.{Cell}
 use Rattle.flow_model.specs.Network.{Network, IsNetwork}
 use Rattle.flow_model.specs.Lengths.{AreLengths}
 use Rattle.flow_model.specs.Walk.{PassesOver, PositiveWalk}
@@ -11,6 +10,7 @@ use Rattle.flow_model.specs.Bound.{walk_length}
 use Rattle.dijkstra_paths.specs.declared.search.Step.{Step}
 use Rattle.dijkstra_paths.specs.Tree.{step_at, IsReached, IsTree, IsDone}
 use Rattle.dijkstra_paths.proofs.Relaxed.{pass-inside}
+use Rattle.dijkstra_paths.proofs.Spreading.{walk-more}
 use Rattle.mcf_limits.specs.declared.TheConstants.{MAX_LENGTH, MAX_NODES}
 
 -- what a search has found
@@ -21,11 +21,6 @@ pub record IsFound (net : Network) (lengths : List ℕ) (from : ℕ) (dist : Lis
   pub first : from < net.nodes
   pub tree : IsTree net.cells lengths from dist steps
   pub done : (u : ℕ) → u < length dist → get_or dist u 0 < MAX_LENGTH → IsDone net.cells lengths dist u
-
--- a walk that goes on over one more cell
-pub walk-more : (cells : List Cell) (u x v c : ℕ) (walk : List ℕ) → PositiveWalk cells u x walk → PassesOver cells c x v → PositiveWalk cells u v (walk ++ c ∷ [])
-walk-more cells u x v c [] w p = (v, subst (λ (n : ℕ). PassesOver cells c n v) (sym w) p, refl)
-walk-more cells u x v c (d ∷ walk) w p = (w.0, w.1, walk-more cells w.0 x v c walk w.2 p)
 
 pub length-more : (lengths : List ℕ) (c : ℕ) (walk : List ℕ) → walk_length lengths (walk ++ c ∷ []) ≡ walk_length lengths walk + get_or lengths c 0
 length-more lengths c walk = sum_by_push (λ d. get_or lengths d 0) walk c

@@ -177,7 +177,7 @@ arcs-done cells lengths dist node arcs h each = λ c x p.
     let is : arc_at arcs found.0 ≡ a = get_or_default arcs found.0 (record { cell = 0; to = 0 }) a found.1 ∙ found.2 in
     subst (λ (b : Arc). get_or dist b.to 0 ≤ get_or dist node 0 + get_or lengths b.cell 0) is (h found.0 found.1)
 
--- a way over a positive cell ends at a node
+-- a way over a positive cell leads to a node, and the cell is one of the network's
 pub pass-inside : (net : Network) (c u x : ℕ) → IsNetwork net → PassesOver net.cells c u x → (x < net.nodes) × (c < length net.cells)
 pass-inside net c u x n p =
     let within : c < length net.cells = slice_get_within net.cells c p.0 p.1 in

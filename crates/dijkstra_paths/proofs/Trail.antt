@@ -10,7 +10,8 @@ use Rattle.flow_model.specs.Bound.{walk_length}
 use Rattle.dijkstra_paths.specs.declared.search.Step.{Step}
 use Rattle.dijkstra_paths.specs.Tree.{step_at, IsReached}
 use Rattle.dijkstra_paths.specs.Searched.{trail}
-use Rattle.dijkstra_paths.proofs.Least.{IsFound, rank, rank-step, step-exact, walk-more, length-more}
+use Rattle.dijkstra_paths.proofs.Least.{IsFound, rank, rank-step, step-exact, length-more}
+use Rattle.dijkstra_paths.proofs.Spreading.{walk-more}
 use Rattle.mcf_limits.specs.declared.TheConstants.{MAX_LENGTH}
 
 -- at the first node there is no step

@@ -8,7 +8,8 @@ use Rattle.flow_model.specs.Lengths.{AreLengths}
 use Rattle.flow_model.specs.Walk.{PassesOver, PositiveWalk}
 use Rattle.flow_model.specs.Bound.{walk_length}
 use Rattle.dijkstra_paths.specs.Searched.{known}
-use Rattle.dijkstra_paths.proofs.Least.{walk-more, length-more, length-first}
+use Rattle.dijkstra_paths.proofs.Spreading.{walk-more}
+use Rattle.dijkstra_paths.proofs.Least.{length-more, length-first}
 use Rattle.dijkstra_paths.proofs.Relaxed.{pass-inside}
 use Rattle.dijkstra_paths.proofs.Seen.{known-near, known-far}
 use Rattle.hop_paths.specs.Allowed.{IsShortWalk, IsLeastOf}

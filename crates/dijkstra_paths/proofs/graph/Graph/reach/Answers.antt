@@ -2,7 +2,7 @@ use Rattle.std.proofs.Common.{◌≡◌, ◌<◌, List, Bool, true, length, get_
 use Rattle.std.proofs.lemmas.List.{with_items_is}
 use Rattle.std.proofs.lemmas.Grind.{get_or_default_zero}
 use Rattle.dijkstra_paths.specs.Reach.{MarksEnds}
-use Rattle.dijkstra_paths.proofs.ArcLaws.{pass-inside}
+use Rattle.dijkstra_paths.proofs.Relaxed.{pass-inside}
 use Rattle.dijkstra_paths.proofs.Spreading.{spreading-first, spreading-more, spreading-done}
 use Rattle.dijkstra_paths.proofs.graph.Graph.reach.Goals as goal
 
