@@ -1,8 +1,7 @@
 -- What is refused of a second text, by what its first lines say.
-use Rattle.std.proofs.Common.{◌≡◌, ℕ, List, Bool, true, false, Result, Ok, Err, refl, sym, ap, ◌∙◌}
+use Rattle.std.proofs.Common.{◌≡◌, ℕ, List, true, false, Result, Ok, Err, refl, sym, ap, ◌∙◌}
 use Rattle.text_lines.specs.Lines.{Line, lines_of}
 use Rattle.sndlib_grammar.specs.Rows.{NetRows}
-use Rattle.unit_scale.specs.Scaling.{ScaledNet}
 use Rattle.unit_scale.specs.declared.options.NetOptions.{NetOptions}
 use Rattle.cert_lines.specs.declared.refusal.CertRefusal.{CertRefusal}
 use Rattle.cert_lines.specs.Forms.{◌>>=◌}
@@ -10,12 +9,11 @@ use Rattle.cert_text.specs.declared.opening.CertHead.{CertHead}
 use Rattle.cert_text.specs.declared.opening.Known.TheVariants.{Certificates}
 use Rattle.cert_text.specs.declared.papers.Paper.{Paper}
 use Rattle.cert_text.specs.Whole.{head_by}
-use Rattle.cert_judge.specs.declared.refusal.Refusal.{Refusal}
 use Rattle.cert_judge.specs.declared.refusal.Refusal.TheVariants.{Cert}
 use Rattle.cert_judge.specs.Chain.{read_on}
 use Rattle.cert_judge.specs.Papers.{nothing_more, options_of, rest_on}
 use Rattle.cert_judge.specs.Second.{head_under, other_at, same_links, same_modules, under}
-use Rattle.run_laws.specs.Seconds.{SecondIsRefused, SecondsAreRefused}
+use Rattle.run_laws.specs.Seconds.{SecondsAreRefused}
 
 -- what the first lines say goes on to the modes
 head_is : (o : NetOptions) (lines : List Line) (r : Result CertHead CertRefusal) → head_by Certificates lines ≡ r → head_under o lines ≡ (r >>= λ (head : CertHead). under o head)

@@ -1,15 +1,12 @@
 -- What is refused of the text of a second certificate.
-use Rattle.std.specs.Prelude.{◌≡◌, ℕ, List, Result, Ok, Err, true, false}
+use Rattle.std.specs.Prelude.{◌≡◌, ℕ, List, Ok, Err, true, false}
 use Rattle.text_lines.specs.Lines.{lines_of}
 use Rattle.unit_scale.specs.declared.options.NetOptions.{NetOptions}
-use Rattle.unit_scale.specs.Scaling.{ScaledNet}
 use Rattle.sndlib_grammar.specs.Rows.{NetRows}
 use Rattle.cert_lines.specs.declared.refusal.CertRefusal.{CertRefusal}
 use Rattle.cert_text.specs.declared.opening.CertHead.{CertHead}
 use Rattle.cert_text.specs.declared.opening.Known.TheVariants.{Certificates}
-use Rattle.cert_text.specs.declared.papers.Paper.{Paper}
 use Rattle.cert_text.specs.Whole.{head_by}
-use Rattle.cert_judge.specs.declared.refusal.Refusal.{Refusal}
 use Rattle.cert_judge.specs.declared.refusal.Refusal.TheVariants.{Cert}
 use Rattle.cert_judge.specs.Papers.{paper_on}
 use Rattle.cert_judge.specs.Second.{other_at, same_links, same_modules, second_on}
