@@ -1,8 +1,13 @@
-//! Calls of one function at each number below a count, in threads that claim one number after the other.
+//! Calls of one function at each number below a count, in threads that claim one number after the other; and a crew of threads, each of
+//! which works on what it is handed and hands it back.
 #![tactic(auto)]
 
 mod calls;
 mod claims;
+mod crew;
+mod job;
 mod slots;
 
 pub use calls::call_each;
+pub use crew::{Crew, with_crew};
+pub use job::{Job, Lead};
