@@ -13,3 +13,4 @@ pub mod RowsFound
 pub mod Renumbered
 pub mod Sent
 pub mod Turning
+pub mod Phasing
