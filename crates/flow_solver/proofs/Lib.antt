@@ -11,3 +11,6 @@ pub mod Placed
 pub mod Named
 pub mod RowsFound
 pub mod Renumbered
+pub mod Sent
+pub mod Turning
+pub mod Phasing

@@ -1,6 +1,6 @@
 //! The hands of the workers, from phase to phase.
 
-ghost use Rattle.std.specs.Prelude.{◌≡◌, ℕ, ◌<◌, [], IfOk, length, slice_index_or};
+ghost use Rattle.std.specs.Prelude.{◌≡◌, ℕ, ◌<◌, [], None, IfOk, length, slice_index_or};
 ghost use Rattle.phase_engine.specs.Hands.{IsFresh, IsSameWorker};
 
 use dijkstra_paths::Scratch;
@@ -44,6 +44,20 @@ pub(crate) fn forget_all(hands: &mut [Hand])
         × ((slice_index_or hands.new k d).room ≡ (slice_index_or hands.old k d).room) }
 {
     for hand in hands.iter_mut() {
+        hand.routes.clear();
+    }
+}
+
+/// Forgets the turns, and with them the routes.
+pub(crate) fn forget_turns(hands: &mut [Hand])
+    ensures { (k : ℕ) (d : _) → k < length hands.old
+        → IsSameWorker (slice_index_or hands.old k d) (slice_index_or hands.new k d)
+        × ((slice_index_or hands.new k d).turn ≡ None)
+        × ((slice_index_or hands.new k d).routes ≡ [])
+        × ((slice_index_or hands.new k d).room ≡ (slice_index_or hands.old k d).room) }
+{
+    for hand in hands.iter_mut() {
+        hand.turn = None;
         hand.routes.clear();
     }
 }

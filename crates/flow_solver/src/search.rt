@@ -1,30 +1,35 @@
 //! Loads, hands and history, from phase to phase.
 
 ghost use Rattle.std.specs.Prelude.{◌≡◌, ℕ, ◌+◌, ◌*◌, ◌<◌, ◌≤◌, List, ◌++◌, ◌∷◌, [], IfOk, OnOk, None, length, max, replicate, slice_index_or};
+ghost use Rattle.std.specs.Arc.{arc_value};
 ghost use Rattle.flow_model.specs.Least.{HasNoCut};
 ghost use Rattle.flow_model.specs.Lengths.{IsSetting};
 ghost use Rattle.flow_core.specs.Core.{IsStart};
-ghost use Rattle.flow_core.specs.Phase.{Routed};
+ghost use Rattle.flow_core.specs.Phase.{Routed, terms_of};
 ghost use Rattle.phase_engine.specs.Hands.{HasRoomOf, IsFresh, AreSameWorkers};
 ghost use Rattle.phase_engine.specs.Routing.{IsRoutedPhase};
 ghost use Rattle.flow_solver.specs.Routes.{HaveRouted, IsRoutedOnce};
 ghost use Rattle.flow_solver.specs.Rows.{AreRowsFor, phases_kept};
 ghost use Rattle.flow_solver.specs.Adding.{CanBeNoted, IsNoted};
+ghost use Rattle.flow_solver.specs.Turns.{IsOver};
 ghost use Rattle.flow_solver.specs.Search.{CanBeBounded, IsBoundRoom, IsBoundUnder, IsRouted, IsSearch, phase_count};
 
 use crate::PathHistory;
-use crate::hands::{forget_all, new_hands};
+use crate::hands::{forget_all, forget_turns, new_hands};
 use crate::noted::Sought;
 use crate::places::places_of;
 use crate::prepared::Prepared;
-use dijkstra_paths::Tree;
+use crate::turn::{Turn, take_all, trees_of};
+use claimed_calls::Crew;
 use dual_bound::{Bounded, Row, bound_in, source_rows};
 use flow_model::{Net, Setting};
 use load_table::Loads;
 use mcf_base::Gate;
 use mcf_limits::{MAX_PHASES, MAX_WORK, MAX_WORKERS};
-use phase_engine::{Hand, PhaseInput, phase};
+use phase_engine::{Hand, PhaseInput, finish, hand_out, phase};
 use std::alloc::{AllocError, Global};
+use std::mem;
+use std::sync::Arc;
 use std::thread::{Threads, join_mut};
 
 /// From so many commodities on, noting the rows of their paths takes longer than the start of a thread.
@@ -80,18 +85,13 @@ pub fn new_search(alloc: Global, net: &Net, workers: u16) -> Result<Search, Allo
     })
 }
 
-/// The tree of each row.
-fn trees_of(alloc: Global, rows: &[Row]) -> Result<Vec<&Tree>, AllocError> {
-    rows.iter().map(|row| &row.tree).collect(alloc)
-}
-
 /// One phase over words of its own. Searches begin at the trees of the rows, which the bound before has left. `Err` is for want of memory.
 fn phase_over<G: Gate, R: Threads + Sync>(
     rt: &R,
     alloc: Global,
     on: &Prepared<'_>,
     setting: Setting,
-    room: &BoundRoom,
+    rows: &[Row],
     loads: &mut [u64],
     hands: &mut [Hand],
     gate: &G,
@@ -113,7 +113,7 @@ fn phase_over<G: Gate, R: Threads + Sync>(
     ensures rooms { (k : ℕ) (d : _) → k < length hands.old
         → HasRoomOf on.now.net.now (slice_index_or hands.new k d) }
 {
-    let trees = trees_of(alloc, &room.rows)?;
+    let trees = trees_of(alloc, rows)?;
     let input = PhaseInput {
         net: on.net,
         groups: on.groups,
@@ -151,11 +151,123 @@ pub fn route<G: Gate, R: Threads + Sync>(
         alloc,
         on,
         setting,
-        &search.room,
+        &search.room.rows,
         &mut search.loads,
         &mut search.hands,
         gate,
     )
+}
+
+/// The end of a phase over these words, after all turns. Should a turn share them still, which none does then, it is the whole phase
+/// instead, over words of its own, by threads of its own. `Err` is for want of memory.
+fn end_over<G: Gate, R: Threads + Sync>(
+    rt: &R,
+    alloc: Global,
+    on: &Prepared<'_>,
+    setting: Setting,
+    rows: &[Row],
+    words: Arc<Loads, Global>,
+    loads: &mut [u64],
+    hands: &mut [Hand],
+    gate: &G,
+) -> Result<(), AllocError>
+    requires start { IsStart record {
+      net = on.now.net.now;
+      setting = setting;
+      base = loads.old;
+      workers =
+          length hands.old;
+    } }
+    requires terms { (arc_value words).terms
+        ≡ terms_of on.now.net.now setting loads.old (length hands.old) }
+    requires setting { IsSetting setting }
+    requires no_cut { HasNoCut on.now.net.now }
+    requires over { (k : ℕ) (d : _) → k < length hands.old
+        → IsOver on.now.net.now (arc_value words) k (slice_index_or hands.old k d) }
+    ensures ok { OnOk result (IsRoutedPhase on.now.net.now setting loads.old loads.new hands.new) }
+    ensures back { AreSameWorkers hands.old hands.new }
+    ensures turns { (k : ℕ) (d : _) → k < length hands.old → (slice_index_or hands.new k d).turn ≡ None }
+    ensures rooms { (k : ℕ) (d : _) → k < length hands.old
+        → HasRoomOf on.now.net.now (slice_index_or hands.new k d) }
+{
+    let Ok(table) = Arc::try_unwrap(words) else {
+        forget_turns(hands);
+        return phase_over(rt, alloc, on, setting, rows, loads, hands, gate);
+    };
+    match finish(table, loads, hands) {
+        Ok(()) => Ok(()),
+        Err(_) => Err(AllocError),
+    }
+}
+
+/// As `phase_over`, with the turns in the threads of a crew: the hands after it. `Err` is for want of memory, or where the crew gave up.
+fn phase_with<'a, G: Gate, R: Threads + Sync>(
+    rt: &R,
+    alloc: Global,
+    on: &'a Prepared<'a>,
+    setting: Setting,
+    gate: &'a G,
+    crew: &mut Crew<'_, Turn<'a, G>>,
+    rows: &Arc<Vec<Row>, Global>,
+    loads: &mut [u64],
+    hands: Vec<Hand>,
+) -> Result<Vec<Hand>, AllocError>
+    requires start { IsStart record {
+      net = on.now.net.now;
+      setting = setting;
+      base = loads.old;
+      workers =
+          length hands.items;
+    } }
+    requires setting { IsSetting setting }
+    requires no_cut { HasNoCut on.now.net.now }
+    requires fresh { (k : ℕ) (d : _) → k < length hands.items
+        → IsFresh on.now.net.now k (slice_index_or hands.items k d) }
+    ensures count { IfOk result (λ back. length back.items ≡ length hands.items) }
+    ensures ok { IfOk result (λ back. IsRoutedPhase on.now.net.now setting loads.old loads.new back.items) }
+    ensures back { IfOk result (λ back. AreSameWorkers hands.items back.items) }
+    ensures turns { IfOk result (λ back. (k : ℕ) (d : _) → k < length hands.items
+        → (slice_index_or back.items k d).turn ≡ None) }
+    ensures rooms { IfOk result (λ back. (k : ℕ) (d : _) → k < length hands.items
+        → HasRoomOf on.now.net.now (slice_index_or back.items k d)) }
+{
+    let (table, first) = Loads::new(alloc, on.net, on.groups, setting, loads, hands.len() as u16)?;
+    let mut hands = hands;
+    hand_out(&table, first, &mut hands);
+    let words = Arc::new(alloc, table)?;
+    let mut back = take_all(alloc, on, setting, gate, crew, &words, rows, hands)?;
+    end_over(rt, alloc, on, setting, rows, words, loads, &mut back, gate)?;
+    Ok(back)
+}
+
+/// As `route`, with a crew in whose threads the hands take their turns. `Err` is for want of memory, or where the crew gave up or a turn
+/// shares the rows still, which no run does; and then the search can't go on.
+pub fn route_with<'a, G: Gate, R: Threads + Sync>(
+    rt: &R,
+    alloc: Global,
+    on: &'a Prepared<'a>,
+    setting: Setting,
+    gate: &'a G,
+    crew: &mut Crew<'_, Turn<'a, G>>,
+    search: &mut Search,
+) -> Result<(), AllocError>
+    requires no_cut { HasNoCut on.now.net.now }
+    requires setting { IsSetting setting }
+    requires search { IsSearch on.now.net.now search.old }
+    requires phases { phase_count search.old < MAX_PHASES }
+    ensures routed { OnOk result (IsRouted on.now.net.now setting search.old search.new) }
+{
+    let _commodities = on.net.commodities();
+    forget_all(&mut search.hands);
+    let hands = mem::replace(&mut search.hands, Vec::new(alloc));
+    let rows = Arc::new(alloc, mem::replace(&mut search.room.rows, Vec::new(alloc)))?;
+    let loads = search.loads.as_mut_slice();
+    search.hands = phase_with(rt, alloc, on, setting, gate, crew, &rows, loads, hands)?;
+    let Ok(rows) = Arc::try_unwrap(rows) else {
+        return Err(AllocError);
+    };
+    search.room.rows = rows;
+    Ok(())
 }
 
 /// The bound of the lengths of these loads, in at most so many threads.

@@ -10,11 +10,14 @@ mod route_buffer;
 mod routes;
 mod steps;
 mod turns;
+mod watch;
 mod worker;
 
 pub use hand::Hand;
 pub use input::{PhaseInput, Shared};
-pub use phases::phase;
+pub use phases::{finish, phase};
 pub use room::Room;
 pub use routes::Routes;
+pub use turns::{hand_out, take_turn};
+pub use watch::Watch;
 pub use worker::{Worked, work};

@@ -7,7 +7,7 @@ ghost use Rattle.flow_core.specs.Core.{IsStart};
 ghost use Rattle.flow_core.specs.Phase.{terms_of};
 ghost use Rattle.load_table.specs.Seen.{IsPassOf};
 ghost use Rattle.load_table.specs.Views.{first_view};
-ghost use Rattle.phase_engine.specs.Hands.{HasRoomOf, IsFresh, IsSameWorker, IsUnfinished};
+ghost use Rattle.phase_engine.specs.Hands.{AreSameWorkers, HasRoomOf, IsDone, IsFresh, IsSameWorker, IsUnfinished};
 ghost use Rattle.phase_engine.specs.Routing.{IsRoutedPhase};
 
 use crate::hand::Hand;
@@ -29,6 +29,33 @@ fn clear_all(hands: &mut [Hand])
     for hand in hands.iter_mut() {
         hand.routes.clear();
     }
+}
+
+/// The end of a phase of these words: the passes are taken out of the hands, and the load of each cell is put in its place.
+/// Where some worker has stopped the phase is whole, although another was refused room. Else `Err`, for want of memory,
+/// is the pass of all workers, none of which has stopped: the loads are as before, and the routes are cleared.
+pub fn finish(table: Loads, loads: &mut [u64], hands: &mut [Hand]) -> Result<(), Pass>
+    requires start { IsStart table.terms }
+    requires workers { table.terms.workers ≡ length hands.old }
+    requires room { length loads.old ≡ length table.terms.net.cells }
+    requires done { (k : ℕ) (d : _) → k < length hands.old
+        → ((slice_index_or hands.old k d).worker ≡ k) × IsDone table (slice_index_or hands.old k d) }
+    ensures ok { OnOk result (IsRoutedPhase table.terms.net table.terms.setting table.terms.base loads.new hands.new) }
+    ensures unfinished { IfErr result (λ p. IsUnfinished table p) }
+    ensures loads { OnErr result (loads.new ≡ loads.old) }
+    ensures routes { OnErr result (All (λ h. h.routes ≡ []) hands.new) }
+    ensures back { AreSameWorkers hands.old hands.new }
+    ensures turns { (k : ℕ) (d : _) → k < length hands.old → (slice_index_or hands.new k d).turn ≡ None }
+    ensures rooms { (k : ℕ) (d : _) → k < length hands.old
+        → (slice_index_or hands.new k d).room ≡ (slice_index_or hands.old k d).room }
+{
+    let (pass, whole) = gather(&table, hands);
+    if !whole {
+        clear_all(hands);
+        return Err(pass);
+    }
+    table.close(pass, loads);
+    Ok(())
 }
 
 /// One phase over the loads, which grow by the routes of the hands. The words and the pass are new ones of these loads; a hand's room is
@@ -76,11 +103,5 @@ pub fn phase<G: Gate, R: Threads + Sync>(
         gate,
     };
     run_all(rt, alloc, &shared, hands);
-    let (pass, whole) = gather(&table, hands);
-    if !whole {
-        clear_all(hands);
-        return Err(pass);
-    }
-    table.close(pass, loads);
-    Ok(())
+    finish(table, loads, hands)
 }

@@ -8,6 +8,7 @@ ghost use Rattle.phase_engine.specs.Hands.{IsFresh, IsReady, IsDone, Runs, IsBac
 
 use crate::hand::Hand;
 use crate::input::Shared;
+use crate::watch::Watch;
 use crate::{Worked, work};
 use load_table::{Loads, Pass};
 use mcf_base::Gate;
@@ -26,7 +27,7 @@ fn take(hand: &mut Hand) -> Worked
 }
 
 /// Puts a pass into each hand: the first, and one split from it for each other hand.
-pub(crate) fn hand_out(loads: &Loads, first: Pass, hands: &mut [Hand])
+pub fn hand_out(loads: &Loads, first: Pass, hands: &mut [Hand])
     requires of { IsPassOf loads.now first × (first.view ≡ first_view loads.now.terms) }
     requires some_hand { 0 < length hands.old }
     requires workers { loads.now.terms.workers ≡ length hands.old }
@@ -53,8 +54,8 @@ pub(crate) fn hand_out(loads: &Loads, first: Pass, hands: &mut [Hand])
     });
 }
 
-/// The work of one hand.
-fn take_turn<G: Gate>(alloc: Global, shared: &Shared<'_, G>, hand: &mut Hand)
+/// The work of one hand, in any thread.
+pub fn take_turn<G: Watch>(alloc: Global, shared: &Shared<'_, G>, hand: &mut Hand)
     requires of { AreOf shared.now.input.now shared.now.loads.now }
     requires ready { IsReady shared.now.loads.now hand.old }
     ensures { Runs shared.now.loads.now hand.old hand.new }

@@ -19,10 +19,10 @@ use crate::room::Room;
 use crate::route_buffer::RouteBuffer;
 use crate::routes::Routes;
 use crate::steps::route_group;
+use crate::watch::Watch;
 use dijkstra_paths::Scratch;
 use flow_model::{Groups, Net};
 use load_table::{Loads, Pass};
-use mcf_base::Gate;
 use mcf_limits::MAX_DEMANDS;
 use std::alloc::Global;
 
@@ -102,7 +102,7 @@ fn route_ticket(
 }
 
 /// Claims and routes until a ticket is past the end, or room is refused, which it answers.
-fn claim_all<G: Gate>(
+fn claim_all<G: Watch>(
     shared: &Shared<'_, G>,
     worker: u16,
     pass: &mut Pass,
@@ -133,7 +133,7 @@ fn claim_all<G: Gate>(
             return true;
         }
         let ticket = loads.claim(pass);
-        shared.gate.claimed(worker, ticket);
+        shared.gate.drawn(worker, ticket);
         if ticket >= loads.group_count() as u64 {
             return false;
         }
@@ -143,7 +143,7 @@ fn claim_all<G: Gate>(
 
 /// The work of one worker of a phase. It takes its room, or makes it, and then makes room for the paths of one more group
 /// before each claim. `memory` is the answer for want of memory; then no claimed group is left half routed.
-pub fn work<G: Gate>(
+pub fn work<G: Watch>(
     alloc: Global,
     shared: &Shared<'_, G>,
     worker: u16,

@@ -1,0 +1,208 @@
+//! The turns of the hands in a phase, which any thread may take.
+
+ghost use Rattle.std.specs.Prelude.{◌≡◌, ℕ, ◌<◌, IfOk, IsSome, length, slice_index_or};
+ghost use Rattle.std.specs.Arc.{arc_value};
+ghost use Rattle.phase_engine.specs.Hands.{IsReady, Runs};
+ghost use Rattle.flow_solver.specs.Turns.{AreWordsOf, HasHand, IsTurnOf};
+
+use crate::prepared::Prepared;
+use claimed_calls::{Crew, Job};
+use dijkstra_paths::Tree;
+use dual_bound::Row;
+use flow_model::Setting;
+use load_table::Loads;
+use mcf_base::Gate;
+use phase_engine::{Hand, PhaseInput, Shared, Watch, take_turn};
+use std::alloc::{AllocError, Global};
+use std::sync::Arc;
+
+/// The turn of one hand: what the phase is of, the words of its loads, and the rows of the bound before, at whose trees searches
+/// begin. All turns of a phase share the words and the rows.
+#[derive(Drop)]
+pub struct Turn<'a, G> {
+    pub on: &'a Prepared<'a>,
+    pub alloc: Global,
+    pub setting: Setting,
+    pub gate: &'a G,
+    pub loads: Arc<Loads, Global>,
+    pub rows: Arc<Vec<Row>, Global>,
+    pub hand: Hand,
+}
+
+impl<'a, G: Gate> Job for Turn<'a, G> {
+    ghost use Rattle.flow_solver.specs.Turns.{CanBeTaken, IsTaken};
+
+    ghost asks = { CanBeTaken };
+
+    ghost does = { IsTaken };
+
+    fn work(self) -> Self {
+        let Turn {
+            on,
+            alloc,
+            setting,
+            gate,
+            loads,
+            rows,
+            hand,
+        } = self;
+        let mut hand = hand;
+        take_over(alloc, on, setting, gate, &loads, &rows, &mut hand);
+        Turn {
+            on,
+            alloc,
+            setting,
+            gate,
+            loads,
+            rows,
+            hand,
+        }
+    }
+}
+
+/// The tree of each row.
+pub(crate) fn trees_of(alloc: Global, rows: &[Row]) -> Result<Vec<&Tree>, AllocError> {
+    rows.iter().map(|row| &row.tree).collect(alloc)
+}
+
+/// The tree of each row, or none where there is no memory for them: a search needs no tree to begin at.
+fn hints(alloc: Global, rows: &[Row]) -> Vec<&Tree> {
+    match trees_of(alloc, rows) {
+        Ok(trees) => trees,
+        Err(_) => Vec::new(alloc),
+    }
+}
+
+/// The work of one hand over these words.
+fn take_over<G: Watch>(
+    alloc: Global,
+    on: &Prepared<'_>,
+    setting: Setting,
+    gate: &G,
+    loads: &Loads,
+    rows: &[Row],
+    hand: &mut Hand,
+)
+    requires words { AreWordsOf on.now.net.now setting loads.now }
+    requires ready { IsReady loads.now hand.old }
+    ensures { Runs loads.now hand.old hand.new }
+{
+    let trees = hints(alloc, rows);
+    let input = PhaseInput {
+        net: on.net,
+        groups: on.groups,
+        graph: on.graph,
+        powers: on.powers,
+        setting,
+        trees: &trees,
+    };
+    let shared = Shared {
+        input: &input,
+        loads,
+        gate,
+    };
+    take_turn(alloc, &shared, hand);
+}
+
+/// The turn of a hand.
+fn turn_of<'a, G: Gate>(
+    alloc: Global,
+    on: &'a Prepared<'a>,
+    setting: Setting,
+    gate: &'a G,
+    loads: &Arc<Loads, Global>,
+    rows: &Arc<Vec<Row>, Global>,
+    hand: Hand,
+) -> Result<Option<Turn<'a, G>>, AllocError>
+    requires words { AreWordsOf on.now.net.now setting (arc_value loads.now) }
+    requires ready { IsReady (arc_value loads.now) hand }
+    ensures { IfOk result (IsTurnOf (arc_value loads.now) hand) }
+{
+    Ok(Some(Turn {
+        on,
+        alloc,
+        setting,
+        gate,
+        loads: Arc::try_clone(loads)?,
+        rows: Arc::try_clone(rows)?,
+        hand,
+    }))
+}
+
+/// A turn for each hand, in their order.
+fn turns_of<'a, G: Gate>(
+    alloc: Global,
+    on: &'a Prepared<'a>,
+    setting: Setting,
+    gate: &'a G,
+    loads: &Arc<Loads, Global>,
+    rows: &Arc<Vec<Row>, Global>,
+    hands: Vec<Hand>,
+) -> Result<Vec<Option<Turn<'a, G>>>, AllocError>
+    requires words { AreWordsOf on.now.net.now setting (arc_value loads.now) }
+    requires ready { (k : ℕ) (d : _) → k < length hands.items
+        → IsReady (arc_value loads.now) (slice_index_or hands.items k d) }
+    ensures count { IfOk result (λ turns. length turns.items ≡ length hands.items) }
+    ensures turns { IfOk result (λ turns. (k : ℕ) (d : _) (e : _) → k < length hands.items
+        → IsTurnOf (arc_value loads.now) (slice_index_or hands.items k d) (slice_index_or turns.items k e)) }
+{
+    let mut turns = Vec::with_capacity(alloc, hands.len())?;
+    for hand in hands {
+        turns.push(turn_of(alloc, on, setting, gate, loads, rows, hand)?)?;
+    }
+    Ok(turns)
+}
+
+/// The hand of a turn.
+fn hand_of<G: Gate>(turn: Option<Turn<'_, G>>) -> Hand
+    requires { IsSome turn }
+    ensures { HasHand turn.entry result }
+{
+    match turn {
+        Some(turn) => turn.hand,
+        None => unreachable!(),
+    }
+}
+
+/// The hands of the turns, in their order.
+fn hands_of<G: Gate>(
+    alloc: Global,
+    turns: Vec<Option<Turn<'_, G>>>,
+) -> Result<Vec<Hand>, AllocError>
+    requires { (k : ℕ) (d : _) → k < length turns.items → IsSome (slice_index_or turns.items k d) }
+    ensures count { IfOk result (λ hands. length hands.items ≡ length turns.entry.items) }
+    ensures hands { IfOk result (λ hands. (k : ℕ) (d : _) (e : _) → k < length turns.entry.items
+        → HasHand (slice_index_or turns.entry.items k d) (slice_index_or hands.items k e)) }
+{
+    let mut hands = Vec::with_capacity(alloc, turns.len())?;
+    for turn in turns {
+        hands.push(hand_of(turn))?;
+    }
+    Ok(hands)
+}
+
+/// The hands after their work, in their order: each turn is taken in a thread of the crew, or in the caller's. `Err` is for want of
+/// memory, or where the crew gave up waiting, after 2^64 tries, which no run makes.
+pub(crate) fn take_all<'a, G: Gate>(
+    alloc: Global,
+    on: &'a Prepared<'a>,
+    setting: Setting,
+    gate: &'a G,
+    crew: &mut Crew<'_, Turn<'a, G>>,
+    loads: &Arc<Loads, Global>,
+    rows: &Arc<Vec<Row>, Global>,
+    hands: Vec<Hand>,
+) -> Result<Vec<Hand>, AllocError>
+    requires words { AreWordsOf on.now.net.now setting (arc_value loads.now) }
+    requires ready { (k : ℕ) (d : _) → k < length hands.items
+        → IsReady (arc_value loads.now) (slice_index_or hands.items k d) }
+    ensures count { IfOk result (λ back. length back.items ≡ length hands.items) }
+    ensures runs { IfOk result (λ back. (k : ℕ) (d : _) → k < length hands.items
+        → Runs (arc_value loads.now) (slice_index_or hands.items k d) (slice_index_or back.items k d)) }
+{
+    let mut turns = turns_of(alloc, on, setting, gate, loads, rows, hands)?;
+    if !crew.work_each(&mut turns) {
+        return Err(AllocError);
+    }
+    hands_of(alloc, turns)
+}
