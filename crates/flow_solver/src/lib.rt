@@ -14,6 +14,7 @@ mod reached;
 mod search;
 mod solved;
 mod solving;
+mod turn;
 
 pub use entries::Entries;
 pub use history::{OrderedHistory, PathHistory};

@@ -17,6 +17,8 @@ use crate::hands::{forget_all, new_hands};
 use crate::noted::Sought;
 use crate::places::places_of;
 use crate::prepared::Prepared;
+use crate::turn::Turn;
+use claimed_calls::Crew;
 use dijkstra_paths::Tree;
 use dual_bound::{Bounded, Row, bound_in, source_rows};
 use flow_model::{Net, Setting};
@@ -156,6 +158,25 @@ pub fn route<G: Gate, R: Threads + Sync>(
         &mut search.hands,
         gate,
     )
+}
+
+/// As `route`, with the threads of a crew.
+pub fn route_with<'a, G: Gate, R: Threads + Sync>(
+    rt: &R,
+    alloc: Global,
+    on: &'a Prepared<'a>,
+    setting: Setting,
+    gate: &'a G,
+    _crew: &mut Crew<'_, Turn<'a, G>>,
+    search: &mut Search,
+) -> Result<(), AllocError>
+    requires no_cut { HasNoCut on.now.net.now }
+    requires setting { IsSetting setting }
+    requires search { IsSearch on.now.net.now search.old }
+    requires phases { phase_count search.old < MAX_PHASES }
+    ensures routed { OnOk result (IsRouted on.now.net.now setting search.old search.new) }
+{
+    route(rt, alloc, on, setting, gate, search)
 }
 
 /// The bound of the lengths of these loads, in at most so many threads.
