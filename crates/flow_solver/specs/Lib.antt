@@ -4,3 +4,4 @@ pub mod Phases
 pub mod Rows
 pub mod Routes
 pub mod Adding
+pub mod Leading

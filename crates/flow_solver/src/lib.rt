@@ -7,6 +7,8 @@ mod found;
 mod hands;
 mod history;
 mod kept;
+mod leading;
+mod led_by;
 mod noted;
 mod places;
 mod prepared;
