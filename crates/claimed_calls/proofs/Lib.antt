@@ -1,1 +1,3 @@
 mod Claiming
+mod Posting
+mod Jobbing

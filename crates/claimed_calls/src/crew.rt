@@ -1,24 +1,54 @@
 //! Threads that stay beside the caller's for a while, and work on what it hands to them.
 
-ghost use Rattle.std.specs.Prelude.{◌≡◌, ℕ, ◌<◌, IsTrue, length, slice_index_or};
-ghost use Rattle.claimed_calls.specs.Jobs.{Waits, IsWorked};
+ghost use Rattle.std.specs.Prelude.{◌≡◌, ℕ, ◌<◌, IsTrue, IsFalse, true, length, slice_index_or};
+ghost use Rattle.claimed_calls.specs.Jobs.{Waits, IsWorked, IsOut};
 
-use crate::job::{Job, Lead};
-use std::alloc::Global;
-use std::marker::PhantomData;
-use std::thread::Threads;
+use crate::job::Job;
+use crate::post::{End, Mate, Post, Seats};
+use crate::waiting::back_off;
+use std::alloc::{AllocError, Global};
 
-/// The threads beside the caller's, as it sees them.
+/// So many times the caller's thread looks whether all others have come: for a second or more, since a system that is busy may start
+/// them late.
+const START: u64 = 2_000_000;
+
+/// The threads beside the caller's, as it sees them: those that were taken on.
 #[derive(Drop)]
 pub struct Crew<'a, J: Job> {
-    mark: &'a u64,
-    jobs: PhantomData<J>,
+    ends: Vec<End<'a, J>>,
 }
 
 impl<'a, J: Job> Crew<'a, J> {
-    /// Whether all threads are still there, to be handed a job at once. No proof rests on what it tells.
+    /// Nobody.
+    pub fn new(alloc: Global) -> Self {
+        Crew {
+            ends: Vec::new(alloc),
+        }
+    }
+
+    /// Takes on one more, whose seat at the post is to go to a thread that stays there. `Err` is for want of memory.
+    pub fn take_on(&mut self, post: &'a Post<J>, seats: Seats<J>) -> Result<Mate<'a, J>, AllocError>
+        requires { (seats.end.table_id ≡ post.now.table.shared.table_id)
+            × (seats.mate.table_id ≡ post.now.table.shared.table_id) }
+    {
+        let Seats { end, mate } = seats;
+        self.ends.push(End::new(post, end))?;
+        Ok(Mate::new(post, mate))
+    }
+
+    /// Whether all threads are there, to be handed a job at once. No proof rests on what it tells.
     pub fn is_there(&self) -> bool {
-        *self.mark == 0
+        self.ends.iter().all(|end| end.is_free())
+    }
+
+    /// Waits until all threads are there, but not without end: one that can't be started never comes.
+    pub fn wait_until_there(&self) {
+        'looks: for looks in 0..START {
+            if self.is_there() {
+                return;
+            }
+            back_off(looks);
+        }
     }
 
     /// Works on each job: on each but the last in a thread of the crew, if one is there, and on the others in the caller's. `false` where
@@ -28,11 +58,11 @@ impl<'a, J: Job> Crew<'a, J> {
         ensures { IsTrue result → (k : ℕ) (d : _) → k < length jobs.old
             → IsWorked J.does (slice_index_or jobs.old k d) (slice_index_or jobs.new k d) }
     {
-        work_all(jobs);
-        true
+        work_from(&mut self.ends, jobs)
     }
 }
 
+/// Works on the job here.
 fn work_one<J: Job>(job: &mut Option<J>)
     requires { Waits J.asks job.old }
     ensures { IsWorked J.does job.old job.new }
@@ -43,6 +73,7 @@ fn work_one<J: Job>(job: &mut Option<J>)
     }
 }
 
+/// Works on all jobs here.
 fn work_all<J: Job>(jobs: &mut [Option<J>])
     requires { (k : ℕ) (d : _) → k < length jobs.old → Waits J.asks (slice_index_or jobs.old k d) }
     ensures { (k : ℕ) (d : _) → k < length jobs.old
@@ -53,21 +84,71 @@ fn work_all<J: Job>(jobs: &mut [Option<J>])
     }
 }
 
-/// Starts at most so many threads, and leads them. They end when the lead does, or where they have had no job for a while; it waits for
-/// their end.
-pub fn with_crew<R: Threads + Sync, J: Job, L: Lead<J>>(
-    rt: &R,
-    alloc: Global,
-    count: usize,
-    lead: L,
-) -> L::Output
-    requires { L.may lead }
-    ensures { L.gives lead result }
+/// Hands the job over, unless no thread is there to take it: then it stays.
+fn hand_over<J: Job>(end: &mut End<'_, J>, job: &mut Option<J>) -> bool
+    requires { Waits J.asks job.old }
+    ensures out { IsTrue result → (end.new.out ≡ true) × IsOut job.old end.new.seat.me.0 }
+    ensures same { IsFalse result → job.new ≡ job.old }
 {
-    let mark = 0;
-    let mut crew = Crew {
-        mark: &mark,
-        jobs: PhantomData,
+    let it = match job.take() {
+        Some(it) => it,
+        None => unreachable!(),
     };
-    lead.lead(&mut crew)
+    match end.hand(it) {
+        Ok(()) => true,
+        Err(it) => {
+            *job = Some(it);
+            false
+        }
+    }
+}
+
+/// Works on all jobs: on each of the first with the thread of an end, and on the others here.
+#[cycle(work_from)]
+fn work_from<J: Job>(ends: &mut [End<'_, J>], jobs: &mut [Option<J>]) -> bool
+    requires { (k : ℕ) (d : _) → k < length jobs.old → Waits J.asks (slice_index_or jobs.old k d) }
+    ensures { IsTrue result → (k : ℕ) (d : _) → k < length jobs.old
+        → IsWorked J.does (slice_index_or jobs.old k d) (slice_index_or jobs.new k d) }
+{
+    if jobs.len() < 2 {
+        work_all(jobs);
+        return true;
+    }
+    let Some((end, others)) = ends.split_first_mut() else {
+        work_all(jobs);
+        return true;
+    };
+    match jobs.split_first_mut() {
+        Some((job, rest)) => work_beside(end, others, job, rest),
+        None => true,
+    }
+}
+
+/// Works on the job with the thread of the end, and on the rest meanwhile.
+#[cycle(work_from)]
+fn work_beside<J: Job>(
+    end: &mut End<'_, J>,
+    others: &mut [End<'_, J>],
+    job: &mut Option<J>,
+    rest: &mut [Option<J>],
+) -> bool
+    requires job { Waits J.asks job.old }
+    requires rest { (k : ℕ) (d : _) → k < length rest.old → Waits J.asks (slice_index_or rest.old k d) }
+    ensures job { IsTrue result → IsWorked J.does job.old job.new }
+    ensures rest { IsTrue result → (k : ℕ) (d : _) → k < length rest.old
+        → IsWorked J.does (slice_index_or rest.old k d) (slice_index_or rest.new k d) }
+{
+    let handed = hand_over(end, job);
+    let whole = work_from(others, rest);
+    if !handed {
+        work_one(job);
+        return whole;
+    }
+    match end.wait_back() {
+        Some(back) => {
+            *job = Some(back);
+            whole
+        }
+        None => false,
+    }
 }

@@ -6,8 +6,14 @@ mod calls;
 mod claims;
 mod crew;
 mod job;
+mod plays;
+mod post;
+mod role;
 mod slots;
+mod waiting;
 
 pub use calls::call_each;
-pub use crew::{Crew, with_crew};
-pub use job::{Job, Lead};
+pub use crew::Crew;
+pub use job::Job;
+pub use post::{Mate, Post, PostSeat, Seats};
+pub use role::Role;

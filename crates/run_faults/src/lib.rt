@@ -6,6 +6,8 @@
 #[cfg(test)]
 mod certificates;
 #[cfg(test)]
+mod crews;
+#[cfg(test)]
 mod faults;
 #[cfg(test)]
 mod held_workers;

@@ -1,0 +1,221 @@
+//! A post: its owner leaves a job there, another thread works on it, and the owner takes back what was made of it.
+
+ghost use Rattle.std.specs.Prelude.{◌≡◌, ◌∷◌, [], None, IfErr, IfOk, IfSome, IfNone, OnOk, true};
+ghost use Rattle.claimed_calls.specs.declared.role.Role.TheVariants.{Gives, Given, Serves};
+ghost use Rattle.claimed_calls.specs.Posts.{IsEnd, IsMade};
+
+use crate::job::Job;
+use crate::plays::{Ends, Finish, Leave, PostRule, Sit, Stay, TakeBack, TakeJob};
+use crate::role::Role;
+use crate::waiting::back_off;
+use atomic_table::{Seat, Table};
+use std::alloc::{AllocError, Global};
+use std::sync::atomic::{AtomicBool, Ordering};
+
+// What the word of a post says: the other thread is there, and no job is out; one waits, or is worked on; it is done; or the other
+// thread is not there.
+const FREE: u64 = 0;
+
+const HANDED: u64 = 1;
+
+const DONE: u64 = 2;
+
+const AWAY: u64 = 3;
+
+/// So many times a thread looks for a job before it goes: for the most part of a millisecond.
+const PATIENCE: u64 = 4_000;
+
+/// A seat at a post.
+pub type PostSeat<J> = Seat<Option<J>, Role<J>>;
+
+/// Where a job lies while neither thread has it.
+#[derive(Drop)]
+pub struct Post<J: Job> {
+    pub(crate) table: Table<Option<J>, Role<J>, (), PostRule, Global>,
+    ghost sized: { (table.shared.table_id.words ≡ 1) × (table.shared.table_id.slots ≡ 1) },
+}
+
+/// The seats of both threads at a post.
+#[derive(Drop)]
+pub struct Seats<J: Job> {
+    pub(crate) end: PostSeat<J>,
+    pub(crate) mate: PostSeat<J>,
+    ghost end_is: { end.me ≡ (Gives, (0, None) ∷ []) },
+    ghost mate_is: { mate.me ≡ (Serves, []) },
+}
+
+/// What the owner of jobs has of a post, and whether a job of its is out.
+#[derive(Drop)]
+pub(crate) struct End<'a, J: Job> {
+    post: &'a Post<J>,
+    seat: PostSeat<J>,
+    out: bool,
+    ghost of: { seat.table_id ≡ post.now.table.shared.table_id },
+    ghost is_end: { IsEnd out seat.me },
+}
+
+/// What another thread has of a post, which is there for its owner's jobs.
+#[derive(Drop)]
+pub struct Mate<'a, J: Job> {
+    post: &'a Post<J>,
+    seat: PostSeat<J>,
+    ghost of: { seat.table_id ≡ post.now.table.shared.table_id },
+    ghost is_free: { seat.me ≡ (Serves, []) },
+}
+
+impl<J: Job> Post<J> {
+    /// A post with its seats. `Err` is for want of memory.
+    pub fn new(alloc: Global) -> Result<(Self, Seats<J>), AllocError>
+        ensures { IfOk result (λ r. (r.1.end.table_id ≡ r.0.table.shared.table_id)
+            × (r.1.mate.table_id ≡ r.0.table.shared.table_id)) }
+    {
+        let (table, mut end) = Table::vacant(alloc, &[AWAY], 1, &())?;
+        table.shared.load::<Sit>(&mut end, 0);
+        let mate = table.shared.split_seat::<Ends>(&mut end);
+        Ok((Post { table }, Seats { end, mate }))
+    }
+
+    fn word(&self) -> u64 {
+        self.table.shared.peek(0)
+    }
+}
+
+impl<'a, J: Job> End<'a, J> {
+    pub(crate) fn new(post: &'a Post<J>, seat: PostSeat<J>) -> Self
+        requires table { seat.table_id ≡ post.now.table.shared.table_id }
+        requires seat { seat.me ≡ (Gives, (0, None) ∷ []) }
+    {
+        End {
+            post,
+            seat,
+            out: false,
+        }
+    }
+
+    /// Whether the other thread is there, to be handed a job.
+    pub(crate) fn is_free(&self) -> bool {
+        self.post.word() == FREE
+    }
+
+    /// Whether a job is out.
+    pub(crate) fn is_out(&self) -> bool
+        ensures { result ≡ self.now.out }
+    {
+        self.out
+    }
+
+    /// Hands over a job, unless one is out or the other thread is not there: then the job comes back.
+    pub(crate) fn hand(&mut self, job: J) -> Result<(), J>
+        requires { J.asks job }
+        ensures out { OnOk result (self.new.seat.me.0 ≡ Given job) }
+        ensures back { IfErr result (λ j. j ≡ job) }
+    {
+        if self.out {
+            return Err(job);
+        }
+        let shared = &self.post.table.shared;
+        drop(shared.exchange(&mut self.seat, 0, Some(job)));
+        if shared.compare_exchange::<Leave>(&mut self.seat, 0, FREE, HANDED) == FREE {
+            self.out = true;
+            return Ok(());
+        }
+        match shared.exchange(&mut self.seat, 0, None) {
+            Some(job) => Err(job),
+            None => unreachable!(),
+        }
+    }
+
+    /// Takes back what was made of the job that is out, if that is done.
+    pub(crate) fn take_back(&mut self) -> Option<J>
+        requires { self.old.out ≡ true }
+        ensures made { IfSome result (IsMade J.does self.old.seat.me) }
+        ensures same { IfNone result ((self.new.seat.me ≡ self.old.seat.me) × (self.new.out ≡ true)) }
+    {
+        let shared = &self.post.table.shared;
+        if shared.peek(0) != DONE {
+            return None;
+        }
+        if shared.compare_exchange::<TakeBack>(&mut self.seat, 0, DONE, FREE) != DONE {
+            return None;
+        }
+        self.out = false;
+        shared.exchange(&mut self.seat, 0, None)
+    }
+
+    /// Waits for what is made of the job that is out. `None` after 2^64 tries, which no run makes.
+    pub(crate) fn wait_back(&mut self) -> Option<J>
+        requires { self.old.out ≡ true }
+        ensures { IfSome result (IsMade J.does self.old.seat.me) }
+    {
+        'tries: for tries in 0..u64::MAX {
+            if let Some(job) = self.take_back() {
+                return Some(job);
+            }
+            back_off(tries);
+        }
+        None
+    }
+}
+
+impl<'a, J: Job> Mate<'a, J> {
+    pub(crate) fn new(post: &'a Post<J>, seat: PostSeat<J>) -> Self
+        requires table { seat.table_id ≡ post.now.table.shared.table_id }
+        requires seat { seat.me ≡ (Serves, []) }
+    {
+        Mate { post, seat }
+    }
+
+    /// Says that this thread is there.
+    pub(crate) fn come(&mut self) {
+        let shared = &self.post.table.shared;
+        shared.compare_exchange::<Stay>(&mut self.seat, 0, AWAY, FREE);
+    }
+
+    /// Says that this thread is there no more, unless a job is out.
+    pub(crate) fn go(&mut self) -> bool {
+        let shared = &self.post.table.shared;
+        shared.compare_exchange::<Stay>(&mut self.seat, 0, FREE, AWAY) == FREE
+    }
+
+    /// Works on the job that waits, if one does.
+    pub(crate) fn serve(&mut self) -> bool {
+        let shared = &self.post.table.shared;
+        if shared.peek(0) != HANDED {
+            return false;
+        }
+        if shared.load::<TakeJob>(&mut self.seat, 0) != HANDED {
+            return false;
+        }
+        match shared.exchange(&mut self.seat, 0, None) {
+            Some(job) => drop(shared.exchange(&mut self.seat, 0, Some(job.work()))),
+            None => unreachable!(),
+        }
+        shared.store::<Finish>(&mut self.seat, 0, DONE);
+        true
+    }
+
+    /// Whether no job is out.
+    fn is_free(&self) -> bool {
+        self.post.word() == FREE
+    }
+
+    /// Is there, and works on each job that waits, until the flag is set, or no job has been out for the most part of a millisecond.
+    pub fn stay(self, closed: &AtomicBool) {
+        let mut mate = self;
+        let mut idle = 0u64;
+        mate.come();
+        'looks: for _ in 0..u64::MAX {
+            if mate.serve() || !mate.is_free() {
+                idle = 0;
+            } else if idle >= PATIENCE && mate.go() {
+                return;
+            } else {
+                idle = idle.saturating_add(1);
+            }
+            if closed.load(Ordering::SeqCst) {
+                return;
+            }
+            back_off(idle);
+        }
+    }
+}

@@ -1,0 +1,16 @@
+//! How a thread waits for another without a lock.
+
+use std::hint::spin_loop;
+use std::thread::yield_now;
+
+/// So many times a thread looks again at once, before it lets others run in between.
+const SPINS: u64 = 2_000;
+
+/// Lets some time pass before a thread looks again.
+pub(crate) fn back_off(tries: u64) {
+    if tries < SPINS {
+        spin_loop();
+    } else {
+        yield_now();
+    }
+}
