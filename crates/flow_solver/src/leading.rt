@@ -1,21 +1,22 @@
 //! Several phases with threads that stay beside the caller's.
 
-ghost use Rattle.std.specs.Prelude.{ℕ, ◌<◌, ◌≤◌, IsTrue, IfOk};
+ghost use Rattle.std.specs.Prelude.{◌≡◌, ℕ, ◌<◌, ◌≤◌, IsTrue, IfOk, IsSome, IfSome};
+ghost use denote.Param.Send.{IsSync};
 ghost use Rattle.solver_run.specs.Options.{AreOptions};
 ghost use Rattle.flow_solver.specs.Leading.{CanGoOn, GoesOn};
 ghost use Rattle.flow_solver.specs.Reached.{IsMet, IsReached};
 ghost use Rattle.flow_solver.specs.Search.{phase_count};
 
-use crate::led_by::led_by;
 use crate::prepared::Prepared;
 use crate::reached::{Reached, is_met, next_with};
 use crate::turn::Turn;
-use claimed_calls::Crew;
+use claimed_calls::{Crew, Post, Seats};
 use flow_model::Net;
 use mcf_base::Gate;
 use solver_run::SolveOptions;
 use std::alloc::{AllocError, Global};
-use std::thread::Threads;
+use std::sync::atomic::{AtomicBool, Ordering};
+use std::thread::{Threads, join_mut};
 
 /// Whether the gap is open yet, and the budget has one phase more.
 fn goes_on(net: &Net, options: &SolveOptions, reached: &Reached) -> bool
@@ -46,15 +47,124 @@ fn phases_with<'a, G: Gate, R: Threads + Sync>(
     ensures { IfOk result (GoesOn on.now.net.now options.now reached) }
 {
     let mut reached = reached;
+    let whole = crew.is_there();
     'phases: loop {
         reached = next_with(rt, alloc, on, options, gate, threads, crew, reached)?;
         if !goes_on(on.net, options, &reached) {
             return Ok(reached);
         }
-        if !crew.is_there() {
+        if whole && !crew.is_there() {
             return Ok(reached);
         }
     }
+}
+
+/// Waits for the crew, leads it for one phase or more, and then tells its threads to go.
+fn led<'a, G: Gate, R: Threads + Sync>(
+    rt: &R,
+    alloc: Global,
+    on: &'a Prepared<'a>,
+    options: &SolveOptions,
+    gate: &'a G,
+    threads: u16,
+    crew: Crew<'_, Turn<'a, G>>,
+    closed: &AtomicBool,
+    reached: Reached,
+) -> Result<Reached, AllocError>
+    requires { CanGoOn on.now.net.now options.now reached }
+    ensures { IfOk result (GoesOn on.now.net.now options.now reached) }
+{
+    let mut crew = crew;
+    crew.wait_until_there();
+    let result = phases_with(rt, alloc, on, options, gate, threads, &mut crew, reached);
+    closed.store(true, Ordering::SeqCst);
+    result
+}
+
+/// Takes on so many threads more, and leads all of them.
+#[cycle(with_mates)]
+fn with_mates<'a, G: Gate, R: Threads + Sync>(
+    rt: &R,
+    alloc: Global,
+    on: &'a Prepared<'a>,
+    options: &SolveOptions,
+    gate: &'a G,
+    threads: u16,
+    count: usize,
+    crew: Crew<'_, Turn<'a, G>>,
+    closed: &AtomicBool,
+    reached: Reached,
+) -> Result<Reached, AllocError>
+    requires { CanGoOn on.now.net.now options.now reached }
+    ensures { IfOk result (GoesOn on.now.net.now options.now reached) }
+{
+    if count == 0 {
+        return led(rt, alloc, on, options, gate, threads, crew, closed, reached);
+    }
+    match Post::new(alloc) {
+        Ok((post, seats)) => with_mate(
+            rt,
+            alloc,
+            on,
+            options,
+            gate,
+            threads,
+            count - 1,
+            &post,
+            seats,
+            crew,
+            closed,
+            reached,
+        ),
+        Err(_) => led(rt, alloc, on, options, gate, threads, crew, closed, reached),
+    }
+}
+
+/// Takes on a thread at the post and so many more, and leads all of them.
+#[cycle(with_mates)]
+fn with_mate<'a, 'c, G: Gate, R: Threads + Sync>(
+    rt: &R,
+    alloc: Global,
+    on: &'a Prepared<'a>,
+    options: &SolveOptions,
+    gate: &'a G,
+    threads: u16,
+    others: usize,
+    post: &'c Post<Turn<'a, G>>,
+    seats: Seats<Turn<'a, G>>,
+    crew: Crew<'c, Turn<'a, G>>,
+    closed: &AtomicBool,
+    reached: Reached,
+) -> Result<Reached, AllocError>
+    requires can { CanGoOn on.now.net.now options.now reached }
+    requires seats { (seats.end.table_id ≡ post.now.table.shared.table_id)
+        × (seats.mate.table_id ≡ post.now.table.shared.table_id) }
+    ensures { IfOk result (GoesOn on.now.net.now options.now reached) }
+{
+    let mut crew = crew;
+    let mate = match crew.take_on(post, seats) {
+        Ok(mate) => mate,
+        Err(_) => return led(rt, alloc, on, options, gate, threads, crew, closed, reached),
+    };
+    let mut mates = Some(mate);
+    let mut start = Some((crew, reached));
+    let mut stay = || {
+        if let Some(mate) = mates.take() {
+            mate.stay(closed);
+        }
+    };
+    let mut lead = || -> Result<Reached, AllocError>
+        requires { IsSync R.row × IsSync G.row × IsSome start × IfSome start (λ s. CanGoOn on.now.net.now options.now s.1) }
+        ensures { IfOk result (λ r. IfSome start.entry (λ s. GoesOn on.entry.now.net.now options.entry.now s.1 r)) }
+    {
+        match start.take() {
+            Some((crew, reached)) => with_mates(
+                rt, alloc, on, options, gate, threads, others, crew, closed, reached,
+            ),
+            None => unreachable!(),
+        }
+    };
+    join_mut(rt, &mut stay, &mut lead).1
 }
 
 /// One phase more or several, with a thread beside the caller's for each other hand. It ends where the gap is met or the budget is spent,
@@ -73,14 +183,17 @@ pub fn further<'a, G: Gate, R: Threads + Sync>(
     ensures { IfOk result (GoesOn on.now.net.now options.now reached) }
 {
     let others = reached.search.hands.len() - 1;
-    led_by::<R, Turn<'a, G>, Reached, Result<Reached, AllocError>, _>(
+    let closed = AtomicBool::new(false);
+    with_mates(
         rt,
         alloc,
+        on,
+        options,
+        gate,
+        threads,
         others,
+        Crew::new(alloc),
+        &closed,
         reached,
-        |from, crew|
-            requires { CanGoOn on.now.net.now options.now from }
-            ensures { IfOk result (GoesOn on.entry.now.net.now options.entry.now from) }
-        { phases_with(rt, alloc, on, options, gate, threads, crew, from) },
     )
 }

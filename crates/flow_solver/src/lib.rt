@@ -8,7 +8,6 @@ mod hands;
 mod history;
 mod kept;
 mod leading;
-mod led_by;
 mod noted;
 mod places;
 mod prepared;
