@@ -5,3 +5,4 @@ pub mod Rows
 pub mod Routes
 pub mod Adding
 pub mod Turns
+pub mod Leading

@@ -7,6 +7,7 @@ mod found;
 mod hands;
 mod history;
 mod kept;
+mod leading;
 mod noted;
 mod places;
 mod prepared;

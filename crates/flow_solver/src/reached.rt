@@ -12,7 +12,9 @@ ghost use Rattle.flow_solver.specs.Search.{phase_count};
 
 use crate::kept::lesser;
 use crate::prepared::Prepared;
-use crate::search::{Search, new_search, note_and_bound, route};
+use crate::search::{Search, new_search, note_and_bound, route, route_with};
+use crate::turn::Turn;
+use claimed_calls::Crew;
 use dual_bound::Bounded;
 use flow_model::Net;
 use flow_paths::{Fill, fullest};
@@ -101,6 +103,45 @@ pub fn next<G: Gate, R: Threads + Sync>(
     let mut search = search;
     let setting = setting_after_first(reference, options.step);
     route(rt, alloc, on, setting, gate, &mut search)?;
+    let fill = measured(on.net, &search.loads);
+    let later = note_and_bound(rt, alloc, on, &setting, &mut search, threads)?;
+    Ok(Reached {
+        search,
+        reference,
+        fill,
+        kept: lesser(kept, later),
+    })
+}
+
+/// As `next`, with the threads of a crew.
+pub fn next_with<'a, G: Gate, R: Threads + Sync>(
+    rt: &R,
+    alloc: Global,
+    on: &'a Prepared<'a>,
+    options: &SolveOptions,
+    gate: &'a G,
+    threads: u16,
+    crew: &mut Crew<'_, Turn<'a, G>>,
+    reached: Reached,
+) -> Result<Reached, AllocError>
+    requires no_cut { HasNoCut on.now.net.now }
+    requires options { AreOptions on.now.net.now options.now }
+    requires reached { IsReached on.now.net.now options.now reached }
+    requires unmet { ¬ (IsMet on.now.net.now options.now reached) }
+    requires budget { phase_count reached.search < options.now.phases }
+    ensures reached { IfOk result (λ r. IsReached on.now.net.now options.now r) }
+    ensures count { IfOk result (λ r. phase_count r.search ≡ phase_count reached.search + 1) }
+{
+    let _cells = on.net.cells();
+    let Reached {
+        search,
+        reference,
+        fill: _,
+        kept,
+    } = reached;
+    let mut search = search;
+    let setting = setting_after_first(reference, options.step);
+    route_with(rt, alloc, on, setting, gate, crew, &mut search)?;
     let fill = measured(on.net, &search.loads);
     let later = note_and_bound(rt, alloc, on, &setting, &mut search, threads)?;
     Ok(Reached {

@@ -7,9 +7,11 @@ ghost use Rattle.flow_paths.specs.Certificate.{FractionsArePrinted};
 ghost use Rattle.solver_run.specs.Headline.{IsSolved};
 ghost use Rattle.solver_run.specs.Options.{AreOptions};
 ghost use Rattle.solver_run.specs.Run.{IsSolverRun};
+ghost use Rattle.flow_solver.specs.Leading.{CanGoOn, GoesOn};
 ghost use Rattle.flow_solver.specs.Reached.{IsMet, IsReached};
 ghost use Rattle.flow_solver.specs.Search.{phase_count};
 
+use crate::leading::further;
 use crate::prepared::Prepared;
 use crate::reached::{Reached, first, is_met, lower, next};
 use crate::search::Search;
@@ -32,6 +34,26 @@ use std::thread::Threads;
 struct Ended {
     reached: Reached,
     closed: bool,
+}
+
+/// One phase more where one worker is alone, and else one or several, with threads that stay beside the caller's.
+fn go_on<G: Gate, R: Threads + Sync>(
+    rt: &R,
+    alloc: Global,
+    on: &Prepared<'_>,
+    options: &SolveOptions,
+    gate: &G,
+    threads: u16,
+    reached: Reached,
+) -> Result<Reached, AllocError>
+    requires { CanGoOn on.now.net.now options.now reached }
+    ensures { IfOk result (GoesOn on.now.net.now options.now reached) }
+{
+    if options.workers == 1 {
+        next(rt, alloc, on, options, gate, threads, reached)
+    } else {
+        further(rt, alloc, on, options, gate, threads, reached)
+    }
 }
 
 /// Phase after phase, until the gap is met or the budget is spent.
@@ -64,7 +86,7 @@ fn all_phases<G: Gate, R: Threads + Sync>(
                 closed: false,
             });
         }
-        reached = next(rt, alloc, on, options, gate, threads, reached)?;
+        reached = go_on(rt, alloc, on, options, gate, threads, reached)?;
     }
 }
 

@@ -1,0 +1,199 @@
+//! Several phases with threads that stay beside the caller's.
+
+ghost use Rattle.std.specs.Prelude.{◌≡◌, ℕ, ◌<◌, ◌≤◌, IsTrue, IfOk, IsSome, IfSome};
+ghost use denote.Param.Send.{IsSync};
+ghost use Rattle.solver_run.specs.Options.{AreOptions};
+ghost use Rattle.flow_solver.specs.Leading.{CanGoOn, GoesOn};
+ghost use Rattle.flow_solver.specs.Reached.{IsMet, IsReached};
+ghost use Rattle.flow_solver.specs.Search.{phase_count};
+
+use crate::prepared::Prepared;
+use crate::reached::{Reached, is_met, next_with};
+use crate::turn::Turn;
+use claimed_calls::{Crew, Post, Seats};
+use flow_model::Net;
+use mcf_base::Gate;
+use solver_run::SolveOptions;
+use std::alloc::{AllocError, Global};
+use std::sync::atomic::{AtomicBool, Ordering};
+use std::thread::{Threads, join_mut};
+
+/// Whether the gap is open yet, and the budget has one phase more.
+fn goes_on(net: &Net, options: &SolveOptions, reached: &Reached) -> bool
+    requires options { AreOptions net.now options.now }
+    requires reached { IsReached net.now options.now reached.now }
+    requires budget { phase_count reached.now.search ≤ options.now.phases }
+    ensures unmet { IsTrue result → ¬ (IsMet net.now options.now reached.now) }
+    ensures budget { IsTrue result → phase_count reached.now.search < options.now.phases }
+{
+    if is_met(net, options, reached) {
+        return false;
+    }
+    reached.search.history.phases() < options.phases
+}
+
+/// One phase or more with this crew, until the gap is met, the budget is spent or a thread has left.
+fn phases_with<'a, G: Gate, R: Threads + Sync>(
+    rt: &R,
+    alloc: Global,
+    on: &'a Prepared<'a>,
+    options: &SolveOptions,
+    gate: &'a G,
+    threads: u16,
+    crew: &mut Crew<'_, Turn<'a, G>>,
+    reached: Reached,
+) -> Result<Reached, AllocError>
+    requires { CanGoOn on.now.net.now options.now reached }
+    ensures { IfOk result (GoesOn on.now.net.now options.now reached) }
+{
+    let mut reached = reached;
+    let whole = crew.is_there();
+    'phases: loop {
+        reached = next_with(rt, alloc, on, options, gate, threads, crew, reached)?;
+        if !goes_on(on.net, options, &reached) {
+            return Ok(reached);
+        }
+        if whole && !crew.is_there() {
+            return Ok(reached);
+        }
+    }
+}
+
+/// Waits for the crew, leads it for one phase or more, and then tells its threads to go.
+fn led<'a, G: Gate, R: Threads + Sync>(
+    rt: &R,
+    alloc: Global,
+    on: &'a Prepared<'a>,
+    options: &SolveOptions,
+    gate: &'a G,
+    threads: u16,
+    crew: Crew<'_, Turn<'a, G>>,
+    closed: &AtomicBool,
+    reached: Reached,
+) -> Result<Reached, AllocError>
+    requires { CanGoOn on.now.net.now options.now reached }
+    ensures { IfOk result (GoesOn on.now.net.now options.now reached) }
+{
+    let mut crew = crew;
+    crew.wait_until_there();
+    let result = phases_with(rt, alloc, on, options, gate, threads, &mut crew, reached);
+    closed.store(true, Ordering::SeqCst);
+    result
+}
+
+/// Takes on so many threads more, and leads all of them.
+#[cycle(with_mates)]
+fn with_mates<'a, G: Gate, R: Threads + Sync>(
+    rt: &R,
+    alloc: Global,
+    on: &'a Prepared<'a>,
+    options: &SolveOptions,
+    gate: &'a G,
+    threads: u16,
+    count: usize,
+    crew: Crew<'_, Turn<'a, G>>,
+    closed: &AtomicBool,
+    reached: Reached,
+) -> Result<Reached, AllocError>
+    requires { CanGoOn on.now.net.now options.now reached }
+    ensures { IfOk result (GoesOn on.now.net.now options.now reached) }
+{
+    if count == 0 {
+        return led(rt, alloc, on, options, gate, threads, crew, closed, reached);
+    }
+    match Post::new(alloc) {
+        Ok((post, seats)) => with_mate(
+            rt,
+            alloc,
+            on,
+            options,
+            gate,
+            threads,
+            count - 1,
+            &post,
+            seats,
+            crew,
+            closed,
+            reached,
+        ),
+        Err(_) => led(rt, alloc, on, options, gate, threads, crew, closed, reached),
+    }
+}
+
+/// Takes on a thread at the post and so many more, and leads all of them.
+#[cycle(with_mates)]
+fn with_mate<'a, 'c, G: Gate, R: Threads + Sync>(
+    rt: &R,
+    alloc: Global,
+    on: &'a Prepared<'a>,
+    options: &SolveOptions,
+    gate: &'a G,
+    threads: u16,
+    others: usize,
+    post: &'c Post<Turn<'a, G>>,
+    seats: Seats<Turn<'a, G>>,
+    crew: Crew<'c, Turn<'a, G>>,
+    closed: &AtomicBool,
+    reached: Reached,
+) -> Result<Reached, AllocError>
+    requires can { CanGoOn on.now.net.now options.now reached }
+    requires seats { (seats.end.table_id ≡ post.now.table.shared.table_id)
+        × (seats.mate.table_id ≡ post.now.table.shared.table_id) }
+    ensures { IfOk result (GoesOn on.now.net.now options.now reached) }
+{
+    let mut crew = crew;
+    let mate = match crew.take_on(post, seats) {
+        Ok(mate) => mate,
+        Err(_) => return led(rt, alloc, on, options, gate, threads, crew, closed, reached),
+    };
+    let mut mates = Some(mate);
+    let mut start = Some((crew, reached));
+    let mut stay = || {
+        if let Some(mate) = mates.take() {
+            mate.stay(closed);
+        }
+    };
+    let mut lead = || -> Result<Reached, AllocError>
+        requires { IsSync R.row × IsSync G.row × IsSome start × IfSome start (λ s. CanGoOn on.now.net.now options.now s.1) }
+        ensures { IfOk result (λ r. IfSome start.entry (λ s. GoesOn on.entry.now.net.now options.entry.now s.1 r)) }
+    {
+        match start.take() {
+            Some((crew, reached)) => with_mates(
+                rt, alloc, on, options, gate, threads, others, crew, closed, reached,
+            ),
+            None => unreachable!(),
+        }
+    };
+    join_mut(rt, &mut stay, &mut lead).1
+}
+
+/// One phase more or several, with a thread beside the caller's for each other hand. It ends where the gap is met or the budget is spent,
+/// and may end before, since threads leave that have had no turn for a while. Bounds are made in at most so many threads, one of which
+/// may note the rows meanwhile. `Err` is for want of memory.
+pub fn further<'a, G: Gate, R: Threads + Sync>(
+    rt: &R,
+    alloc: Global,
+    on: &'a Prepared<'a>,
+    options: &SolveOptions,
+    gate: &'a G,
+    threads: u16,
+    reached: Reached,
+) -> Result<Reached, AllocError>
+    requires { CanGoOn on.now.net.now options.now reached }
+    ensures { IfOk result (GoesOn on.now.net.now options.now reached) }
+{
+    let others = reached.search.hands.len() - 1;
+    let closed = AtomicBool::new(false);
+    with_mates(
+        rt,
+        alloc,
+        on,
+        options,
+        gate,
+        threads,
+        others,
+        Crew::new(alloc),
+        &closed,
+        reached,
+    )
+}
