@@ -8,7 +8,7 @@ use prog.Atomic.{either}
 use Rattle.atomic_table.specs.Table.{State, step, Act, keeps, takes, gives, carried_after, stepped, Valid, Allows, Splits, opening, rest}
 use Rattle.claimed_calls.specs.declared.role.Role.{Role}
 use Rattle.claimed_calls.specs.declared.role.Role.TheVariants.{Fresh, Whole, Gives, Given, Serves, Serving}
-use Rattle.claimed_calls.specs.Posts.{Stage, fresh, whole, away, free, handed, taken, done, word_of, home_of, roles_of, state_of, Fits, IsKept, Sat, role_of, first_in, is_given, SitsDown, Stays, Leaves, IsBack, TakesBack, IsTaken, TakesJob, Finishes}
+use Rattle.claimed_calls.specs.Posts.{Stage, fresh, whole, away, free, handed, taken, done, word_of, home_of, roles_of, state_of, Fits, IsAtStage, Sat, role_of, first_in, is_given, SitsDown, IsUnchanged, Leaves, IsBack, TakesBack, IsTaken, TakesJob, Finishes}
 
 module _ {J : Type 0} where
   abbrev number : Role J → ℕ
@@ -184,18 +184,18 @@ module _ {J : Type 0} (asks : J → Type 0) (does : J → J → Type 0) where
   abbrev St : Type 0
   St = State (Option J) (Role J)
 
-  kept : (g : Stage J) → Fits asks does g → IsKept asks does (state_of g)
+  kept : (g : Stage J) → Fits asks does g → IsAtStage asks does (state_of g)
   kept g f = record { stage = g; is = refl; fits = f }
 
   -- the seat can take the step, and knows this afterwards
   abbrev Can : Sat J → (ℕ → ℕ) → (ℕ → Sat J → Type 0) → ℕ → St → Type 0
   Can me f then id s =
-      (w : Role J) × (a : Act (Option J)) × Valid s.homes me.1 a × IsKept asks does (stepped s 0 (f (slice_index s.words 0)) id me.1 w a)
+      (w : Role J) × (a : Act (Option J)) × Valid s.homes me.1 a × IsAtStage asks does (stepped s 0 (f (slice_index s.words 0)) id me.1 w a)
       × then (slice_index s.words 0) (w, carried_after me.1 a)
 
   allows : (slots id : ℕ) (me : Sat J) (f : ℕ → ℕ) (then : ℕ → Sat J → Type 0)
       → ((g : Stage J) → Fits asks does g → get_elem? (roles_of g) id ≡ some me.0 → Can me f then id (state_of g))
-      → Allows (IsKept asks does) slots id me 0 f then
+      → Allows (IsAtStage asks does) slots id me 0 f then
   allows slots id me f then can s k _ at _ =
       subst (λ (x : St). get_elem? x.views id ≡ some me.0 → Can me f then id x) (sym k.is) (can k.stage k.fits) at
 
@@ -206,11 +206,11 @@ module _ {J : Type 0} (asks : J → Type 0) (does : J → J → Type 0) where
   at_second : (me : Sat J) (f : ℕ → ℕ) (then : ℕ → Sat J → Type 0) (id : ℕ) (s : St) → id ≡ 1 → Can me f then 1 s → Can me f then id s
   at_second me f then id s is can = subst (λ (n : ℕ). Can me f then n s) (sym is) can
 
-  pub opens : IsKept asks does (opening (3 ∷ []) (None ∷ []) Fresh)
+  pub opens : IsAtStage asks does (opening (3 ∷ []) (None ∷ []) Fresh)
   opens = kept fresh tt
 
-  pub sits : (slots id : ℕ) (me : Sat J) → me ≡ (Fresh, []) → Allows (IsKept asks does) slots id me 0 (λ n. n) (SitsDown (step slots 0 0 0 none) me)
-  sits slots id me is = subst (λ (m : Sat J). Allows (IsKept asks does) slots id m 0 (λ n. n) (SitsDown (step slots 0 0 0 none) m)) (sym is)
+  pub sits : (slots id : ℕ) (me : Sat J) → me ≡ (Fresh, []) → Allows (IsAtStage asks does) slots id me 0 (λ n. n) (SitsDown (step slots 0 0 0 none) me)
+  sits slots id me is = subst (λ (m : Sat J). Allows (IsAtStage asks does) slots id m 0 (λ n. n) (SitsDown (step slots 0 0 0 none) m)) (sym is)
       (allows slots id (Fresh, []) (λ n. n) (SitsDown (step slots 0 0 0 none) (Fresh, [])) (λ g f at. (let p = is_fresh g id at in at_first (Fresh, []) (λ n. n) (SitsDown (step slots 0 0 0 none) (Fresh, [])) id (state_of g) p.0 (by_stage g p.1))))
     where
       by_stage : (g : Stage J) → IsFresh g → Can (Fresh, []) (λ n. n) (SitsDown (step slots 0 0 0 none) (Fresh, [])) 0 (state_of g)
@@ -222,25 +222,25 @@ module _ {J : Type 0} (asks : J → Type 0) (does : J → J → Type 0) where
       by_stage (done j k) p = absurd p
       by_stage fresh p = (Whole, takes 0 None, refl, kept whole tt, refl)
 
-  pub splits : (id : ℕ) (v : Role J) → v ≡ Whole → Splits (IsKept asks does) id v Gives Serves
-  splits id v is s k at = subst (λ (x : St). get_elem? x.views id ≡ some v → IsKept asks does record { words = x.words; homes = x.homes; views = slice_set x.views id Gives ++ Serves ∷ [] }) (sym k.is)
+  pub splits : (id : ℕ) (v : Role J) → v ≡ Whole → Splits (IsAtStage asks does) id v Gives Serves
+  splits id v is s k at = subst (λ (x : St). get_elem? x.views id ≡ some v → IsAtStage asks does record { words = x.words; homes = x.homes; views = slice_set x.views id Gives ++ Serves ∷ [] }) (sym k.is)
       (λ here. (let p = is_whole k.stage id (here ∙ ap some is) in at_zero k.stage p.0 p.1)) at
     where
-      at_zero : (g : Stage J) → id ≡ 0 → IsWhole g → IsKept asks does record { words = word_of g ∷ []; homes = home_of g ∷ []; views = slice_set (roles_of g) id Gives ++ Serves ∷ [] }
+      at_zero : (g : Stage J) → id ≡ 0 → IsWhole g → IsAtStage asks does record { words = word_of g ∷ []; homes = home_of g ∷ []; views = slice_set (roles_of g) id Gives ++ Serves ∷ [] }
       at_zero fresh zero_is p = absurd p
       at_zero away zero_is p = absurd p
       at_zero free zero_is p = absurd p
       at_zero (handed j) zero_is p = absurd p
       at_zero (taken j) zero_is p = absurd p
       at_zero (done j k) zero_is p = absurd p
-      at_zero whole zero_is p = subst (λ (n : ℕ). IsKept asks does record { words = 3 ∷ []; homes = none ∷ []; views = slice_set (Whole ∷ []) n Gives ++ Serves ∷ [] }) (sym zero_is) (kept away tt)
+      at_zero whole zero_is p = subst (λ (n : ℕ). IsAtStage asks does record { words = 3 ∷ []; homes = none ∷ []; views = slice_set (Whole ∷ []) n Gives ++ Serves ∷ [] }) (sym zero_is) (kept away tt)
 
   -- the other thread comes
-  pub comes : (slots id : ℕ) (me : Sat J) → me ≡ (Serves, []) → Allows (IsKept asks does) slots id me 0 (λ n. either (n == 3) 0 n) (Stays (step slots 0 3 0 none) me)
-  comes slots id me is = subst (λ (m : Sat J). Allows (IsKept asks does) slots id m 0 (λ n. either (n == 3) 0 n) (Stays (step slots 0 3 0 none) m)) (sym is)
-      (allows slots id (Serves, []) (λ n. either (n == 3) 0 n) (Stays (step slots 0 3 0 none) (Serves, [])) (λ g f at. (let p = mate_free g id at in at_second (Serves, []) (λ n. either (n == 3) 0 n) (Stays (step slots 0 3 0 none) (Serves, [])) id (state_of g) p.0 (by_stage g f p.1))))
+  pub comes : (slots id : ℕ) (me : Sat J) → me ≡ (Serves, []) → Allows (IsAtStage asks does) slots id me 0 (λ n. either (n == 3) 0 n) (IsUnchanged (step slots 0 3 0 none) me)
+  comes slots id me is = subst (λ (m : Sat J). Allows (IsAtStage asks does) slots id m 0 (λ n. either (n == 3) 0 n) (IsUnchanged (step slots 0 3 0 none) m)) (sym is)
+      (allows slots id (Serves, []) (λ n. either (n == 3) 0 n) (IsUnchanged (step slots 0 3 0 none) (Serves, [])) (λ g f at. (let p = mate_free g id at in at_second (Serves, []) (λ n. either (n == 3) 0 n) (IsUnchanged (step slots 0 3 0 none) (Serves, [])) id (state_of g) p.0 (by_stage g f p.1))))
     where
-      by_stage : (g : Stage J) → Fits asks does g → MateFree g → Can (Serves, []) (λ n. either (n == 3) 0 n) (Stays (step slots 0 3 0 none) (Serves, [])) 1 (state_of g)
+      by_stage : (g : Stage J) → Fits asks does g → MateFree g → Can (Serves, []) (λ n. either (n == 3) 0 n) (IsUnchanged (step slots 0 3 0 none) (Serves, [])) 1 (state_of g)
       by_stage fresh f p = absurd p
       by_stage whole f p = absurd p
       by_stage (taken j) f p = absurd p
@@ -250,11 +250,11 @@ module _ {J : Type 0} (asks : J → Type 0) (does : J → J → Type 0) where
       by_stage (done j k) f p = (Serves, keeps, tt, kept (done j k) f, refl)
 
   -- the other thread goes
-  pub goes : (slots id : ℕ) (me : Sat J) → me ≡ (Serves, []) → Allows (IsKept asks does) slots id me 0 (λ n. either (n == 0) 3 n) (Stays (step slots 0 0 3 none) me)
-  goes slots id me is = subst (λ (m : Sat J). Allows (IsKept asks does) slots id m 0 (λ n. either (n == 0) 3 n) (Stays (step slots 0 0 3 none) m)) (sym is)
-      (allows slots id (Serves, []) (λ n. either (n == 0) 3 n) (Stays (step slots 0 0 3 none) (Serves, [])) (λ g f at. (let p = mate_free g id at in at_second (Serves, []) (λ n. either (n == 0) 3 n) (Stays (step slots 0 0 3 none) (Serves, [])) id (state_of g) p.0 (by_stage g f p.1))))
+  pub goes : (slots id : ℕ) (me : Sat J) → me ≡ (Serves, []) → Allows (IsAtStage asks does) slots id me 0 (λ n. either (n == 0) 3 n) (IsUnchanged (step slots 0 0 3 none) me)
+  goes slots id me is = subst (λ (m : Sat J). Allows (IsAtStage asks does) slots id m 0 (λ n. either (n == 0) 3 n) (IsUnchanged (step slots 0 0 3 none) m)) (sym is)
+      (allows slots id (Serves, []) (λ n. either (n == 0) 3 n) (IsUnchanged (step slots 0 0 3 none) (Serves, [])) (λ g f at. (let p = mate_free g id at in at_second (Serves, []) (λ n. either (n == 0) 3 n) (IsUnchanged (step slots 0 0 3 none) (Serves, [])) id (state_of g) p.0 (by_stage g f p.1))))
     where
-      by_stage : (g : Stage J) → Fits asks does g → MateFree g → Can (Serves, []) (λ n. either (n == 0) 3 n) (Stays (step slots 0 0 3 none) (Serves, [])) 1 (state_of g)
+      by_stage : (g : Stage J) → Fits asks does g → MateFree g → Can (Serves, []) (λ n. either (n == 0) 3 n) (IsUnchanged (step slots 0 0 3 none) (Serves, [])) 1 (state_of g)
       by_stage fresh f p = absurd p
       by_stage whole f p = absurd p
       by_stage (taken j) f p = absurd p
@@ -264,8 +264,8 @@ module _ {J : Type 0} (asks : J → Type 0) (does : J → J → Type 0) where
       by_stage (done j k) f p = (Serves, keeps, tt, kept (done j k) f, refl)
 
   -- the other thread takes a job that waits
-  pub takes_job : (slots id : ℕ) (me : Sat J) → me ≡ (Serves, []) → Allows (IsKept asks does) slots id me 0 (λ n. n) (TakesJob asks (step slots 0 0 0 none) me)
-  takes_job slots id me is = subst (λ (m : Sat J). Allows (IsKept asks does) slots id m 0 (λ n. n) (TakesJob asks (step slots 0 0 0 none) m)) (sym is)
+  pub takes_job : (slots id : ℕ) (me : Sat J) → me ≡ (Serves, []) → Allows (IsAtStage asks does) slots id me 0 (λ n. n) (TakesJob asks (step slots 0 0 0 none) me)
+  takes_job slots id me is = subst (λ (m : Sat J). Allows (IsAtStage asks does) slots id m 0 (λ n. n) (TakesJob asks (step slots 0 0 0 none) m)) (sym is)
       (allows slots id (Serves, []) (λ n. n) (TakesJob asks (step slots 0 0 0 none) (Serves, [])) (λ g f at. (let p = mate_free g id at in at_second (Serves, []) (λ n. n) (TakesJob asks (step slots 0 0 0 none) (Serves, [])) id (state_of g) p.0 (by_stage g f p.1))))
     where
       by_stage : (g : Stage J) → Fits asks does g → MateFree g → Can (Serves, []) (λ n. n) (TakesJob asks (step slots 0 0 0 none) (Serves, [])) 1 (state_of g)
@@ -278,8 +278,8 @@ module _ {J : Type 0} (asks : J → Type 0) (does : J → J → Type 0) where
       by_stage (done j k) f p = (Serves, keeps, tt, kept (done j k) f, refl)
 
   -- and puts there what it made of the job
-  pub finishes : (slots id : ℕ) (me : Sat J) (j k : J) → me ≡ (Serving j, (0, Some k) ∷ []) → does j k → Allows (IsKept asks does) slots id me 0 (λ _. 2) (λ _. Finishes (step slots 0 2 0 none) me 2)
-  finishes slots id me j k is d = subst (λ (m : Sat J). Allows (IsKept asks does) slots id m 0 (λ _. 2) (λ _. Finishes (step slots 0 2 0 none) m 2)) (sym is)
+  pub finishes : (slots id : ℕ) (me : Sat J) (j k : J) → me ≡ (Serving j, (0, Some k) ∷ []) → does j k → Allows (IsAtStage asks does) slots id me 0 (λ _. 2) (λ _. Finishes (step slots 0 2 0 none) me 2)
+  finishes slots id me j k is d = subst (λ (m : Sat J). Allows (IsAtStage asks does) slots id m 0 (λ _. 2) (λ _. Finishes (step slots 0 2 0 none) m 2)) (sym is)
       (allows slots id (Serving j, (0, Some k) ∷ []) (λ _. 2) (λ _. Finishes (step slots 0 2 0 none) (Serving j, (0, Some k) ∷ []) 2) (λ g f at. (let p = mate_works g id j at in at_second (Serving j, (0, Some k) ∷ []) (λ _. 2) (λ _. Finishes (step slots 0 2 0 none) (Serving j, (0, Some k) ∷ []) 2) id (state_of g) p.0 (by_stage g p.1))))
     where
       by_stage : (g : Stage J) → MateWorks j g → Can (Serving j, (0, Some k) ∷ []) (λ _. 2) (λ _. Finishes (step slots 0 2 0 none) (Serving j, (0, Some k) ∷ []) 2) 1 (state_of g)
@@ -292,8 +292,8 @@ module _ {J : Type 0} (asks : J → Type 0) (does : J → J → Type 0) where
       by_stage (taken x) p = (Serves, gives, tt, kept (done x k) (subst (λ (y : J). does y k) (sym (ap (job_in j) p)) d), refl)
 
   -- the owner leaves a job
-  pub leaves : (slots id : ℕ) (me : Sat J) (j : J) → me ≡ (Gives, (0, Some j) ∷ []) → asks j → Allows (IsKept asks does) slots id me 0 (λ n. either (n == 0) 1 n) (Leaves (step slots 0 0 1 none) me)
-  leaves slots id me j is may = subst (λ (m : Sat J). Allows (IsKept asks does) slots id m 0 (λ n. either (n == 0) 1 n) (Leaves (step slots 0 0 1 none) m)) (sym is)
+  pub leaves : (slots id : ℕ) (me : Sat J) (j : J) → me ≡ (Gives, (0, Some j) ∷ []) → asks j → Allows (IsAtStage asks does) slots id me 0 (λ n. either (n == 0) 1 n) (Leaves (step slots 0 0 1 none) me)
+  leaves slots id me j is may = subst (λ (m : Sat J). Allows (IsAtStage asks does) slots id m 0 (λ n. either (n == 0) 1 n) (Leaves (step slots 0 0 1 none) m)) (sym is)
       (allows slots id (Gives, (0, Some j) ∷ []) (λ n. either (n == 0) 1 n) (Leaves (step slots 0 0 1 none) (Gives, (0, Some j) ∷ [])) (λ g f at. (let p = end_idle g id at in at_first (Gives, (0, Some j) ∷ []) (λ n. either (n == 0) 1 n) (Leaves (step slots 0 0 1 none) (Gives, (0, Some j) ∷ [])) id (state_of g) p.0 (by_stage g p.1))))
     where
       by_stage : (g : Stage J) → EndIdle g → Can (Gives, (0, Some j) ∷ []) (λ n. either (n == 0) 1 n) (Leaves (step slots 0 0 1 none) (Gives, (0, Some j) ∷ [])) 0 (state_of g)
@@ -306,11 +306,11 @@ module _ {J : Type 0} (asks : J → Type 0) (does : J → J → Type 0) where
       by_stage free p = (Given j, gives, tt, kept (handed j) may, refl)
 
   -- the owner takes back what was made of the job
-  pub takes_back : (slots id : ℕ) (me : Sat J) → is_given me.0 ≡ true → me.1 ≡ [] → Allows (IsKept asks does) slots id me 0 (λ n. either (n == 2) 0 n) (TakesBack does (step slots 0 2 0 none) me)
+  pub takes_back : (slots id : ℕ) (me : Sat J) → is_given me.0 ≡ true → me.1 ≡ [] → Allows (IsAtStage asks does) slots id me 0 (λ n. either (n == 2) 0 n) (TakesBack does (step slots 0 2 0 none) me)
   takes_back slots id me given empty =
       let j = job_of me.0 given in
       let is : me ≡ (Given j.0, []) = (λ i. (j.1 i, empty i)) in
-      subst (λ (m : Sat J). Allows (IsKept asks does) slots id m 0 (λ n. either (n == 2) 0 n) (TakesBack does (step slots 0 2 0 none) m)) (sym is)
+      subst (λ (m : Sat J). Allows (IsAtStage asks does) slots id m 0 (λ n. either (n == 2) 0 n) (TakesBack does (step slots 0 2 0 none) m)) (sym is)
       (allows slots id (Given j.0, []) (λ n. either (n == 2) 0 n) (TakesBack does (step slots 0 2 0 none) (Given j.0, [])) (λ g f at. (let p = end_out g id j.0 at in at_first (Given j.0, []) (λ n. either (n == 2) 0 n) (TakesBack does (step slots 0 2 0 none) (Given j.0, [])) id (state_of g) p.0 (by_stage j.0 g f p.1))))
     where
       by_stage : (i : J) (g : Stage J) → Fits asks does g → EndOut i g → Can (Given i, []) (λ n. either (n == 2) 0 n) (TakesBack does (step slots 0 2 0 none) (Given i, [])) 0 (state_of g)

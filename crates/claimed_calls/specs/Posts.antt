@@ -3,6 +3,7 @@ use Rattle.std.specs.Prelude.{◌≡◌, ℕ, ◌==◌, Bool, true, false, List,
 use mathlib.Core.Option.{none, some}
 use mathlib.Core.Option as maybe
 use Rattle.atomic_table.specs.Table.{State, Me, Step}
+use Rattle.atomic_table.specs.Seated.{TableId}
 use Rattle.claimed_calls.specs.declared.role.Role.{Role}
 use Rattle.claimed_calls.specs.declared.role.Role.TheVariants.{Fresh, Whole, Gives, Given, Serves, Serving}
 
@@ -59,10 +60,14 @@ module _ {J : Type 0} where
   Fits asks does (taken j) = asks j
   Fits asks does (done j k) = does j k
 
-  pub record IsKept (asks : J → Type 0) (does : J → J → Type 0) (s : State (Option J) (Role J)) : Type 0 where
+  pub record IsAtStage (asks : J → Type 0) (does : J → J → Type 0) (s : State (Option J) (Role J)) : Type 0 where
     pub stage : Stage J
     pub is : s ≡ state_of stage
     pub fits : Fits asks does stage
+
+-- the two seats are at the post
+abbrev pub AreAt : TableId → TableId → TableId → Type 0
+AreAt post end mate = (end ≡ post) × (mate ≡ post)
 
 abbrev pub Sat : Type 0 → Type 0
 Sat J = Me (Option J) (Role J)
@@ -81,8 +86,8 @@ module _ {J : Type 0} where
   SitsDown s m found n = n ≡ (Whole, (0, None) ∷ [])
 
   -- nothing more is known than before
-  abbrev pub Stays : Step (Option J) → Sat J → ℕ → Sat J → Type 0
-  Stays s m found n = n ≡ m
+  abbrev pub IsUnchanged : Step (Option J) → Sat J → ℕ → Sat J → Type 0
+  IsUnchanged s m found n = n ≡ m
 
   -- the job in hand is left at the post where the other thread was free, and stays in hand else
   abbrev pub Leaves : Step (Option J) → Sat J → ℕ → Sat J → Type 0

@@ -2,15 +2,12 @@
 
 ghost use Rattle.std.specs.Prelude.{◌≡◌, ℕ, ◌<◌, IsTrue, IsFalse, true, length, slice_index_or};
 ghost use Rattle.claimed_calls.specs.Jobs.{Waits, IsWorked, IsOut};
+ghost use Rattle.claimed_calls.specs.Posts.{AreAt};
 
 use crate::job::Job;
 use crate::post::{End, Mate, Post, Seats};
-use crate::waiting::back_off;
+use crate::waiting::{START, back_off};
 use std::alloc::{AllocError, Global};
-
-/// So many times the caller's thread looks whether all others have come: for a second or more, since a system that is busy may start
-/// them late.
-const START: u64 = 2_000_000;
 
 /// The threads beside the caller's, as it sees them: those that were taken on.
 #[derive(Drop)]
@@ -26,17 +23,18 @@ impl<'a, J: Job> Crew<'a, J> {
         }
     }
 
-    /// Takes on one more, whose seat at the post is to go to a thread that stays there. `Err` is for want of memory.
+    /// Takes on one more, at a post whose seats these are. What is answered is for the thread, which is to stay there. `Err` is for want of
+    /// memory.
     pub fn take_on(&mut self, post: &'a Post<J>, seats: Seats<J>) -> Result<Mate<'a, J>, AllocError>
-        requires { (seats.end.table_id ≡ post.now.table.shared.table_id)
-            × (seats.mate.table_id ≡ post.now.table.shared.table_id) }
+        requires { AreAt post.now.table.shared.table_id seats.end.table_id seats.mate.table_id }
     {
         let Seats { end, mate } = seats;
         self.ends.push(End::new(post, end))?;
         Ok(Mate::new(post, mate))
     }
 
-    /// Whether all threads are there, to be handed a job at once. No proof rests on what it tells.
+    /// Whether all threads are there, to be handed a job at once. They are not where one has gone, since it was told to or had no job for a
+    /// while; it doesn't come back. No proof rests on what this tells.
     pub fn is_there(&self) -> bool {
         self.ends.iter().all(|end| end.is_free())
     }
@@ -51,8 +49,9 @@ impl<'a, J: Job> Crew<'a, J> {
         }
     }
 
-    /// Works on each job: on each but the last in a thread of the crew, if one is there, and on the others in the caller's. `false` where
-    /// a job was waited for 2^64 times, which no run does; then the crew is of no more use.
+    /// Works on each job: on the first in the first thread that was taken on, and so on, and in the caller's thread on the last, on those
+    /// that are too many, and on each whose thread is not there. `false` where the caller has looked for a job 2^64 times, which no run
+    /// does; then some jobs are lost.
     pub fn work_each(&mut self, jobs: &mut [Option<J>]) -> bool
         requires { (k : ℕ) (d : _) → k < length jobs.old → Waits J.asks (slice_index_or jobs.old k d) }
         ensures { IsTrue result → (k : ℕ) (d : _) → k < length jobs.old
@@ -120,7 +119,7 @@ fn work_from<J: Job>(ends: &mut [End<'_, J>], jobs: &mut [Option<J>]) -> bool
     };
     match jobs.split_first_mut() {
         Some((job, rest)) => work_beside(end, others, job, rest),
-        None => true,
+        None => unreachable!(),
     }
 }
 

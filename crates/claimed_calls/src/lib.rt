@@ -15,5 +15,4 @@ mod waiting;
 pub use calls::call_each;
 pub use crew::Crew;
 pub use job::Job;
-pub use post::{Mate, Post, PostSeat, Seats};
-pub use role::Role;
+pub use post::{Mate, Post, Seats};

@@ -1,7 +1,7 @@
 //! The rule of a post, and what each step tells. These types are for the proofs alone.
 
 ghost use Rattle.claimed_calls.specs.declared.role.Role.TheVariants.{Fresh, Gives, Serves};
-ghost use Rattle.claimed_calls.specs.Posts.{IsKept, SitsDown, Stays, Leaves, TakesBack, TakesJob, Finishes};
+ghost use Rattle.claimed_calls.specs.Posts.{IsAtStage, SitsDown, IsUnchanged, Leaves, TakesBack, TakesJob, Finishes};
 
 use crate::job::Job;
 use crate::role::Role;
@@ -11,7 +11,7 @@ use atomic_table::{Play, Split, TableRule};
 pub(crate) struct PostRule;
 
 impl<J: Job> TableRule<Option<J>, Role<J>, ()> for PostRule {
-    ghost holds = { λ _. IsKept J.asks J.does };
+    ghost holds = { λ _. IsAtStage J.asks J.does };
 
     ghost first = { λ _. Fresh };
 }
@@ -31,10 +31,10 @@ impl<J> Split<Role<J>> for Ends {
     ghost right = { λ _. Serves };
 }
 
-pub(crate) struct Stay;
+pub(crate) struct Unchanged;
 
-impl<J> Play<Option<J>, Role<J>> for Stay {
-    ghost then = { Stays };
+impl<J> Play<Option<J>, Role<J>> for Unchanged {
+    ghost then = { IsUnchanged };
 }
 
 pub(crate) struct Leave;

@@ -2,12 +2,12 @@
 
 ghost use Rattle.std.specs.Prelude.{◌≡◌, ◌∷◌, [], None, IfErr, IfOk, IfSome, IfNone, OnOk, true};
 ghost use Rattle.claimed_calls.specs.declared.role.Role.TheVariants.{Gives, Given, Serves};
-ghost use Rattle.claimed_calls.specs.Posts.{IsEnd, IsMade};
+ghost use Rattle.claimed_calls.specs.Posts.{AreAt, IsEnd, IsMade};
 
 use crate::job::Job;
-use crate::plays::{Ends, Finish, Leave, PostRule, Sit, Stay, TakeBack, TakeJob};
+use crate::plays::{Ends, Finish, Leave, PostRule, Sit, TakeBack, TakeJob, Unchanged};
 use crate::role::Role;
-use crate::waiting::back_off;
+use crate::waiting::{START, back_off};
 use atomic_table::{Seat, Table};
 use std::alloc::{AllocError, Global};
 use std::sync::atomic::{AtomicBool, Ordering};
@@ -22,11 +22,14 @@ const DONE: u64 = 2;
 
 const AWAY: u64 = 3;
 
-/// So many times a thread looks for a job before it goes: for the most part of a millisecond.
+/// So many times a thread looks for its next job before it goes. On a processor of its own that is about a millisecond.
 const PATIENCE: u64 = 4_000;
 
+/// So many times it looks for its first one: more than the owner waits until all threads are there.
+const START_PATIENCE: u64 = 4 * START;
+
 /// A seat at a post.
-pub type PostSeat<J> = Seat<Option<J>, Role<J>>;
+pub(crate) type PostSeat<J> = Seat<Option<J>, Role<J>>;
 
 /// Where a job lies while neither thread has it.
 #[derive(Drop)]
@@ -66,8 +69,7 @@ pub struct Mate<'a, J: Job> {
 impl<J: Job> Post<J> {
     /// A post with its seats. `Err` is for want of memory.
     pub fn new(alloc: Global) -> Result<(Self, Seats<J>), AllocError>
-        ensures { IfOk result (λ r. (r.1.end.table_id ≡ r.0.table.shared.table_id)
-            × (r.1.mate.table_id ≡ r.0.table.shared.table_id)) }
+        ensures { IfOk result (λ r. AreAt r.0.table.shared.table_id r.1.end.table_id r.1.mate.table_id) }
     {
         let (table, mut end) = Table::vacant(alloc, &[AWAY], 1, &())?;
         table.shared.load::<Sit>(&mut end, 0);
@@ -168,13 +170,13 @@ impl<'a, J: Job> Mate<'a, J> {
     /// Says that this thread is there.
     pub(crate) fn come(&mut self) {
         let shared = &self.post.table.shared;
-        shared.compare_exchange::<Stay>(&mut self.seat, 0, AWAY, FREE);
+        shared.compare_exchange::<Unchanged>(&mut self.seat, 0, AWAY, FREE);
     }
 
     /// Says that this thread is there no more, unless a job is out.
     pub(crate) fn go(&mut self) -> bool {
         let shared = &self.post.table.shared;
-        shared.compare_exchange::<Stay>(&mut self.seat, 0, FREE, AWAY) == FREE
+        shared.compare_exchange::<Unchanged>(&mut self.seat, 0, FREE, AWAY) == FREE
     }
 
     /// Works on the job that waits, if one does.
@@ -194,28 +196,35 @@ impl<'a, J: Job> Mate<'a, J> {
         true
     }
 
-    /// Whether no job is out.
-    fn is_free(&self) -> bool {
-        self.post.word() == FREE
+    /// Whether it is told to go, and goes: not while a job waits.
+    fn goes_at(&mut self, closed: &AtomicBool) -> bool {
+        closed.load(Ordering::SeqCst) && (self.go() || self.post.word() == DONE)
     }
 
-    /// Is there, and works on each job that waits, until the flag is set, or no job has been out for the most part of a millisecond.
+    /// Is there, and works on each job that waits, until the flag is set, or no job has been out for so many looks that the thread goes.
+    /// The flag is to be set by the owner of the jobs, while none is out, or else by nobody. A thread stays once.
     pub fn stay(self, closed: &AtomicBool) {
         let mut mate = self;
+        let mut patience = START_PATIENCE;
+        let mut looks = 0u64;
         let mut idle = 0u64;
         mate.come();
         'looks: for _ in 0..u64::MAX {
-            if mate.serve() || !mate.is_free() {
+            if mate.serve() {
+                patience = PATIENCE;
+                looks = 0;
                 idle = 0;
-            } else if idle >= PATIENCE && mate.go() {
+            }
+            if mate.goes_at(closed) || idle >= patience && mate.go() {
                 return;
+            }
+            looks = looks.saturating_add(1);
+            idle = if mate.post.word() == FREE {
+                idle.saturating_add(1)
             } else {
-                idle = idle.saturating_add(1);
-            }
-            if closed.load(Ordering::SeqCst) {
-                return;
-            }
-            back_off(idle);
+                0
+            };
+            back_off(looks);
         }
     }
 }

@@ -1,7 +1,7 @@
 //! What the two threads at a post know.
 
 /// What a seat at the post knows. No value of it is made.
-pub enum Role<J> {
+pub(crate) enum Role<J> {
     /// The first seat, with nothing in hand.
     Fresh,
     /// The first seat, with the place in hand.
