@@ -11,3 +11,4 @@ pub mod Placed
 pub mod Named
 pub mod RowsFound
 pub mod Renumbered
+pub mod Sent

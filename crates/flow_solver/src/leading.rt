@@ -10,7 +10,7 @@ ghost use Rattle.flow_solver.specs.Search.{phase_count};
 use crate::prepared::Prepared;
 use crate::reached::{Reached, is_met, next_with};
 use crate::turn::Turn;
-use claimed_calls::{Crew, Post, Seats};
+use claimed_calls::{Crew, Mate, Post, Seats};
 use flow_model::Net;
 use mcf_base::Gate;
 use solver_run::SolveOptions;
@@ -81,6 +81,52 @@ fn led<'a, G: Gate, R: Threads + Sync>(
     result
 }
 
+/// A post at which turns are handed over, with its seats.
+fn new_post<'a, G: Gate>(
+    alloc: Global,
+) -> Result<(Post<Turn<'a, G>>, Seats<Turn<'a, G>>), AllocError>
+    ensures { IfOk result (λ r. (r.1.end.table_id ≡ r.0.table.shared.table_id)
+        × (r.1.mate.table_id ≡ r.0.table.shared.table_id)) }
+{
+    Post::new(alloc)
+}
+
+/// Takes on a thread at the post.
+fn take_on<'a, 'c, G: Gate>(
+    crew: &mut Crew<'c, Turn<'a, G>>,
+    post: &'c Post<Turn<'a, G>>,
+    seats: Seats<Turn<'a, G>>,
+) -> Result<Mate<'c, Turn<'a, G>>, AllocError>
+    requires { (seats.end.table_id ≡ post.now.table.shared.table_id)
+        × (seats.mate.table_id ≡ post.now.table.shared.table_id) }
+{
+    crew.take_on(post, seats)
+}
+
+/// Stays beside another thread, unless that was done.
+fn stay_once<G: Gate>(mate: &mut Option<Mate<'_, Turn<'_, G>>>, closed: &AtomicBool) {
+    if let Some(mate) = mate.take() {
+        mate.stay(closed);
+    }
+}
+
+/// Calls `lead`, and stays beside it in a new thread, if one can be started.
+fn beside<G: Gate, R: Threads + Sync, T, F: FnMut() -> T>(
+    rt: &R,
+    mate: Mate<'_, Turn<'_, G>>,
+    closed: &AtomicBool,
+    lead: &mut F,
+) -> T
+    requires { F.pre lead.old }
+    ensures { F.step lead.old result lead.new }
+{
+    let mut mate = Some(mate);
+    let mut stay = ||
+        requires { IsSync G.row }
+    { stay_once(&mut mate, closed) };
+    join_mut(rt, &mut stay, lead).1
+}
+
 /// Takes on so many threads more, and leads all of them.
 #[cycle(with_mates)]
 fn with_mates<'a, G: Gate, R: Threads + Sync>(
@@ -101,7 +147,7 @@ fn with_mates<'a, G: Gate, R: Threads + Sync>(
     if count == 0 {
         return led(rt, alloc, on, options, gate, threads, crew, closed, reached);
     }
-    match Post::new(alloc) {
+    match new_post(alloc) {
         Ok((post, seats)) => with_mate(
             rt,
             alloc,
@@ -142,17 +188,11 @@ fn with_mate<'a, 'c, G: Gate, R: Threads + Sync>(
     ensures { IfOk result (GoesOn on.now.net.now options.now reached) }
 {
     let mut crew = crew;
-    let mate = match crew.take_on(post, seats) {
+    let mate = match take_on(&mut crew, post, seats) {
         Ok(mate) => mate,
         Err(_) => return led(rt, alloc, on, options, gate, threads, crew, closed, reached),
     };
-    let mut mates = Some(mate);
     let mut start = Some((crew, reached));
-    let mut stay = || {
-        if let Some(mate) = mates.take() {
-            mate.stay(closed);
-        }
-    };
     let mut lead = || -> Result<Reached, AllocError>
         requires { IsSync R.row × IsSync G.row × IsSome start × IfSome start (λ s. CanGoOn on.now.net.now options.now s.1) }
         ensures { IfOk result (λ r. IfSome start.entry (λ s. GoesOn on.entry.now.net.now options.entry.now s.1 r)) }
@@ -164,7 +204,7 @@ fn with_mate<'a, 'c, G: Gate, R: Threads + Sync>(
             None => unreachable!(),
         }
     };
-    join_mut(rt, &mut stay, &mut lead).1
+    beside(rt, mate, closed, &mut lead)
 }
 
 /// One phase more or several, with a thread beside the caller's for each other hand. It ends where the gap is met or the budget is spent,
