@@ -1,7 +1,7 @@
 //! Several phases with threads that stay beside the caller's.
 
 ghost use Rattle.std.specs.Prelude.{◌≡◌, ℕ, ◌<◌, ◌≤◌, IsTrue, IfOk, IsSome, IfSome};
-ghost use denote.Param.Send.{IsSync};
+ghost use denote.Param.Send.{IsSend, IsSync};
 ghost use Rattle.solver_run.specs.Options.{AreOptions};
 ghost use Rattle.flow_solver.specs.Leading.{CanGoOn, GoesOn};
 ghost use Rattle.flow_solver.specs.Reached.{IsMet, IsReached};
@@ -10,7 +10,7 @@ ghost use Rattle.flow_solver.specs.Search.{phase_count};
 use crate::prepared::Prepared;
 use crate::reached::{Reached, is_met, next_with};
 use crate::turn::Turn;
-use claimed_calls::{Crew, Mate, Post, Seats};
+use claimed_calls::{Crew, Job, Mate, Post, Seats};
 use flow_model::Net;
 use mcf_base::Gate;
 use solver_run::SolveOptions;
@@ -104,16 +104,16 @@ fn take_on<'a, 'c, G: Gate>(
 }
 
 /// Stays beside another thread, unless that was done.
-fn stay_once<G: Gate>(mate: &mut Option<Mate<'_, Turn<'_, G>>>, closed: &AtomicBool) {
+fn stay_once<J: Job>(mate: &mut Option<Mate<'_, J>>, closed: &AtomicBool) {
     if let Some(mate) = mate.take() {
         mate.stay(closed);
     }
 }
 
 /// Calls `lead`, and stays beside it in a new thread, if one can be started.
-fn beside<G: Gate, R: Threads + Sync, T, F: FnMut() -> T>(
+fn beside<R: Threads + Sync, J: Job, T, F: FnMut() -> T>(
     rt: &R,
-    mate: Mate<'_, Turn<'_, G>>,
+    mate: Mate<'_, J>,
     closed: &AtomicBool,
     lead: &mut F,
 ) -> T
@@ -122,9 +122,22 @@ fn beside<G: Gate, R: Threads + Sync, T, F: FnMut() -> T>(
 {
     let mut mate = Some(mate);
     let mut stay = ||
-        requires { IsSync G.row }
+        requires { IsSend J.row }
     { stay_once(&mut mate, closed) };
     join_mut(rt, &mut stay, lead).1
+}
+
+/// As `beside`, for turns.
+fn beside_turns<G: Gate, R: Threads + Sync, T, F: FnMut() -> T>(
+    rt: &R,
+    mate: Mate<'_, Turn<'_, G>>,
+    closed: &AtomicBool,
+    lead: &mut F,
+) -> T
+    requires { F.pre lead.old }
+    ensures { F.step lead.old result lead.new }
+{
+    beside(rt, mate, closed, lead)
 }
 
 /// Takes on so many threads more, and leads all of them.
@@ -204,7 +217,7 @@ fn with_mate<'a, 'c, G: Gate, R: Threads + Sync>(
             None => unreachable!(),
         }
     };
-    beside(rt, mate, closed, &mut lead)
+    beside_turns(rt, mate, closed, &mut lead)
 }
 
 /// One phase more or several, with a thread beside the caller's for each other hand. It ends where the gap is met or the budget is spent,
