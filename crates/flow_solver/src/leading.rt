@@ -1,7 +1,8 @@
 //! Several phases with threads that stay beside the caller's.
 
 ghost use Rattle.std.specs.Prelude.{◌≡◌, ℕ, ◌<◌, ◌≤◌, IsTrue, IfOk, IsSome, IfSome};
-ghost use denote.Param.Send.{IsSync};
+ghost use denote.Param.Send.{IsSend, IsSync};
+ghost use Rattle.claimed_calls.specs.Posts.{AreAt};
 ghost use Rattle.solver_run.specs.Options.{AreOptions};
 ghost use Rattle.flow_solver.specs.Leading.{CanGoOn, GoesOn};
 ghost use Rattle.flow_solver.specs.Reached.{IsMet, IsReached};
@@ -10,7 +11,7 @@ ghost use Rattle.flow_solver.specs.Search.{phase_count};
 use crate::prepared::Prepared;
 use crate::reached::{Reached, is_met, next_with};
 use crate::turn::Turn;
-use claimed_calls::{Crew, Post, Seats};
+use claimed_calls::{Crew, Job, Mate, Post, Seats};
 use flow_model::Net;
 use mcf_base::Gate;
 use solver_run::SolveOptions;
@@ -81,6 +82,63 @@ fn led<'a, G: Gate, R: Threads + Sync>(
     result
 }
 
+/// A post at which turns are handed over, with its seats.
+fn new_post<'a, G: Gate>(
+    alloc: Global,
+) -> Result<(Post<Turn<'a, G>>, Seats<Turn<'a, G>>), AllocError>
+    ensures { IfOk result (λ r. AreAt r.0.table.shared.table_id r.1.end.table_id r.1.mate.table_id) }
+{
+    Post::new(alloc)
+}
+
+/// Takes on a thread at the post.
+fn take_on<'a, 'c, G: Gate>(
+    crew: &mut Crew<'c, Turn<'a, G>>,
+    post: &'c Post<Turn<'a, G>>,
+    seats: Seats<Turn<'a, G>>,
+) -> Result<Mate<'c, Turn<'a, G>>, AllocError>
+    requires { AreAt post.now.table.shared.table_id seats.end.table_id seats.mate.table_id }
+{
+    crew.take_on(post, seats)
+}
+
+/// Stays beside another thread, unless that was done.
+fn stay_once<J: Job>(mate: &mut Option<Mate<'_, J>>, closed: &AtomicBool) {
+    if let Some(mate) = mate.take() {
+        mate.stay(closed);
+    }
+}
+
+/// Calls `lead`, and stays beside it in a new thread, if one can be started.
+fn beside<R: Threads + Sync, J: Job, T, F: FnMut() -> T>(
+    rt: &R,
+    mate: Mate<'_, J>,
+    closed: &AtomicBool,
+    lead: &mut F,
+) -> T
+    requires { F.pre lead.old }
+    ensures { F.step lead.old result lead.new }
+{
+    let mut mate = Some(mate);
+    let mut stay = ||
+        requires { IsSend J.row }
+    { stay_once(&mut mate, closed) };
+    join_mut(rt, &mut stay, lead).1
+}
+
+/// As `beside`, for turns.
+fn beside_turns<G: Gate, R: Threads + Sync, T, F: FnMut() -> T>(
+    rt: &R,
+    mate: Mate<'_, Turn<'_, G>>,
+    closed: &AtomicBool,
+    lead: &mut F,
+) -> T
+    requires { F.pre lead.old }
+    ensures { F.step lead.old result lead.new }
+{
+    beside(rt, mate, closed, lead)
+}
+
 /// Takes on so many threads more, and leads all of them.
 #[cycle(with_mates)]
 fn with_mates<'a, G: Gate, R: Threads + Sync>(
@@ -101,7 +159,7 @@ fn with_mates<'a, G: Gate, R: Threads + Sync>(
     if count == 0 {
         return led(rt, alloc, on, options, gate, threads, crew, closed, reached);
     }
-    match Post::new(alloc) {
+    match new_post(alloc) {
         Ok((post, seats)) => with_mate(
             rt,
             alloc,
@@ -137,22 +195,15 @@ fn with_mate<'a, 'c, G: Gate, R: Threads + Sync>(
     reached: Reached,
 ) -> Result<Reached, AllocError>
     requires can { CanGoOn on.now.net.now options.now reached }
-    requires seats { (seats.end.table_id ≡ post.now.table.shared.table_id)
-        × (seats.mate.table_id ≡ post.now.table.shared.table_id) }
+    requires seats { AreAt post.now.table.shared.table_id seats.end.table_id seats.mate.table_id }
     ensures { IfOk result (GoesOn on.now.net.now options.now reached) }
 {
     let mut crew = crew;
-    let mate = match crew.take_on(post, seats) {
+    let mate = match take_on(&mut crew, post, seats) {
         Ok(mate) => mate,
         Err(_) => return led(rt, alloc, on, options, gate, threads, crew, closed, reached),
     };
-    let mut mates = Some(mate);
     let mut start = Some((crew, reached));
-    let mut stay = || {
-        if let Some(mate) = mates.take() {
-            mate.stay(closed);
-        }
-    };
     let mut lead = || -> Result<Reached, AllocError>
         requires { IsSync R.row × IsSync G.row × IsSome start × IfSome start (λ s. CanGoOn on.now.net.now options.now s.1) }
         ensures { IfOk result (λ r. IfSome start.entry (λ s. GoesOn on.entry.now.net.now options.entry.now s.1 r)) }
@@ -164,7 +215,7 @@ fn with_mate<'a, 'c, G: Gate, R: Threads + Sync>(
             None => unreachable!(),
         }
     };
-    join_mut(rt, &mut stay, &mut lead).1
+    beside_turns(rt, mate, closed, &mut lead)
 }
 
 /// One phase more or several, with a thread beside the caller's for each other hand. It ends where the gap is met or the budget is spent,
