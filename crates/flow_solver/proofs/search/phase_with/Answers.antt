@@ -1,10 +1,10 @@
-use Rattle.std.proofs.Common.{◌≡◌, ℕ, ◌<◌, List, length, get_or, None, sym, ap, ◌∙◌, subst, arith}
+use Rattle.std.proofs.Common.{◌≡◌, ℕ, ◌<◌, List, length, get_or, None, sym, ap, subst, arith}
 use Rattle.std.proofs.lemmas.List.{with_items_is}
 use Rattle.std.specs.Arc.{arc_value}
 use Rattle.flow_core.specs.Core.{Terms}
 use Rattle.phase_engine.specs.declared.hand.Hand.{Hand}
 use Rattle.phase_engine.specs.Hands.{HasRoomOf, IsSameWorker, IsReady}
-use Rattle.flow_solver.proofs.Phasing.{AreTaken, over-all, back-all}
+use Rattle.flow_solver.proofs.Phasing.{over-all, back-all}
 use Rattle.flow_solver.proofs.search.phase_with.Goals as goal
 
 pub end_over-requires-clause-over : goal.end_over-requires-clause-over
