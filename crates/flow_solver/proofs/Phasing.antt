@@ -1,5 +1,5 @@
 -- The hands of a phase by a crew, from one list to the next.
-use Rattle.std.proofs.Common.{◌≡◌, ℕ, ◌<◌, List, length, get_or, None, sym, ap, ◌∙◌, subst, arith}
+use Rattle.std.proofs.Common.{◌≡◌, ℕ, ◌<◌, List, length, get_or, sym, ap, ◌∙◌, subst, arith}
 use Rattle.flow_model.specs.Network.{Network}
 use Rattle.load_table.specs.Seen.{LoadsView}
 use Rattle.phase_engine.specs.declared.hand.Hand.{Hand}

@@ -19,7 +19,7 @@ use crate::hands::{forget_all, forget_turns, new_hands};
 use crate::noted::Sought;
 use crate::places::places_of;
 use crate::prepared::Prepared;
-use crate::turn::{Turn, take_all, trees_of};
+use crate::turn::{Task, Turn, take_all, trees_of};
 use claimed_calls::Crew;
 use dual_bound::{Bounded, Row, bound_in, source_rows};
 use flow_model::{Net, Setting};
@@ -88,42 +88,41 @@ pub fn new_search(alloc: Global, net: &Net, workers: u16) -> Result<Search, Allo
 /// One phase over words of its own. Searches begin at the trees of the rows, which the bound before has left. `Err` is for want of memory.
 fn phase_over<G: Gate, R: Threads + Sync>(
     rt: &R,
-    alloc: Global,
-    on: &Prepared<'_>,
-    setting: Setting,
+    task: &Task<'_, G>,
     rows: &[Row],
     loads: &mut [u64],
     hands: &mut [Hand],
-    gate: &G,
 ) -> Result<(), AllocError>
     requires start { IsStart record {
-      net = on.now.net.now;
-      setting = setting;
+      net = task.now.on.now.net.now;
+      setting = task.now.setting;
       base = loads.old;
       workers =
           length hands.old;
     } }
-    requires setting { IsSetting setting }
-    requires no_cut { HasNoCut on.now.net.now }
+    requires setting { IsSetting task.now.setting }
+    requires no_cut { HasNoCut task.now.on.now.net.now }
     requires fresh { (k : ℕ) (d : _) → k < length hands.old
-        → IsFresh on.now.net.now k (slice_index_or hands.old k d) }
-    ensures ok { OnOk result (IsRoutedPhase on.now.net.now setting loads.old loads.new hands.new) }
+        → IsFresh task.now.on.now.net.now k (slice_index_or hands.old k d) }
+    ensures ok { OnOk result (IsRoutedPhase task.now.on.now.net.now task.now.setting loads.old loads.new hands.new) }
     ensures back { AreSameWorkers hands.old hands.new }
     ensures turns { (k : ℕ) (d : _) → k < length hands.old → (slice_index_or hands.new k d).turn ≡ None }
     ensures rooms { (k : ℕ) (d : _) → k < length hands.old
-        → HasRoomOf on.now.net.now (slice_index_or hands.new k d) }
+        → HasRoomOf task.now.on.now.net.now (slice_index_or hands.new k d) }
 {
-    let trees = trees_of(alloc, rows)?;
+    let on = task.on;
+    let trees = trees_of(task.alloc, rows)?;
     let input = PhaseInput {
         net: on.net,
         groups: on.groups,
         graph: on.graph,
         powers: on.powers,
-        setting,
+        setting: task.setting,
         trees: &trees,
     };
-    let words = Loads::new(alloc, on.net, on.groups, setting, loads, hands.len() as u16)?;
-    match phase(rt, alloc, &input, words, loads, hands, gate) {
+    let workers = hands.len() as u16;
+    let words = Loads::new(task.alloc, on.net, on.groups, task.setting, loads, workers)?;
+    match phase(rt, task.alloc, &input, words, loads, hands, task.gate) {
         Ok(()) => Ok(()),
         Err(_) => Err(AllocError),
     }
@@ -146,15 +145,18 @@ pub fn route<G: Gate, R: Threads + Sync>(
 {
     let _commodities = on.net.commodities();
     forget_all(&mut search.hands);
+    let task = Task {
+        on,
+        alloc,
+        setting,
+        gate,
+    };
     phase_over(
         rt,
-        alloc,
-        on,
-        setting,
+        &task,
         &search.room.rows,
         &mut search.loads,
         &mut search.hands,
-        gate,
     )
 }
 
@@ -162,37 +164,34 @@ pub fn route<G: Gate, R: Threads + Sync>(
 /// instead, over words of its own, by threads of its own. `Err` is for want of memory.
 fn end_over<G: Gate, R: Threads + Sync>(
     rt: &R,
-    alloc: Global,
-    on: &Prepared<'_>,
-    setting: Setting,
+    task: &Task<'_, G>,
     rows: &[Row],
     words: Arc<Loads, Global>,
     loads: &mut [u64],
     hands: &mut [Hand],
-    gate: &G,
 ) -> Result<(), AllocError>
     requires start { IsStart record {
-      net = on.now.net.now;
-      setting = setting;
+      net = task.now.on.now.net.now;
+      setting = task.now.setting;
       base = loads.old;
       workers =
           length hands.old;
     } }
     requires terms { (arc_value words).terms
-        ≡ terms_of on.now.net.now setting loads.old (length hands.old) }
-    requires setting { IsSetting setting }
-    requires no_cut { HasNoCut on.now.net.now }
+        ≡ terms_of task.now.on.now.net.now task.now.setting loads.old (length hands.old) }
+    requires setting { IsSetting task.now.setting }
+    requires no_cut { HasNoCut task.now.on.now.net.now }
     requires over { (k : ℕ) (d : _) → k < length hands.old
-        → IsOver on.now.net.now (arc_value words) k (slice_index_or hands.old k d) }
-    ensures ok { OnOk result (IsRoutedPhase on.now.net.now setting loads.old loads.new hands.new) }
+        → IsOver task.now.on.now.net.now (arc_value words) k (slice_index_or hands.old k d) }
+    ensures ok { OnOk result (IsRoutedPhase task.now.on.now.net.now task.now.setting loads.old loads.new hands.new) }
     ensures back { AreSameWorkers hands.old hands.new }
     ensures turns { (k : ℕ) (d : _) → k < length hands.old → (slice_index_or hands.new k d).turn ≡ None }
     ensures rooms { (k : ℕ) (d : _) → k < length hands.old
-        → HasRoomOf on.now.net.now (slice_index_or hands.new k d) }
+        → HasRoomOf task.now.on.now.net.now (slice_index_or hands.new k d) }
 {
     let Ok(table) = Arc::try_unwrap(words) else {
         forget_turns(hands);
-        return phase_over(rt, alloc, on, setting, rows, loads, hands, gate);
+        return phase_over(rt, task, rows, loads, hands);
     };
     match finish(table, loads, hands) {
         Ok(()) => Ok(()),
@@ -203,40 +202,39 @@ fn end_over<G: Gate, R: Threads + Sync>(
 /// As `phase_over`, with the turns in the threads of a crew: the hands after it. `Err` is for want of memory, or where the crew gave up.
 fn phase_with<'a, G: Gate, R: Threads + Sync>(
     rt: &R,
-    alloc: Global,
-    on: &'a Prepared<'a>,
-    setting: Setting,
-    gate: &'a G,
+    task: &Task<'a, G>,
     crew: &mut Crew<'_, Turn<'a, G>>,
     rows: &Arc<Vec<Row>, Global>,
     loads: &mut [u64],
     hands: Vec<Hand>,
 ) -> Result<Vec<Hand>, AllocError>
     requires start { IsStart record {
-      net = on.now.net.now;
-      setting = setting;
+      net = task.now.on.now.net.now;
+      setting = task.now.setting;
       base = loads.old;
       workers =
           length hands.items;
     } }
-    requires setting { IsSetting setting }
-    requires no_cut { HasNoCut on.now.net.now }
+    requires setting { IsSetting task.now.setting }
+    requires no_cut { HasNoCut task.now.on.now.net.now }
     requires fresh { (k : ℕ) (d : _) → k < length hands.items
-        → IsFresh on.now.net.now k (slice_index_or hands.items k d) }
+        → IsFresh task.now.on.now.net.now k (slice_index_or hands.items k d) }
     ensures count { IfOk result (λ back. length back.items ≡ length hands.items) }
-    ensures ok { IfOk result (λ back. IsRoutedPhase on.now.net.now setting loads.old loads.new back.items) }
+    ensures ok { IfOk result (λ back. IsRoutedPhase task.now.on.now.net.now task.now.setting loads.old loads.new back.items) }
     ensures back { IfOk result (λ back. AreSameWorkers hands.items back.items) }
     ensures turns { IfOk result (λ back. (k : ℕ) (d : _) → k < length hands.items
         → (slice_index_or back.items k d).turn ≡ None) }
     ensures rooms { IfOk result (λ back. (k : ℕ) (d : _) → k < length hands.items
-        → HasRoomOf on.now.net.now (slice_index_or back.items k d)) }
+        → HasRoomOf task.now.on.now.net.now (slice_index_or back.items k d)) }
 {
-    let (table, first) = Loads::new(alloc, on.net, on.groups, setting, loads, hands.len() as u16)?;
+    let on = task.on;
+    let workers = hands.len() as u16;
+    let (table, first) = Loads::new(task.alloc, on.net, on.groups, task.setting, loads, workers)?;
     let mut hands = hands;
     hand_out(&table, first, &mut hands);
-    let words = Arc::new(alloc, table)?;
-    let mut back = take_all(alloc, on, setting, gate, crew, &words, rows, hands)?;
-    end_over(rt, alloc, on, setting, rows, words, loads, &mut back, gate)?;
+    let words = Arc::new(task.alloc, table)?;
+    let mut back = take_all(task, crew, &words, rows, hands)?;
+    end_over(rt, task, rows, words, loads, &mut back)?;
     Ok(back)
 }
 
@@ -262,7 +260,13 @@ pub fn route_with<'a, G: Gate, R: Threads + Sync>(
     let hands = mem::replace(&mut search.hands, Vec::new(alloc));
     let rows = Arc::new(alloc, mem::replace(&mut search.room.rows, Vec::new(alloc)))?;
     let loads = search.loads.as_mut_slice();
-    search.hands = phase_with(rt, alloc, on, setting, gate, crew, &rows, loads, hands)?;
+    let task = Task {
+        on,
+        alloc,
+        setting,
+        gate,
+    };
+    search.hands = phase_with(rt, &task, crew, &rows, loads, hands)?;
     let Ok(rows) = Arc::try_unwrap(rows) else {
         return Err(AllocError);
     };

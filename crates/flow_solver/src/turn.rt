@@ -16,6 +16,15 @@ use phase_engine::{Hand, PhaseInput, Shared, Watch, take_turn};
 use std::alloc::{AllocError, Global};
 use std::sync::Arc;
 
+/// What a phase is of: a network, the setting of its lengths, and the gate.
+#[derive(Drop)]
+pub(crate) struct Task<'a, G> {
+    pub on: &'a Prepared<'a>,
+    pub alloc: Global,
+    pub setting: Setting,
+    pub gate: &'a G,
+}
+
 /// The turn of one hand: what the phase is of, the words of its loads, and the rows of the bound before, at whose trees searches
 /// begin. All turns of a phase share the words and the rows.
 #[derive(Drop)]
@@ -106,23 +115,20 @@ fn take_over<G: Watch>(
 
 /// The turn of a hand.
 fn turn_of<'a, G: Gate>(
-    alloc: Global,
-    on: &'a Prepared<'a>,
-    setting: Setting,
-    gate: &'a G,
+    task: &Task<'a, G>,
     loads: &Arc<Loads, Global>,
     rows: &Arc<Vec<Row>, Global>,
     hand: Hand,
 ) -> Result<Option<Turn<'a, G>>, AllocError>
-    requires words { AreWordsOf on.now.net.now setting (arc_value loads.now) }
+    requires words { AreWordsOf task.now.on.now.net.now task.now.setting (arc_value loads.now) }
     requires ready { IsReady (arc_value loads.now) hand }
     ensures { IfOk result (IsTurnOf (arc_value loads.now) hand) }
 {
     Ok(Some(Turn {
-        on,
-        alloc,
-        setting,
-        gate,
+        on: task.on,
+        alloc: task.alloc,
+        setting: task.setting,
+        gate: task.gate,
         loads: Arc::try_clone(loads)?,
         rows: Arc::try_clone(rows)?,
         hand,
@@ -131,24 +137,21 @@ fn turn_of<'a, G: Gate>(
 
 /// A turn for each hand, in their order.
 fn turns_of<'a, G: Gate>(
-    alloc: Global,
-    on: &'a Prepared<'a>,
-    setting: Setting,
-    gate: &'a G,
+    task: &Task<'a, G>,
     loads: &Arc<Loads, Global>,
     rows: &Arc<Vec<Row>, Global>,
     hands: Vec<Hand>,
 ) -> Result<Vec<Option<Turn<'a, G>>>, AllocError>
-    requires words { AreWordsOf on.now.net.now setting (arc_value loads.now) }
+    requires words { AreWordsOf task.now.on.now.net.now task.now.setting (arc_value loads.now) }
     requires ready { (k : ℕ) (d : _) → k < length hands.items
         → IsReady (arc_value loads.now) (slice_index_or hands.items k d) }
     ensures count { IfOk result (λ turns. length turns.items ≡ length hands.items) }
     ensures turns { IfOk result (λ turns. (k : ℕ) (d : _) (e : _) → k < length hands.items
         → IsTurnOf (arc_value loads.now) (slice_index_or hands.items k d) (slice_index_or turns.items k e)) }
 {
-    let mut turns = Vec::with_capacity(alloc, hands.len())?;
+    let mut turns = Vec::with_capacity(task.alloc, hands.len())?;
     for hand in hands {
-        turns.push(turn_of(alloc, on, setting, gate, loads, rows, hand)?)?;
+        turns.push(turn_of(task, loads, rows, hand)?)?;
     }
     Ok(turns)
 }
@@ -184,25 +187,22 @@ fn hands_of<G: Gate>(
 /// The hands after their work, in their order: each turn is taken in a thread of the crew, or in the caller's. `Err` is for want of
 /// memory, or where the crew gave up waiting, after 2^64 tries, which no run makes.
 pub(crate) fn take_all<'a, G: Gate>(
-    alloc: Global,
-    on: &'a Prepared<'a>,
-    setting: Setting,
-    gate: &'a G,
+    task: &Task<'a, G>,
     crew: &mut Crew<'_, Turn<'a, G>>,
     loads: &Arc<Loads, Global>,
     rows: &Arc<Vec<Row>, Global>,
     hands: Vec<Hand>,
 ) -> Result<Vec<Hand>, AllocError>
-    requires words { AreWordsOf on.now.net.now setting (arc_value loads.now) }
+    requires words { AreWordsOf task.now.on.now.net.now task.now.setting (arc_value loads.now) }
     requires ready { (k : ℕ) (d : _) → k < length hands.items
         → IsReady (arc_value loads.now) (slice_index_or hands.items k d) }
     ensures count { IfOk result (λ back. length back.items ≡ length hands.items) }
     ensures runs { IfOk result (λ back. (k : ℕ) (d : _) → k < length hands.items
         → Runs (arc_value loads.now) (slice_index_or hands.items k d) (slice_index_or back.items k d)) }
 {
-    let mut turns = turns_of(alloc, on, setting, gate, loads, rows, hands)?;
+    let mut turns = turns_of(task, loads, rows, hands)?;
     if !crew.work_each(&mut turns) {
         return Err(AllocError);
     }
-    hands_of(alloc, turns)
+    hands_of(task.alloc, turns)
 }

@@ -1,17 +1,17 @@
-use Rattle.std.proofs.Common.{◌≡◌, ℕ, ◌<◌, List, length, get_or, None, sym, ap, ◌∙◌, subst, arith}
+use Rattle.std.proofs.Common.{◌≡◌, ℕ, ◌<◌, List, length, get_or, None, sym, ap, subst, arith}
 use Rattle.std.proofs.lemmas.List.{with_items_is}
 use Rattle.std.specs.Arc.{arc_value}
 use Rattle.flow_core.specs.Core.{Terms}
 use Rattle.phase_engine.specs.declared.hand.Hand.{Hand}
 use Rattle.phase_engine.specs.Hands.{HasRoomOf, IsSameWorker, IsReady}
-use Rattle.flow_solver.proofs.Phasing.{AreTaken, over-all, back-all}
+use Rattle.flow_solver.proofs.Phasing.{over-all, back-all}
 use Rattle.flow_solver.proofs.search.phase_with.Goals as goal
 
 pub end_over-requires-clause-over : goal.end_over-requires-clause-over
 end_over-requires-clause-over g c κs within =
     let hands = c.args.hands.items in
     let first : c.deref_mut.result.now ≡ hands = c.deref_mut.ensures.value in
-    over-all c.args.on.now.net.now c.in_ok-table.table (arc_value c.in_ok-words.words) hands c.hand_out.new.hands _ c.in_ok-back.back.items (record {
+    over-all c.args.task.now.on.now.net.now c.in_ok-table.table (arc_value c.in_ok-words.words) hands c.hand_out.new.hands _ c.in_ok-back.back.items (record {
       words = c.in_ok-words.ensures.ok;
       of = ap (λ (t : Terms). t.net) c.in_ok-table.ensures.loads;
       given = omega (arith, ap (λ (hs : List Hand). length hs) first);
@@ -27,7 +27,7 @@ pub returns-clause-back : goal.returns-clause-back
 returns-clause-back g c =
     let hands = c.args.hands.items in
     let first : c.deref_mut.result.now ≡ hands = c.deref_mut.ensures.value in
-    back-all c.args.on.now.net.now c.in_ok-table.table (arc_value c.in_ok-words.words) hands c.hand_out.new.hands _ c.in_ok-back.back.items (record {
+    back-all c.args.task.now.on.now.net.now c.in_ok-table.table (arc_value c.in_ok-words.words) hands c.hand_out.new.hands _ c.in_ok-back.back.items (record {
       words = c.in_ok-words.ensures.ok;
       of = ap (λ (t : Terms). t.net) c.in_ok-table.ensures.loads;
       given = omega (arith, ap (λ (hs : List Hand). length hs) first);
@@ -55,4 +55,4 @@ returns-clause-rooms g c = λ k d l.
     let now = ap (λ (hs : List Hand). length hs) c.deref_mut-2.ensures.value in
     let first = ap (λ (hs : List Hand). length hs) c.deref_mut.ensures.value in
     let count = c.in_ok-back.ensures.count in
-    subst (λ (hs : List Hand). HasRoomOf c.args.on.now.net.now (get_or hs k d)) (sym (with_items_is c.in_ok-back.back c.end_over.new.hands (omega arith))) (c.end_over.ensures.rooms k d (omega arith))
+    subst (λ (hs : List Hand). HasRoomOf c.args.task.now.on.now.net.now (get_or hs k d)) (sym (with_items_is c.in_ok-back.back c.end_over.new.hands (omega arith))) (c.end_over.ensures.rooms k d (omega arith))

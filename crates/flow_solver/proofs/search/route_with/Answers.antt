@@ -1,12 +1,10 @@
 use Rattle.std.proofs.Common.{◌≡◌, ℕ, ◌<◌, length, refl, sym, ap, ◌∙◌, subst, arith, get_or, List}
-use Rattle.std.specs.Prelude.{Vec}
 use Rattle.std.proofs.lemmas.List.{with_items_is}
 use Rattle.std.specs.Vec.{with_items}
 use Rattle.flow_core.specs.Core.{IsStart}
 use Rattle.phase_engine.specs.declared.hand.Hand.{Hand}
 use Rattle.phase_engine.specs.Hands.{IsFresh}
 use Rattle.phase_engine.specs.Routing.{IsRoutedPhase}
-use Rattle.flow_solver.specs.declared.search.BoundRoom.{BoundRoom}
 use Rattle.flow_solver.specs.declared.search.Search.{Search}
 use Rattle.flow_solver.specs.Search.{AreIdle}
 use Rattle.flow_solver.proofs.Routing.{start-of, loads-size, fresh-hands, idle-again, routed-phase}
