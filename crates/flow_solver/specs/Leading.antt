@@ -1,5 +1,5 @@
 -- A run that goes on by one phase or several.
-use Rattle.std.specs.Prelude.{ℕ, ◌<◌, ◌≤◌}
+use Rattle.std.specs.Prelude.{◌<◌, ◌≤◌}
 use Rattle.flow_model.specs.Network.{Network}
 use Rattle.flow_model.specs.Least.{HasNoCut}
 use Rattle.solver_run.specs.declared.options.SolveOptions.{SolveOptions}
