@@ -1,14 +1,15 @@
 //! Crews of threads: jobs at the same time, jobs that no thread takes, and threads that go.
 
-ghost use Rattle.std.specs.Prelude.{◌≡◌, ℕ, ◌<◌, IfOk, IsSome, length, slice_index_or};
 ghost use Rattle.claimed_calls.specs.Posts.{AreAt};
+ghost use Rattle.std.specs.Prelude.{ℕ, ◌<◌, IfOk, IsSome, length, slice_index_or};
 
-use claimed_calls::{Crew, Job, Mate, Post, Seats};
+use claimed_calls::{Crew, Job, Post, Seats};
 use std::alloc::{AllocError, Global};
 use std::process::Abort;
 use std::sync::atomic::{AtomicBool, AtomicU64, Ordering};
 use std::test::Fail;
 use std::thread;
+use std::thread::Threads;
 
 /// Turns that a job waits for the others at most.
 const TURNS: u32 = 10_000_000;
@@ -85,43 +86,60 @@ fn number_of(job: &Option<Doubling<'_>>) -> u64 {
 
 /// Whether the jobs have come to 2, 4 and 6.
 fn are_doubled(jobs: &[Option<Doubling<'_>>]) -> bool {
-    let mut wanted = 0;
+    let mut wanted = 2u64;
     for job in jobs {
-        wanted += 2;
         if number_of(job) != wanted {
             return false;
         }
+        wanted = wanted.wrapping_add(2);
     }
     jobs.len() == 3
 }
 
-/// Takes on two.
-fn two_of<'a, J: Job>(
-    crew: &mut Crew<'a, J>,
-    one: &'a Post<J>,
-    at_one: Seats<J>,
-    two: &'a Post<J>,
-    at_two: Seats<J>,
-) -> Result<(Mate<'a, J>, Mate<'a, J>), AllocError>
-    requires one { AreAt one.now.table.shared.table_id at_one.end.table_id at_one.mate.table_id }
-    requires two { AreAt two.now.table.shared.table_id at_two.end.table_id at_two.mate.table_id }
-{
-    Ok((crew.take_on(one, at_one)?, crew.take_on(two, at_two)?))
+/// Whether the crew has worked on three jobs, which wait until so many have begun.
+fn work_on<'a>(
+    alloc: Global,
+    crew: &mut Crew<'_, Doubling<'a>>,
+    begun: &'a AtomicU64,
+    count: u64,
+) -> Result<bool, AllocError> {
+    let mut jobs = three(alloc, begun, count)?;
+    Ok(crew.work_each(&mut jobs) && are_doubled(&jobs))
 }
 
-/// Whether the crew was there, and has worked on each of three jobs.
-fn work_on<'a>(
+/// Whether all threads were there, and have worked on three jobs, of which the first waits for the second. Then they are told to go.
+fn lead<'a>(
+    alloc: Global,
     crew: &mut Crew<'_, Doubling<'a>>,
-    jobs: &mut [Option<Doubling<'a>>],
+    begun: &'a AtomicU64,
     closed: &AtomicBool,
-) -> bool
-    requires { (k : ℕ) (d : _) → k < length jobs.old → IsSome (slice_index_or jobs.old k d) }
-{
+) -> bool {
     crew.wait_until_there();
     let there = crew.is_there();
-    let whole = crew.work_each(jobs);
+    let worked = matches!(work_on(alloc, crew, begun, 2), Ok(true));
     closed.store(true, Ordering::SeqCst);
-    there && whole && are_doubled(jobs)
+    there && worked
+}
+
+/// Whether a thread at this post and the caller's have worked at the same time, and the thread has gone then.
+fn meet<'a, 'c, R: Threads + Sync>(
+    rt: &R,
+    alloc: Global,
+    post: &'c Post<Doubling<'a>>,
+    seats: Seats<Doubling<'a>>,
+    begun: &'a AtomicU64,
+    closed: &AtomicBool,
+) -> Result<bool, AllocError>
+    requires { AreAt post.now.table.shared.table_id seats.end.table_id seats.mate.table_id }
+{
+    let mut crew = Crew::new(alloc);
+    let first = crew.take_on(post, seats)?;
+    let ((), worked) = thread::join(
+        rt,
+        || first.stay(closed),
+        || lead(alloc, &mut crew, begun, closed),
+    );
+    Ok(worked && !crew.is_there())
 }
 
 #[test]
@@ -129,23 +147,9 @@ fn jobs_are_worked_on_at_the_same_time(rt: HostRuntime) -> Result<(), Fail> {
     let alloc = rt.alloc();
     let begun = AtomicU64::new(0);
     let closed = AtomicBool::new(false);
-    let mut jobs = three(alloc, &begun, 3)?;
     let (one, at_one) = Post::new(alloc)?;
-    let (two, at_two) = Post::new(alloc)?;
-    let mut crew = Crew::new(alloc);
-    let (first, second) = two_of(&mut crew, &one, at_one, &two, at_two)?;
-    let ((), ((), worked)) = thread::join(
-        &rt,
-        || first.stay(&closed),
-        || {
-            thread::join(
-                &rt,
-                || second.stay(&closed),
-                || work_on(&mut crew, &mut jobs, &closed),
-            )
-        },
-    );
-    assert!(rt; worked && !crew.is_there());
+    let met = meet(&rt, alloc, &one, at_one, &begun, &closed)?;
+    assert!(rt; met);
     Ok(())
 }
 
@@ -153,27 +157,25 @@ fn jobs_are_worked_on_at_the_same_time(rt: HostRuntime) -> Result<(), Fail> {
 fn jobs_that_no_thread_takes_are_worked_on_here(rt: HostRuntime) -> Result<(), Fail> {
     let alloc = rt.alloc();
     let begun = AtomicU64::new(0);
-    let mut jobs = three(alloc, &begun, 1)?;
     let (one, at_one) = Post::new(alloc)?;
     let mut crew = Crew::new(alloc);
     let _nobody = crew.take_on(&one, at_one)?;
     assert!(rt; !crew.is_there());
-    assert!(rt; crew.work_each(&mut jobs) && are_doubled(&jobs));
+    assert!(rt; work_on(alloc, &mut crew, &begun, 1)?);
     Ok(())
 }
 
-/// It starts when the crew is closed, so it goes at once, and is given no job.
+/// It starts when it is told to go already, so it goes at once, and is given no job.
 #[test]
 fn a_thread_that_was_told_to_go_is_not_there(rt: HostRuntime) -> Result<(), Fail> {
     let alloc = rt.alloc();
     let begun = AtomicU64::new(0);
     let closed = AtomicBool::new(true);
-    let mut jobs = three(alloc, &begun, 1)?;
     let (one, at_one) = Post::new(alloc)?;
     let mut crew = Crew::new(alloc);
     let first = crew.take_on(&one, at_one)?;
     thread::join(&rt, || first.stay(&closed), || ());
     assert!(rt; !crew.is_there());
-    assert!(rt; crew.work_each(&mut jobs) && are_doubled(&jobs));
+    assert!(rt; work_on(alloc, &mut crew, &begun, 1)?);
     Ok(())
 }
