@@ -33,7 +33,7 @@ use std::sync::Arc;
 use std::thread::{Threads, join_mut};
 
 /// From so many commodities on, noting the rows of their paths takes longer than the start of a thread.
-const PATHS_OF_A_THREAD: usize = 4_096;
+pub(crate) const PATHS_OF_A_THREAD: usize = 4_096;
 
 /// From so many sources times cells on, threads make a bound sooner than a worker that is alone does: other processors have to be woken
 /// for them in each phase, which can take longer than their start.

@@ -14,7 +14,7 @@ ghost use Rattle.flow_solver.specs.Search.{phase_count};
 use crate::leading::further;
 use crate::prepared::Prepared;
 use crate::reached::{Reached, first, is_met, lower, next};
-use crate::search::Search;
+use crate::search::{PATHS_OF_A_THREAD, Search};
 use crate::solved::Solved;
 use crate::{Entries, OrderedHistory};
 use dijkstra_paths::Graph;
@@ -29,6 +29,9 @@ use solver_run::SolveOptions;
 use std::alloc::{AllocError, Global};
 use std::thread::Threads;
 
+/// From so many sources times cells on, a bound is made in several threads, which are started for it.
+const WORK_OF_A_BOUND: usize = 1 << 15;
+
 /// The last phase's state, and whether the gap was met.
 #[derive(Drop)]
 struct Ended {
@@ -36,7 +39,13 @@ struct Ended {
     closed: bool,
 }
 
-/// One phase more where one worker is alone, and else one or several, with threads that stay beside the caller's.
+/// Whether bounds and rows are made in the caller's thread: else threads that stay beside it would be in the way of those that make them.
+fn is_small(on: &Prepared<'_>) -> bool {
+    let work = on.groups.count() as usize * on.net.cells().len();
+    on.net.commodities().len() < PATHS_OF_A_THREAD && work < WORK_OF_A_BOUND
+}
+
+/// One phase more or, where several workers route a small network, one or several, with threads that stay beside the caller's.
 fn go_on<G: Gate, R: Threads + Sync>(
     rt: &R,
     alloc: Global,
@@ -49,10 +58,10 @@ fn go_on<G: Gate, R: Threads + Sync>(
     requires { CanGoOn on.now.net.now options.now reached }
     ensures { IfOk result (GoesOn on.now.net.now options.now reached) }
 {
-    if options.workers == 1 {
-        next(rt, alloc, on, options, gate, threads, reached)
-    } else {
+    if options.workers > 1 && is_small(on) {
         further(rt, alloc, on, options, gate, threads, reached)
+    } else {
+        next(rt, alloc, on, options, gate, threads, reached)
     }
 }
 
