@@ -2,6 +2,7 @@
 //! which works on what it is handed and hands it back.
 #![tactic(auto)]
 
+mod beside;
 mod calls;
 mod claims;
 mod crew;
@@ -12,6 +13,7 @@ mod role;
 mod slots;
 mod waiting;
 
+pub use beside::stay_beside;
 pub use calls::call_each;
 pub use crew::Crew;
 pub use job::Job;

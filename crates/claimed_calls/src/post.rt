@@ -22,8 +22,8 @@ const DONE: u64 = 2;
 
 const AWAY: u64 = 3;
 
-/// So many times a thread looks for its next job before it goes. On a processor of its own that is about a millisecond.
-const PATIENCE: u64 = 4_000;
+/// So many times a thread looks for its next job before it goes. On a processor of its own that is about ten milliseconds.
+const PATIENCE: u64 = 40_000;
 
 /// So many times it looks for its first one: more than the owner waits until all threads are there.
 const START_PATIENCE: u64 = 4 * START;
@@ -99,13 +99,6 @@ impl<'a, J: Job> End<'a, J> {
         self.post.word() == FREE
     }
 
-    /// Whether a job is out.
-    pub(crate) fn is_out(&self) -> bool
-        ensures { result ≡ self.now.out }
-    {
-        self.out
-    }
-
     /// Hands over a job, unless one is out or the other thread is not there: then the job comes back.
     pub(crate) fn hand(&mut self, job: J) -> Result<(), J>
         requires { J.asks job }
@@ -127,16 +120,18 @@ impl<'a, J: Job> End<'a, J> {
         }
     }
 
+    /// Whether the job that is out may be taken back. No proof rests on what this tells.
+    fn is_done(&self) -> bool {
+        self.post.word() == DONE
+    }
+
     /// Takes back what was made of the job that is out, if that is done.
-    pub(crate) fn take_back(&mut self) -> Option<J>
+    fn take_back(&mut self) -> Option<J>
         requires { self.old.out ≡ true }
         ensures made { IfSome result (IsMade J.does self.old.seat.me) }
         ensures same { IfNone result ((self.new.seat.me ≡ self.old.seat.me) × (self.new.out ≡ true)) }
     {
         let shared = &self.post.table.shared;
-        if shared.peek(0) != DONE {
-            return None;
-        }
         if shared.compare_exchange::<TakeBack>(&mut self.seat, 0, DONE, FREE) != DONE {
             return None;
         }
@@ -150,8 +145,10 @@ impl<'a, J: Job> End<'a, J> {
         ensures { IfSome result (IsMade J.does self.old.seat.me) }
     {
         'tries: for tries in 0..u64::MAX {
-            if let Some(job) = self.take_back() {
-                return Some(job);
+            if self.is_done() {
+                if let Some(job) = self.take_back() {
+                    return Some(job);
+                }
             }
             back_off(tries);
         }
@@ -179,12 +176,14 @@ impl<'a, J: Job> Mate<'a, J> {
         shared.compare_exchange::<Unchanged>(&mut self.seat, 0, FREE, AWAY) == FREE
     }
 
+    /// Whether a job waits. No proof rests on what this tells.
+    fn has_job(&self) -> bool {
+        self.post.word() == HANDED
+    }
+
     /// Works on the job that waits, if one does.
-    pub(crate) fn serve(&mut self) -> bool {
+    fn serve(&mut self) -> bool {
         let shared = &self.post.table.shared;
-        if shared.peek(0) != HANDED {
-            return false;
-        }
         if shared.load::<TakeJob>(&mut self.seat, 0) != HANDED {
             return false;
         }
@@ -210,7 +209,7 @@ impl<'a, J: Job> Mate<'a, J> {
         let mut idle = 0u64;
         mate.come();
         'looks: for _ in 0..u64::MAX {
-            if mate.serve() {
+            if mate.has_job() && mate.serve() {
                 patience = PATIENCE;
                 looks = 0;
                 idle = 0;

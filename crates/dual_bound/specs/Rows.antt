@@ -52,7 +52,11 @@ pub record IsMadeBlank (old new : Row) : Type 0 where
   pub values : new.values ≡ old.values
   pub blank : new.is_filled ≡ false
 
+-- where the row is filled, it is with distances
+abbrev pub HasDistances : Network → List ℕ → Row → Type 0
+HasDistances net lengths row = IsTrue row.is_filled → IsFilledWith net.nodes (IsDistance net.cells lengths) row
+
 -- the row of a source was filled with distances, or stayed as it was
 pub record Fills (net : Network) (lengths : List ℕ) (old new : Row) : Type 0 where
   pub source : new.source ≡ old.source
-  pub filled : IsTrue new.is_filled → IsFilledWith net.nodes (IsDistance net.cells lengths) new
+  pub filled : HasDistances net lengths new

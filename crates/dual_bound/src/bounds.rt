@@ -5,12 +5,12 @@ ghost use Rattle.flow_model.specs.Lengths.{AreLengths};
 ghost use Rattle.fixed_exp.specs.Far.{EmptyAreFar};
 ghost use Rattle.dijkstra_paths.specs.Reach.{IsFirstCut};
 ghost use Rattle.flow_paths.specs.Certificate.{upper_of};
-ghost use Rattle.dual_bound.specs.Bounds.{CanDivide, IsBoundOf, IsCutDual, IsCutPotential, IsDistance, ShowsBound, cut_lengths};
-ghost use Rattle.dual_bound.specs.Rows.{AreRoom, IsFilledWith, IsRoom, dual_of, sources_of};
+ghost use Rattle.dual_bound.specs.Bounds.{CanDivide, IsBoundOf, IsCutDual, IsCutPotential, ShowsBound, cut_lengths};
+ghost use Rattle.dual_bound.specs.Rows.{AreRoom, HasDistances, IsFilledWith, IsRoom, dual_of, sources_of};
 ghost use Rattle.flow_model.specs.Groups.{group_sources};
 
 use crate::dual::{are_filled, assembled};
-use crate::rows::{Row, blank_all, fill_all, mark_all, source_rows};
+use crate::rows::{Row, blank_all, fill_all, fill_rows, mark_all, source_rows};
 use crate::value::upper;
 use dijkstra_paths::Graph;
 use flow_model::{Cell, Net};
@@ -29,12 +29,7 @@ pub struct Bounded {
 
 /// The dual of these lengths and filled rows, with its value: volume over weighted distance, not reduced. Lengths, and the
 /// numbers of the rows, are at most 2^62.
-pub fn finished(
-    alloc: Global,
-    net: &Net,
-    lengths: &[u64],
-    rows: &[Row],
-) -> Result<Bounded, AllocError>
+fn finished(alloc: Global, net: &Net, lengths: &[u64], rows: &[Row]) -> Result<Bounded, AllocError>
     requires rows { All (λ row. All (λ n. n ≤ MAX_LENGTH) row.values.items) rows.now }
     requires divides { CanDivide net.now lengths.now (dual_of lengths.now rows.now) }
     ensures dual { IfOk result (λ b. b.dual ≡ dual_of lengths.now rows.now) }
@@ -46,8 +41,8 @@ pub fn finished(
     Ok(Bounded { dual, value })
 }
 
-/// Fills rows anew with distances, in at most so many threads, each search from the tree of the one before. `Err` is for want
-/// of memory.
+/// Fills rows anew with distances, in at most so many threads, each search from the tree of the one before. A row for which no
+/// memory was left is not filled.
 fn refill<R: Threads + Sync>(
     rt: &R,
     alloc: Global,
@@ -55,17 +50,48 @@ fn refill<R: Threads + Sync>(
     lengths: &[u64],
     rows: &mut [Row],
     threads: u16,
-) -> Result<(), AllocError>
+)
     requires lengths { AreLengths graph.now.cells lengths.now }
     requires rows { All (IsRoom graph.now.nodes) rows.old }
     ensures sources { sources_of rows.new ≡ sources_of rows.old }
-    ensures filled { OnOk result (All
-        (IsFilledWith graph.now.nodes (IsDistance graph.now.cells lengths.now)) rows.new) }
+    ensures distances { All (HasDistances graph.now lengths.now) rows.new }
 {
     blank_all(rows);
     fill_all(rt, alloc, graph, lengths, rows, threads);
+}
+
+/// As `bound_in`, where rows are filled in the caller's thread, those of some of the sources at a time: fills them anew with distances,
+/// each search from the tree of the one before. A row for which no memory was left is not filled.
+pub fn refill_rows(alloc: Global, graph: &Graph, lengths: &[u64], rows: &mut [Row])
+    requires lengths { AreLengths graph.now.cells lengths.now }
+    requires rows { All (IsRoom graph.now.nodes) rows.old }
+    ensures sources { sources_of rows.new ≡ sources_of rows.old }
+    ensures distances { All (HasDistances graph.now lengths.now) rows.new }
+{
+    blank_all(rows);
+    fill_rows(alloc, graph, lengths, rows);
+}
+
+/// The bound of these lengths, of rows that were filled with distances. `Err` is for want of memory, which a row that is not filled
+/// stands for.
+pub fn bound_of_rows(
+    alloc: Global,
+    net: &Net,
+    lengths: &[u64],
+    rows: &[Row],
+) -> Result<Bounded, AllocError>
+    requires lengths { AreLengths net.now.cells lengths.now }
+    requires empty { EmptyAreFar net.now.cells lengths.now }
+    requires sources { sources_of rows.now ≡ group_sources net.now }
+    requires distances { All (HasDistances net.now lengths.now) rows.now }
+    ensures rows { OnOk result (AreRoom net.now rows.now) }
+    ensures dual { IfOk result (λ b. IsBoundOf net.now lengths.now b.dual) }
+    ensures shows { IfOk result (λ b. ShowsBound net.now lengths.now b.dual) }
+    ensures value { IfOk result (λ b. b.value ≡ upper_of net.now b.dual) }
+{
+    let _cells = net.cells();
     if are_filled(rows) {
-        Ok(())
+        finished(alloc, net, lengths, rows)
     } else {
         Err(AllocError)
     }
@@ -123,9 +149,8 @@ pub fn bound_in<R: Threads + Sync>(
     ensures shows { IfOk result (λ b. ShowsBound net.now lengths.now b.dual) }
     ensures value { IfOk result (λ b. b.value ≡ upper_of net.now b.dual) }
 {
-    let _cells = net.cells();
-    refill(rt, alloc, graph, lengths, rows, threads)?;
-    finished(alloc, net, lengths, rows)
+    refill(rt, alloc, graph, lengths, rows, threads);
+    bound_of_rows(alloc, net, lengths, rows)
 }
 
 /// The bound of a network with a first cut, 0: a cell without capacity has length 1 and every other 0; a node that a source
