@@ -13,4 +13,5 @@ pub mod RowsFound
 pub mod Renumbered
 pub mod Sent
 pub mod Turning
+pub mod Parting
 pub mod Phasing

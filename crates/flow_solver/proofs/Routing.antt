@@ -1,6 +1,6 @@
 -- The search with one phase more.
 use Rattle.std.proofs.Common.{◌≡◌, ℕ, ◌+◌, ◌*◌, ◌<◌, ◌≤◌, Bool, true, false, nat_lt, List, [], ◌∷◌, ◌++◌, length, get_or, None, refl, sym, ap, ◌∙◌, subst, arith}
-use Rattle.std.specs.Prelude.{All, IfSome, Option, flat_map, take, replicate}
+use Rattle.std.specs.Prelude.{All, IfSome, OnOk, Ok, Err, Option, Result, flat_map, take, replicate}
 use Rattle.std.proofs.lemmas.Bool.Decides.{nat_tests}
 use Rattle.std.proofs.lemmas.List.{length-map, length-append, length-replicate, get_or-replicate, get_or_append_left}
 use Rattle.std.proofs.lemmas.List.FromFn.{fill_by_all, length-map-range_with_len}
@@ -203,3 +203,32 @@ noted-phase net setting old mid new n is r loads hands commodities room rows pha
     let same_hands : IsNext net setting old (record { loads = mid.loads; room = new.room; hands = new.hands; history = new.history; sought = new.sought }) =
     subst (λ (hs : _). IsNext net setting old (record { loads = mid.loads; room = new.room; hands = hs; history = new.history; sought = new.sought })) (sym hands) next in
     subst (λ (xs : _). IsNext net setting old (record { loads = xs; room = new.room; hands = new.hands; history = new.history; sought = new.sought })) (sym loads) same_hands
+
+-- the same, where the call that noted the phase answers with Ok
+module _ {T E : Type 0} (net : Network) (setting : Setting) (old mid new : Search) (r : Result T E) where
+  abbrev pub Phases : Type 0
+  Phases = (entries : List Routed) → IsRoutedOnce net mid.hands.items entries → phases_kept new.history ≡ phases_kept mid.history ++ entries ∷ []
+
+  noted-next : IsNetwork net → IsSearch net old → IsRouted net setting old mid → new.loads ≡ mid.loads → new.hands ≡ mid.hands → new.history.commodities ≡ mid.history.commodities
+      → OnOk r (IsBoundRoom net new.room) → OnOk r (AreRowsFor net new.history.history new.history.rows) → OnOk r Phases → OnOk r (IsNext net setting old new)
+  noted-next n is routed loads hands commodities room rows phases = go r room rows phases
+    where
+      go : (q : Result T E) → OnOk q (IsBoundRoom net new.room) → OnOk q (AreRowsFor net new.history.history new.history.rows) → OnOk q Phases → OnOk q (IsNext net setting old new)
+      go (Ok x) space rs ps = noted-phase net setting old mid new n is routed loads hands commodities space rs ps
+      go (Err e) space rs ps = tt
+
+  pub noted-search : IsNetwork net → IsSearch net old → IsRouted net setting old mid → new.loads ≡ mid.loads → new.hands ≡ mid.hands → new.history.commodities ≡ mid.history.commodities
+      → OnOk r (IsBoundRoom net new.room) → OnOk r (AreRowsFor net new.history.history new.history.rows) → OnOk r Phases → OnOk r (IsSearch net new)
+  noted-search n is routed loads hands commodities room rows phases = go r (noted-next n is routed loads hands commodities room rows phases)
+    where
+      go : (q : Result T E) → OnOk q (IsNext net setting old new) → OnOk q (IsSearch net new)
+      go (Ok x) next = next.0
+      go (Err e) next = tt
+
+  pub noted-routed : IsNetwork net → IsSearch net old → IsRouted net setting old mid → new.loads ≡ mid.loads → new.hands ≡ mid.hands → new.history.commodities ≡ mid.history.commodities
+      → OnOk r (IsBoundRoom net new.room) → OnOk r (AreRowsFor net new.history.history new.history.rows) → OnOk r Phases → OnOk r (HasRouted net setting old new)
+  noted-routed n is routed loads hands commodities room rows phases = go r (noted-next n is routed loads hands commodities room rows phases)
+    where
+      go : (q : Result T E) → OnOk q (IsNext net setting old new) → OnOk q (HasRouted net setting old new)
+      go (Ok x) next = next.1
+      go (Err e) next = tt

@@ -3,13 +3,13 @@ use Rattle.std.proofs.Common.{◌≡◌, ℕ, ◌<◌, ◌≤◌, Bool, true, fa
 use Rattle.std.proofs.lemmas.Bool.Decides.{nat_tests}
 use Rattle.std.proofs.lemmas.List.{length-append, get_or_append_left}
 use Rattle.std.proofs.Math.Seq.{get_or-append_seam}
-use Rattle.std.specs.Prelude.{IsSome}
 use Rattle.claimed_calls.specs.Jobs.{IsWorked, Waits}
 use Rattle.load_table.specs.Seen.{LoadsView}
 use Rattle.phase_engine.specs.declared.hand.Hand.{Hand}
 use Rattle.phase_engine.specs.Hands.{Runs}
-use Rattle.flow_solver.specs.declared.turn.Turn.{Turn}
-use Rattle.flow_solver.specs.Turns.{CanBeTaken, HasHand, IsTaken, IsTurnOf}
+use Rattle.flow_solver.specs.declared.share.Share.{Share}
+use Rattle.flow_solver.specs.declared.share.Share.TheVariants.{Turn, Part}
+use Rattle.flow_solver.specs.Shares.{CanBeDone, HasHand, IsDoneOf, IsSomeTurn, IsTurnOf}
 
 -- each of the first list and what stands at its place in the second
 abbrev pub Each : {A B : Type 0} → (A → B → Type 0) → List A → List B → Type 0
@@ -41,10 +41,12 @@ none-left yielded [] all left none = sym (append-nil yielded) ∙ left
 none-left yielded (x ∷ rest) all left none = absurd (omega arith)
 
 -- the hand of a turn that was taken
-pub runs-of : {G : Type 0} (l : LoadsView) (h g : Hand) (old new : Option (Turn G)) → IsTurnOf l h old → IsWorked IsTaken old new → HasHand new g → Runs l h g
+pub runs-of : {G : Type 0} (l : LoadsView) (h g : Hand) (old new : Option (Share G)) → IsTurnOf l h old → IsWorked IsDoneOf old new → HasHand new g → Runs l h g
 runs-of l h g None new of worked has = absurd of
-runs-of l h g (Some t) None of worked has = absurd worked
-runs-of l h g (Some t) (Some u) of worked has =
+runs-of l h g (Some (Part p)) new of worked has = absurd of
+runs-of l h g (Some (Turn t)) None of worked has = absurd worked
+runs-of l h g (Some (Turn t)) (Some (Part p)) of worked has = absurd worked
+runs-of l h g (Some (Turn t)) (Some (Turn u)) of worked has =
     let Q : LoadsView × Hand × Hand → Type 0 = λ p. Runs p.0 p.1 p.2 in
     subst Q (λ i. (of.1 i, of.2 i, has i)) worked
 
@@ -53,37 +55,45 @@ hand-at [] k l = absurd (omega arith)
 hand-at (h ∷ hs) k l = h
 
 module _ {G : Type 0} where
-  waits-of : (l : LoadsView) (h : Hand) (o : Option (Turn G)) → IsTurnOf l h o → Waits CanBeTaken o
+  waits-of : (l : LoadsView) (h : Hand) (o : Option (Share G)) → IsTurnOf l h o → Waits CanBeDone o
   waits-of l h None of = absurd of
-  waits-of l h (Some t) of = of.0
+  waits-of l h (Some (Part p)) of = absurd of
+  waits-of l h (Some (Turn t)) of = of.0
 
-  some-of : (old new : Option (Turn G)) → IsWorked IsTaken old new → IsSome new
-  some-of None new worked = absurd worked
-  some-of (Some t) None worked = absurd worked
-  some-of (Some t) (Some u) worked = refl
+  some-of : (l : LoadsView) (h : Hand) (old new : Option (Share G)) → IsTurnOf l h old → IsWorked IsDoneOf old new → IsSomeTurn new
+  some-of l h None new of worked = absurd of
+  some-of l h (Some (Part p)) new of worked = absurd of
+  some-of l h (Some (Turn t)) None of worked = absurd worked
+  some-of l h (Some (Turn t)) (Some (Part p)) of worked = absurd worked
+  some-of l h (Some (Turn t)) (Some (Turn u)) of worked = tt
 
   -- turns of hands can be taken
-  pub waits-all : (l : LoadsView) (hands : List Hand) (turns now : List (Option (Turn G))) → length turns ≡ length hands → Each (IsTurnOf l) hands turns → now ≡ turns
-      → (k : ℕ) (d : Option (Turn G)) → k < length now → Waits CanBeTaken (get_or now k d)
+  pub waits-all : (l : LoadsView) (hands : List Hand) (turns now : List (Option (Share G))) → length turns ≡ length hands → Each (IsTurnOf l) hands turns → now ≡ turns
+      → (k : ℕ) (d : Option (Share G)) → k < length now → Waits CanBeDone (get_or now k d)
   waits-all l hands turns now count of is k d less =
-      let size = ap (λ (ts : List (Option (Turn G))). length ts) is in
+      let size = ap (λ (ts : List (Option (Share G))). length ts) is in
       let inside : k < length hands = omega arith in
-      subst (λ (ts : List (Option (Turn G))). Waits CanBeTaken (get_or ts k d)) (sym is) (waits-of l (get_or hands k (hand-at hands k inside)) (get_or turns k d) (of k (hand-at hands k inside) d inside))
+      subst (λ (ts : List (Option (Share G))). Waits CanBeDone (get_or ts k d)) (sym is) (waits-of l (get_or hands k (hand-at hands k inside)) (get_or turns k d) (of k (hand-at hands k inside) d inside))
 
-  -- what was worked on is there
-  pub some-all : (old new now : List (Option (Turn G))) → length new ≡ length old → ((k : ℕ) (d : Option (Turn G)) → k < length old → IsWorked IsTaken (get_or old k d) (get_or new k d)) → now ≡ new
-      → (k : ℕ) (d : Option (Turn G)) → k < length now → IsSome (get_or now k d)
-  some-all old new now count worked is k d less =
-      let size = ap (λ (ts : List (Option (Turn G))). length ts) is in
-      subst (λ (ts : List (Option (Turn G))). IsSome (get_or ts k d)) (sym is) (some-of (get_or old k d) (get_or new k d) (worked k d (omega arith)))
+  -- turns that were worked on are there
+  pub some-all : (l : LoadsView) (hands : List Hand) (turns old new now : List (Option (Share G))) → length turns ≡ length hands → Each (IsTurnOf l) hands turns → old ≡ turns → length new ≡ length old
+      → ((k : ℕ) (d : Option (Share G)) → k < length old → IsWorked IsDoneOf (get_or old k d) (get_or new k d)) → now ≡ new
+      → (k : ℕ) (d : Option (Share G)) → k < length now → IsSomeTurn (get_or now k d)
+  some-all l hands turns old new now count of was same worked is k d less =
+      let size = ap (λ (ts : List (Option (Share G))). length ts) is in
+      let first = ap (λ (ts : List (Option (Share G))). length ts) was in
+      let inside : k < length hands = omega arith in
+      let h = hand-at hands k inside in
+      let then : IsWorked IsDoneOf (get_or turns k d) (get_or new k d) = subst (λ (ts : List (Option (Share G))). IsWorked IsDoneOf (get_or ts k d) (get_or new k d)) was (worked k d (omega arith)) in
+      subst (λ (ts : List (Option (Share G))). IsSomeTurn (get_or ts k d)) (sym is) (some-of l (get_or hands k h) (get_or turns k d) (get_or new k d) (of k h d inside) then)
 
   -- the hands of turns that were taken
-  pub runs-all : (l : LoadsView) (hands back : List Hand) (turns old new now : List (Option (Turn G))) → length turns ≡ length hands → Each (IsTurnOf l) hands turns → old ≡ turns → length new ≡ length old
-      → ((k : ℕ) (d : Option (Turn G)) → k < length old → IsWorked IsTaken (get_or old k d) (get_or new k d)) → now ≡ new → Each HasHand now back
+  pub runs-all : (l : LoadsView) (hands back : List Hand) (turns old new now : List (Option (Share G))) → length turns ≡ length hands → Each (IsTurnOf l) hands turns → old ≡ turns → length new ≡ length old
+      → ((k : ℕ) (d : Option (Share G)) → k < length old → IsWorked IsDoneOf (get_or old k d) (get_or new k d)) → now ≡ new → Each HasHand now back
       → (k : ℕ) (d : Hand) → k < length hands → Runs l (get_or hands k d) (get_or back k d)
   runs-all l hands back turns old new now count of was same worked is has k d less =
-      let size = ap (λ (ts : List (Option (Turn G))). length ts) is in
-      let first = ap (λ (ts : List (Option (Turn G))). length ts) was in
-      let then : IsWorked IsTaken (get_or turns k None) (get_or now k None) =
-      subst (λ (p : List (Option (Turn G)) × List (Option (Turn G))). IsWorked IsTaken (get_or p.0 k None) (get_or p.1 k None)) (λ i. (was i, sym is i)) (worked k None (omega arith)) in
+      let size = ap (λ (ts : List (Option (Share G))). length ts) is in
+      let first = ap (λ (ts : List (Option (Share G))). length ts) was in
+      let then : IsWorked IsDoneOf (get_or turns k None) (get_or now k None) =
+      subst (λ (p : List (Option (Share G)) × List (Option (Share G))). IsWorked IsDoneOf (get_or p.0 k None) (get_or p.1 k None)) (λ i. (was i, sym is i)) (worked k None (omega arith)) in
       runs-of l (get_or hands k d) (get_or back k d) (get_or turns k None) (get_or now k None) (of k d None less) then (has k None d (omega arith))

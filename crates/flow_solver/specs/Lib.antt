@@ -5,4 +5,6 @@ pub mod Rows
 pub mod Routes
 pub mod Adding
 pub mod Turns
+pub mod Parts
+pub mod Shares
 pub mod Leading

@@ -1,5 +1,5 @@
 -- The turns of the hands in a phase.
-use Rattle.std.specs.Prelude.{◌≡◌, ℕ, Option, None, Some}
+use Rattle.std.specs.Prelude.{◌≡◌, ℕ}
 use Rattle.std.specs.Arc.{arc_value}
 use Rattle.flow_model.specs.declared.setting.Setting.{Setting}
 use Rattle.flow_model.specs.Network.{Network}
@@ -29,13 +29,3 @@ module _ {G : Type 0} where
   -- the second turn has the hand of the first after its work
   abbrev pub IsTaken : Turn G → Turn G → Type 0
   IsTaken t u = Runs (arc_value t.loads) t.hand u.hand
-
-  -- there is a turn of this hand over these words, and it can be taken
-  abbrev pub IsTurnOf : LoadsView → Hand → Option (Turn G) → Type 0
-  IsTurnOf l h None = ⊥
-  IsTurnOf l h (Some t) = CanBeTaken t × (arc_value t.loads ≡ l) × (t.hand ≡ h)
-
-  -- there is a turn, and this is its hand
-  abbrev pub HasHand : Option (Turn G) → Hand → Type 0
-  HasHand None h = ⊥
-  HasHand (Some t) h = t.hand ≡ h

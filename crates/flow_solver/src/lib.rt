@@ -2,6 +2,7 @@
 //! The paths of all phases so far: path rows, and who routed each commodity along which of them.
 #![tactic(auto)]
 
+mod bounding;
 mod entries;
 mod found;
 mod hands;
@@ -9,10 +10,12 @@ mod history;
 mod kept;
 mod leading;
 mod noted;
+mod parts;
 mod places;
 mod prepared;
 mod reached;
 mod search;
+mod share;
 mod solved;
 mod solving;
 mod turn;

@@ -1,10 +1,12 @@
-//! A network with what is made of it once.
+//! A network with what is made of it once, and a run on it.
 
 ghost use Rattle.std.specs.Prelude.{◌≡◌};
 
 use dijkstra_paths::Graph;
 use fixed_exp::Powers;
-use flow_model::{Groups, Net};
+use flow_model::{Groups, Net, Setting};
+use solver_run::SolveOptions;
+use std::alloc::Global;
 
 /// A network with what every phase and every bound of it needs: its groups, its graph, and the powers that lengths are
 /// made of.
@@ -16,4 +18,31 @@ pub struct Prepared<'a> {
     pub powers: &'a Powers,
     ghost groups_are: { groups.now ≡ net.now },
     ghost graph_is: { graph.now ≡ net.now },
+}
+
+/// A run on a network: its options, the gate, and in how many threads a bound is made at most, one of which may note rows meanwhile.
+#[derive(Drop)]
+pub(crate) struct Run<'a, G, R> {
+    pub rt: &'a R,
+    pub alloc: Global,
+    pub on: &'a Prepared<'a>,
+    pub options: &'a SolveOptions,
+    pub gate: &'a G,
+    pub threads: u16,
+}
+
+/// What a phase is of: a network, the setting of its lengths, and the gate.
+#[derive(Drop)]
+pub(crate) struct Task<'a, G> {
+    pub on: &'a Prepared<'a>,
+    pub alloc: Global,
+    pub setting: Setting,
+    pub gate: &'a G,
+}
+
+impl<'a, G, R> Run<'a, G, R> {
+    /// In how many threads beside the caller's rows of a bound are filled at most.
+    pub(crate) fn others(&self) -> u16 {
+        self.threads.saturating_sub(1)
+    }
 }

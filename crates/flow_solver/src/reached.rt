@@ -7,13 +7,15 @@ ghost use Rattle.flow_paths.specs.Evaluation.{fill};
 ghost use Rattle.flow_paths.specs.Fullness.{IsFill, fullness};
 ghost use Rattle.solver_run.specs.History.{first_setting};
 ghost use Rattle.solver_run.specs.Options.{AreOptions};
+ghost use Rattle.flow_solver.specs.Leading.{CanGoOn};
 ghost use Rattle.flow_solver.specs.Reached.{IsMet, IsReached};
 ghost use Rattle.flow_solver.specs.Search.{phase_count};
 
+use crate::bounding::{note_and_bound, one_phase};
 use crate::kept::lesser;
-use crate::prepared::Prepared;
-use crate::search::{Search, new_search, note_and_bound, route, route_with};
-use crate::turn::Turn;
+use crate::prepared::{Run, Task};
+use crate::search::{Search, new_search, route};
+use crate::share::Share;
 use claimed_calls::Crew;
 use dual_bound::Bounded;
 use flow_model::Net;
@@ -45,27 +47,27 @@ fn measured(net: &Net, loads: &[u64]) -> Fill
     fullest(net.cells(), loads)
 }
 
-/// The first phase, and the bound after it. The bound is made in at most so many threads, one of which may note the rows meanwhile.
-pub fn first<G: Gate, R: Threads + Sync>(
-    rt: &R,
-    alloc: Global,
-    on: &Prepared<'_>,
-    options: &SolveOptions,
-    gate: &G,
-    threads: u16,
-) -> Result<Reached, AllocError>
-    requires no_cut { HasNoCut on.now.net.now }
-    requires options { AreOptions on.now.net.now options.now }
-    ensures reached { IfOk result (λ r. IsReached on.now.net.now options.now r) }
+/// The first phase, and the bound after it.
+pub(crate) fn first<G: Gate, R: Threads + Sync>(run: &Run<'_, G, R>) -> Result<Reached, AllocError>
+    requires no_cut { HasNoCut run.now.on.now.net.now }
+    requires options { AreOptions run.now.on.now.net.now run.now.options.now }
+    ensures reached { IfOk result (λ r. IsReached run.now.on.now.net.now run.now.options.now r) }
     ensures count { IfOk result (λ r. phase_count r.search ≡ 1) }
 {
+    let on = run.on;
     let _cells = on.net.cells();
-    let mut search = new_search(alloc, on.net, options.workers)?;
-    let setting = setting_at_first(options.step);
-    route(rt, alloc, on, setting, gate, &mut search)?;
+    let mut search = new_search(run.alloc, on.net, run.options.workers)?;
+    let setting = setting_at_first(run.options.step);
+    let task = Task {
+        on,
+        alloc: run.alloc,
+        setting,
+        gate: run.gate,
+    };
+    route(run.rt, &task, &mut search)?;
     let fill = measured(on.net, &search.loads);
-    let later = setting_after_first(fill, options.step);
-    let kept = note_and_bound(rt, alloc, on, &later, &mut search, threads)?;
+    let later = setting_after_first(fill, run.options.step);
+    let kept = note_and_bound(run.rt, run.alloc, on, &later, &mut search, run.threads)?;
     Ok(Reached {
         search,
         reference: fill,
@@ -74,26 +76,18 @@ pub fn first<G: Gate, R: Threads + Sync>(
     })
 }
 
-/// One phase more, and the lesser of the least bound and the bound after it. That is made in at most so many threads, one of which may
-/// note the rows meanwhile.
-pub fn next<G: Gate, R: Threads + Sync>(
-    rt: &R,
-    alloc: Global,
-    on: &Prepared<'_>,
-    options: &SolveOptions,
-    gate: &G,
-    threads: u16,
+/// One phase more, by a crew where there is one, and the lesser of the least bound and the bound after it.
+pub(crate) fn next<'a, G: Gate, R: Threads + Sync>(
+    run: &Run<'a, G, R>,
+    crew: Option<&mut Crew<'_, Share<'a, G>>>,
     reached: Reached,
 ) -> Result<Reached, AllocError>
-    requires no_cut { HasNoCut on.now.net.now }
-    requires options { AreOptions on.now.net.now options.now }
-    requires reached { IsReached on.now.net.now options.now reached }
-    requires unmet { ¬ (IsMet on.now.net.now options.now reached) }
-    requires budget { phase_count reached.search < options.now.phases }
-    ensures reached { IfOk result (λ r. IsReached on.now.net.now options.now r) }
+    requires { CanGoOn run.now.on.now.net.now run.now.options.now reached }
+    ensures reached { IfOk result (λ r. IsReached run.now.on.now.net.now run.now.options.now r) }
     ensures count { IfOk result (λ r. phase_count r.search ≡ phase_count reached.search + 1) }
 {
-    let _cells = on.net.cells();
+    let net = run.on.net;
+    let _cells = net.cells();
     let Reached {
         search,
         reference,
@@ -101,49 +95,15 @@ pub fn next<G: Gate, R: Threads + Sync>(
         kept,
     } = reached;
     let mut search = search;
-    let setting = setting_after_first(reference, options.step);
-    route(rt, alloc, on, setting, gate, &mut search)?;
-    let fill = measured(on.net, &search.loads);
-    let later = note_and_bound(rt, alloc, on, &setting, &mut search, threads)?;
-    Ok(Reached {
-        search,
-        reference,
-        fill,
-        kept: lesser(kept, later),
-    })
-}
-
-/// As `next`, with the threads of a crew.
-pub fn next_with<'a, G: Gate, R: Threads + Sync>(
-    rt: &R,
-    alloc: Global,
-    on: &'a Prepared<'a>,
-    options: &SolveOptions,
-    gate: &'a G,
-    threads: u16,
-    crew: &mut Crew<'_, Turn<'a, G>>,
-    reached: Reached,
-) -> Result<Reached, AllocError>
-    requires no_cut { HasNoCut on.now.net.now }
-    requires options { AreOptions on.now.net.now options.now }
-    requires reached { IsReached on.now.net.now options.now reached }
-    requires unmet { ¬ (IsMet on.now.net.now options.now reached) }
-    requires budget { phase_count reached.search < options.now.phases }
-    ensures reached { IfOk result (λ r. IsReached on.now.net.now options.now r) }
-    ensures count { IfOk result (λ r. phase_count r.search ≡ phase_count reached.search + 1) }
-{
-    let _cells = on.net.cells();
-    let Reached {
-        search,
-        reference,
-        fill: _,
-        kept,
-    } = reached;
-    let mut search = search;
-    let setting = setting_after_first(reference, options.step);
-    route_with(rt, alloc, on, setting, gate, crew, &mut search)?;
-    let fill = measured(on.net, &search.loads);
-    let later = note_and_bound(rt, alloc, on, &setting, &mut search, threads)?;
+    let setting = setting_after_first(reference, run.options.step);
+    let task = Task {
+        on: run.on,
+        alloc: run.alloc,
+        setting,
+        gate: run.gate,
+    };
+    let later = one_phase(run, &task, crew, &mut search)?;
+    let fill = measured(net, &search.loads);
     Ok(Reached {
         search,
         reference,

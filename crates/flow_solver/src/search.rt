@@ -1,43 +1,33 @@
 //! Loads, hands and history, from phase to phase.
 
-ghost use Rattle.std.specs.Prelude.{◌≡◌, ℕ, ◌+◌, ◌*◌, ◌<◌, ◌≤◌, List, ◌++◌, ◌∷◌, [], IfOk, OnOk, None, length, max, replicate, slice_index_or};
+ghost use Rattle.std.specs.Prelude.{◌≡◌, ℕ, ◌<◌, ◌≤◌, [], IfOk, OnOk, None, length, replicate, slice_index_or};
 ghost use Rattle.std.specs.Arc.{arc_value};
 ghost use Rattle.flow_model.specs.Least.{HasNoCut};
 ghost use Rattle.flow_model.specs.Lengths.{IsSetting};
 ghost use Rattle.flow_core.specs.Core.{IsStart};
-ghost use Rattle.flow_core.specs.Phase.{Routed, terms_of};
+ghost use Rattle.flow_core.specs.Phase.{terms_of};
 ghost use Rattle.phase_engine.specs.Hands.{HasRoomOf, IsFresh, AreSameWorkers};
 ghost use Rattle.phase_engine.specs.Routing.{IsRoutedPhase};
-ghost use Rattle.flow_solver.specs.Routes.{HaveRouted, IsRoutedOnce};
-ghost use Rattle.flow_solver.specs.Rows.{AreRowsFor, phases_kept};
-ghost use Rattle.flow_solver.specs.Adding.{CanBeNoted, IsNoted};
 ghost use Rattle.flow_solver.specs.Turns.{IsOver};
-ghost use Rattle.flow_solver.specs.Search.{CanBeBounded, IsBoundRoom, IsBoundUnder, IsRouted, IsSearch, phase_count};
+ghost use Rattle.flow_solver.specs.Search.{IsRouted, IsSearch, phase_count};
 
 use crate::PathHistory;
 use crate::hands::{forget_all, forget_turns, new_hands};
 use crate::noted::Sought;
-use crate::places::places_of;
-use crate::prepared::Prepared;
-use crate::turn::{Task, Turn, take_all, trees_of};
+use crate::prepared::Task;
+use crate::share::Share;
+use crate::turn::{take_all, trees_of};
 use claimed_calls::Crew;
-use dual_bound::{Bounded, Row, bound_in, source_rows};
-use flow_model::{Net, Setting};
+use dual_bound::{Row, source_rows};
+use flow_model::Net;
 use load_table::Loads;
 use mcf_base::Gate;
-use mcf_limits::{MAX_PHASES, MAX_WORK, MAX_WORKERS};
+use mcf_limits::{MAX_PHASES, MAX_WORKERS};
 use phase_engine::{Hand, PhaseInput, finish, hand_out, phase};
 use std::alloc::{AllocError, Global};
 use std::mem;
 use std::sync::Arc;
-use std::thread::{Threads, join_mut};
-
-/// From so many commodities on, noting the rows of their paths takes longer than the start of a thread.
-pub(crate) const PATHS_OF_A_THREAD: usize = 4_096;
-
-/// From so many sources times cells on, threads make a bound sooner than a worker that is alone does: other processors have to be woken
-/// for them in each phase, which can take longer than their start.
-const WORK_OF_SEVERAL: usize = 1_000_000;
+use std::thread::Threads;
 
 /// Room for bounds, from one to the next: a length for each cell, and a row for each source.
 #[derive(Drop)]
@@ -129,31 +119,22 @@ fn phase_over<G: Gate, R: Threads + Sync>(
 }
 
 /// One phase more, whose rows are still to be noted. `Err` is for want of memory, and then the search can't go on.
-pub fn route<G: Gate, R: Threads + Sync>(
+pub(crate) fn route<G: Gate, R: Threads + Sync>(
     rt: &R,
-    alloc: Global,
-    on: &Prepared<'_>,
-    setting: Setting,
-    gate: &G,
+    task: &Task<'_, G>,
     search: &mut Search,
 ) -> Result<(), AllocError>
-    requires no_cut { HasNoCut on.now.net.now }
-    requires setting { IsSetting setting }
-    requires search { IsSearch on.now.net.now search.old }
+    requires no_cut { HasNoCut task.now.on.now.net.now }
+    requires setting { IsSetting task.now.setting }
+    requires search { IsSearch task.now.on.now.net.now search.old }
     requires phases { phase_count search.old < MAX_PHASES }
-    ensures routed { OnOk result (IsRouted on.now.net.now setting search.old search.new) }
+    ensures routed { OnOk result (IsRouted task.now.on.now.net.now task.now.setting search.old search.new) }
 {
-    let _commodities = on.net.commodities();
+    let _commodities = task.on.net.commodities();
     forget_all(&mut search.hands);
-    let task = Task {
-        on,
-        alloc,
-        setting,
-        gate,
-    };
     phase_over(
         rt,
-        &task,
+        task,
         &search.room.rows,
         &mut search.loads,
         &mut search.hands,
@@ -203,7 +184,7 @@ fn end_over<G: Gate, R: Threads + Sync>(
 fn phase_with<'a, G: Gate, R: Threads + Sync>(
     rt: &R,
     task: &Task<'a, G>,
-    crew: &mut Crew<'_, Turn<'a, G>>,
+    crew: &mut Crew<'_, Share<'a, G>>,
     rows: &Arc<Vec<Row>, Global>,
     loads: &mut [u64],
     hands: Vec<Hand>,
@@ -220,7 +201,8 @@ fn phase_with<'a, G: Gate, R: Threads + Sync>(
     requires fresh { (k : ℕ) (d : _) → k < length hands.items
         → IsFresh task.now.on.now.net.now k (slice_index_or hands.items k d) }
     ensures count { IfOk result (λ back. length back.items ≡ length hands.items) }
-    ensures ok { IfOk result (λ back. IsRoutedPhase task.now.on.now.net.now task.now.setting loads.old loads.new back.items) }
+    ensures ok { IfOk result (λ back.
+        IsRoutedPhase task.now.on.now.net.now task.now.setting loads.old loads.new back.items) }
     ensures back { IfOk result (λ back. AreSameWorkers hands.items back.items) }
     ensures turns { IfOk result (λ back. (k : ℕ) (d : _) → k < length hands.items
         → (slice_index_or back.items k d).turn ≡ None) }
@@ -240,136 +222,28 @@ fn phase_with<'a, G: Gate, R: Threads + Sync>(
 
 /// As `route`, with a crew in whose threads the hands take their turns. `Err` is for want of memory, or where the crew gave up or a turn
 /// shares the rows still, which no run does; and then the search can't go on.
-pub fn route_with<'a, G: Gate, R: Threads + Sync>(
+pub(crate) fn route_with<'a, G: Gate, R: Threads + Sync>(
     rt: &R,
-    alloc: Global,
-    on: &'a Prepared<'a>,
-    setting: Setting,
-    gate: &'a G,
-    crew: &mut Crew<'_, Turn<'a, G>>,
+    task: &Task<'a, G>,
+    crew: &mut Crew<'_, Share<'a, G>>,
     search: &mut Search,
 ) -> Result<(), AllocError>
-    requires no_cut { HasNoCut on.now.net.now }
-    requires setting { IsSetting setting }
-    requires search { IsSearch on.now.net.now search.old }
+    requires no_cut { HasNoCut task.now.on.now.net.now }
+    requires setting { IsSetting task.now.setting }
+    requires search { IsSearch task.now.on.now.net.now search.old }
     requires phases { phase_count search.old < MAX_PHASES }
-    ensures routed { OnOk result (IsRouted on.now.net.now setting search.old search.new) }
+    ensures routed { OnOk result (IsRouted task.now.on.now.net.now task.now.setting search.old search.new) }
 {
-    let _commodities = on.net.commodities();
+    let _commodities = task.on.net.commodities();
+    let alloc = task.alloc;
     forget_all(&mut search.hands);
     let hands = mem::replace(&mut search.hands, Vec::new(alloc));
     let rows = Arc::new(alloc, mem::replace(&mut search.room.rows, Vec::new(alloc)))?;
     let loads = search.loads.as_mut_slice();
-    let task = Task {
-        on,
-        alloc,
-        setting,
-        gate,
-    };
-    search.hands = phase_with(rt, &task, crew, &rows, loads, hands)?;
+    search.hands = phase_with(rt, task, crew, &rows, loads, hands)?;
     let Ok(rows) = Arc::try_unwrap(rows) else {
         return Err(AllocError);
     };
     search.room.rows = rows;
     Ok(())
-}
-
-/// The bound of the lengths of these loads, in at most so many threads.
-pub fn bound_of<R: Threads + Sync>(
-    rt: &R,
-    alloc: Global,
-    on: &Prepared<'_>,
-    setting: &Setting,
-    loads: &[u64],
-    room: &mut BoundRoom,
-    threads: u16,
-) -> Result<Bounded, AllocError>
-    requires can { CanBeBounded on.now.net.now setting.now loads.now room.old }
-    ensures room { OnOk result (IsBoundRoom on.now.net.now room.new) }
-    ensures bound { IfOk result (IsBoundUnder on.now.net.now setting.now loads.now) }
-{
-    let BoundRoom { lengths, rows } = room;
-    on.powers.lengths(on.net, setting, loads, lengths);
-    bound_in(rt, alloc, on.net, on.graph, lengths, rows, threads)
-}
-
-/// In how many threads rows are noted and a bound is made, of at most so many, where so many workers have routed: in one, where one
-/// worker has routed a network that is not large.
-fn threads_for(on: &Prepared<'_>, workers: usize, most: u16) -> u16
-    ensures { result ≤ max most 1 }
-{
-    let work = on.groups.count() as usize * on.net.cells().len();
-    if workers == 1 && work < WORK_OF_SEVERAL {
-        1
-    } else {
-        most
-    }
-}
-
-/// How many threads are left for a bound, of at most so many, where one notes the rows of so many paths meanwhile. None, where that
-/// takes no longer than the start of a thread, or there is to be one thread alone.
-fn threads_beside(rt: &impl Threads, paths: usize, threads: u16) -> u16
-    ensures { result < max threads 1 }
-{
-    if paths < PATHS_OF_A_THREAD {
-        return 0;
-    }
-    (mcf_base::thread_count(rt, threads) - 1) as u16
-}
-
-/// Notes the rows of the phase that the hands have routed, and makes the bound of the loads of all phases, in at most so many threads.
-/// Where that pays, and there may be several, one of them notes the rows meanwhile. `Err` is for want of memory, and then the search
-/// can't go on.
-pub fn note_and_bound<R: Threads + Sync>(
-    rt: &R,
-    alloc: Global,
-    on: &Prepared<'_>,
-    setting: &Setting,
-    search: &mut Search,
-    threads: u16,
-) -> Result<Bounded, AllocError>
-    requires rows { AreRowsFor on.now.net.now search.old.history.history search.old.history.rows }
-    requires commodities { search.old.history.commodities ≡ length on.now.net.now.commodities }
-    requires phases { phase_count search.old < MAX_PHASES }
-    requires work { length on.now.net.now.commodities * (phase_count search.old + 1) ≤ MAX_WORK }
-    requires hands { length search.old.hands.items ≤ MAX_WORKERS }
-    requires routes { HaveRouted on.now.net.now search.old.hands.items }
-    requires bound { CanBeBounded on.now.net.now setting.now search.old.loads.items search.old.room }
-    ensures loads { search.new.loads ≡ search.old.loads }
-    ensures hands { search.new.hands ≡ search.old.hands }
-    ensures commodities { search.new.history.commodities ≡ search.old.history.commodities }
-    ensures rows { OnOk result (AreRowsFor on.now.net.now search.new.history.history search.new.history.rows) }
-    ensures phases { OnOk result ((entries : List Routed)
-        → IsRoutedOnce on.now.net.now search.old.hands.items entries
-        → phases_kept search.new.history ≡ phases_kept search.old.history ++ entries ∷ []) }
-    ensures room { OnOk result (IsBoundRoom on.now.net.now search.new.room) }
-    ensures bound { IfOk result (IsBoundUnder on.now.net.now setting.now search.old.loads.items) }
-{
-    let net = on.net;
-    let places = places_of(alloc, net, &search.hands)?;
-    let places = places.as_slice();
-    let loads = search.loads.as_slice();
-    let history = &mut search.history;
-    let sought = &mut search.sought;
-    let room = &mut search.room;
-    let threads = threads_for(on, search.hands.len(), threads);
-    let beside = threads_beside(rt, places.len(), threads);
-    let in_turn = beside == 0;
-    if in_turn {
-        history.note_phase(alloc, net, places, sought)?;
-        return bound_of(rt, alloc, on, setting, loads, room, threads);
-    }
-    let mut note = || -> Result<(), AllocError>
-        requires { CanBeNoted net.now history.now places.now }
-        ensures { (history.exit.now.commodities ≡ history.entry.now.commodities)
-            × OnOk result (IsNoted net.entry.now places.entry.now history.entry.now history.exit.now) }
-    { history.note_phase(alloc, net, places, sought) };
-    let mut bound = || -> Result<Bounded, AllocError>
-        requires { CanBeBounded on.now.net.now setting.now loads.now room.now }
-        ensures { OnOk result (IsBoundRoom on.entry.now.net.now room.exit.now)
-            × IfOk result (IsBoundUnder on.entry.now.net.now setting.entry.now loads.entry.now) }
-    { bound_of(rt, alloc, on, setting, loads, room, beside) };
-    let (noted, bounded) = join_mut(rt, &mut note, &mut bound);
-    noted?;
-    bounded
 }

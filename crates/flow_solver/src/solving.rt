@@ -12,9 +12,9 @@ ghost use Rattle.flow_solver.specs.Reached.{IsMet, IsReached};
 ghost use Rattle.flow_solver.specs.Search.{phase_count};
 
 use crate::leading::further;
-use crate::prepared::Prepared;
+use crate::prepared::{Prepared, Run};
 use crate::reached::{Reached, first, is_met, lower, next};
-use crate::search::{PATHS_OF_A_THREAD, Search};
+use crate::search::Search;
 use crate::solved::Solved;
 use crate::{Entries, OrderedHistory};
 use dijkstra_paths::Graph;
@@ -29,9 +29,6 @@ use solver_run::SolveOptions;
 use std::alloc::{AllocError, Global};
 use std::thread::Threads;
 
-/// From so many sources times cells on, a bound is made in several threads, which are started for it.
-const WORK_OF_A_BOUND: usize = 1 << 15;
-
 /// The last phase's state, and whether the gap was met.
 #[derive(Drop)]
 struct Ended {
@@ -39,63 +36,45 @@ struct Ended {
     closed: bool,
 }
 
-/// Whether bounds and rows are made in the caller's thread: else threads that stay beside it would be in the way of those that make them.
-fn is_small(on: &Prepared<'_>) -> bool {
-    let work = on.groups.count() as usize * on.net.cells().len();
-    on.net.commodities().len() < PATHS_OF_A_THREAD && work < WORK_OF_A_BOUND
-}
-
-/// One phase more or, where several workers route a small network, one or several, with threads that stay beside the caller's.
+/// One phase more or, where several workers route, one or several, with threads that stay beside the caller's.
 fn go_on<G: Gate, R: Threads + Sync>(
-    rt: &R,
-    alloc: Global,
-    on: &Prepared<'_>,
-    options: &SolveOptions,
-    gate: &G,
-    threads: u16,
+    run: &Run<'_, G, R>,
     reached: Reached,
 ) -> Result<Reached, AllocError>
-    requires { CanGoOn on.now.net.now options.now reached }
-    ensures { IfOk result (GoesOn on.now.net.now options.now reached) }
+    requires { CanGoOn run.now.on.now.net.now run.now.options.now reached }
+    ensures { IfOk result (GoesOn run.now.on.now.net.now run.now.options.now reached) }
 {
-    if options.workers > 1 && is_small(on) {
-        further(rt, alloc, on, options, gate, threads, reached)
+    if run.options.workers > 1 {
+        further(run, reached)
     } else {
-        next(rt, alloc, on, options, gate, threads, reached)
+        next(run, None, reached)
     }
 }
 
 /// Phase after phase, until the gap is met or the budget is spent.
-fn all_phases<G: Gate, R: Threads + Sync>(
-    rt: &R,
-    alloc: Global,
-    on: &Prepared<'_>,
-    options: &SolveOptions,
-    gate: &G,
-    threads: u16,
-) -> Result<Ended, AllocError>
-    requires no_cut { HasNoCut on.now.net.now }
-    requires options { AreOptions on.now.net.now options.now }
-    ensures reached { IfOk result (λ e. IsReached on.now.net.now options.now e.reached) }
-    ensures budget { IfOk result (λ e. phase_count e.reached.search ≤ options.now.phases) }
-    ensures closed { IfOk result (λ e. IsTrue e.closed ↔ IsMet on.now.net.now options.now e.reached) }
-    ensures spent { IfOk result (λ e. e.closed ≡ false → phase_count e.reached.search ≡ options.now.phases) }
+fn all_phases<G: Gate, R: Threads + Sync>(run: &Run<'_, G, R>) -> Result<Ended, AllocError>
+    requires no_cut { HasNoCut run.now.on.now.net.now }
+    requires options { AreOptions run.now.on.now.net.now run.now.options.now }
+    ensures reached { IfOk result (λ e. IsReached run.now.on.now.net.now run.now.options.now e.reached) }
+    ensures budget { IfOk result (λ e. phase_count e.reached.search ≤ run.now.options.now.phases) }
+    ensures closed { IfOk result (λ e. IsTrue e.closed ↔ IsMet run.now.on.now.net.now run.now.options.now e.reached) }
+    ensures spent { IfOk result (λ e. e.closed ≡ false → phase_count e.reached.search ≡ run.now.options.now.phases) }
 {
-    let mut reached = first(rt, alloc, on, options, gate, threads)?;
+    let mut reached = first(run)?;
     'phases: loop {
-        if is_met(on.net, options, &reached) {
+        if is_met(run.on.net, run.options, &reached) {
             return Ok(Ended {
                 reached,
                 closed: true,
             });
         }
-        if reached.search.history.phases() >= options.phases {
+        if reached.search.history.phases() >= run.options.phases {
             return Ok(Ended {
                 reached,
                 closed: false,
             });
         }
-        reached = go_on(rt, alloc, on, options, gate, threads, reached)?;
+        reached = go_on(run, reached)?;
     }
 }
 
@@ -199,7 +178,14 @@ fn uncut<G: Gate, R: Threads + Sync>(
         graph,
         powers: &powers,
     };
-    let ended = all_phases(rt, alloc, &on, options, gate, threads)?;
+    let ended = all_phases(&Run {
+        rt,
+        alloc,
+        on: &on,
+        options,
+        gate,
+        threads: mcf_base::thread_count(rt, threads) as u16,
+    })?;
     finished(alloc, net, options, ended)
 }
 

@@ -1,12 +1,14 @@
 //! The turns of the hands in a phase, which any thread may take.
 
-ghost use Rattle.std.specs.Prelude.{◌≡◌, ℕ, ◌<◌, IfOk, IsSome, length, slice_index_or};
+ghost use Rattle.std.specs.Prelude.{◌≡◌, ℕ, ◌<◌, IfOk, length, slice_index_or};
 ghost use Rattle.std.specs.Arc.{arc_value};
 ghost use Rattle.phase_engine.specs.Hands.{IsReady, Runs};
-ghost use Rattle.flow_solver.specs.Turns.{AreWordsOf, HasHand, IsTurnOf};
+ghost use Rattle.flow_solver.specs.Turns.{AreWordsOf, CanBeTaken, IsTaken};
+ghost use Rattle.flow_solver.specs.Shares.{HasHand, IsSomeTurn, IsTurnOf};
 
-use crate::prepared::Prepared;
-use claimed_calls::{Crew, Job};
+use crate::prepared::{Prepared, Task};
+use crate::share::Share;
+use claimed_calls::Crew;
 use dijkstra_paths::Tree;
 use dual_bound::Row;
 use flow_model::Setting;
@@ -15,15 +17,6 @@ use mcf_base::Gate;
 use phase_engine::{Hand, PhaseInput, Shared, Watch, take_turn};
 use std::alloc::{AllocError, Global};
 use std::sync::Arc;
-
-/// What a phase is of: a network, the setting of its lengths, and the gate.
-#[derive(Drop)]
-pub(crate) struct Task<'a, G> {
-    pub on: &'a Prepared<'a>,
-    pub alloc: Global,
-    pub setting: Setting,
-    pub gate: &'a G,
-}
 
 /// The turn of one hand: what the phase is of, the words of its loads, and the rows of the bound before, at whose trees searches
 /// begin. All turns of a phase share the words and the rows.
@@ -38,34 +31,30 @@ pub struct Turn<'a, G> {
     pub hand: Hand,
 }
 
-impl<'a, G: Gate> Job for Turn<'a, G> {
-    ghost use Rattle.flow_solver.specs.Turns.{CanBeTaken, IsTaken};
-
-    ghost asks = { CanBeTaken };
-
-    ghost does = { IsTaken };
-
-    fn work(self) -> Self {
-        let Turn {
-            on,
-            alloc,
-            setting,
-            gate,
-            loads,
-            rows,
-            hand,
-        } = self;
-        let mut hand = hand;
-        take_over(alloc, on, setting, gate, &loads, &rows, &mut hand);
-        Turn {
-            on,
-            alloc,
-            setting,
-            gate,
-            loads,
-            rows,
-            hand,
-        }
+/// The turn with its hand after its work.
+pub(crate) fn taken<'a, G: Watch>(turn: Turn<'a, G>) -> Turn<'a, G>
+    requires { CanBeTaken turn }
+    ensures { IsTaken turn.entry result }
+{
+    let Turn {
+        on,
+        alloc,
+        setting,
+        gate,
+        loads,
+        rows,
+        hand,
+    } = turn;
+    let mut hand = hand;
+    take_over(alloc, on, setting, gate, &loads, &rows, &mut hand);
+    Turn {
+        on,
+        alloc,
+        setting,
+        gate,
+        loads,
+        rows,
+        hand,
     }
 }
 
@@ -119,12 +108,12 @@ fn turn_of<'a, G: Gate>(
     loads: &Arc<Loads, Global>,
     rows: &Arc<Vec<Row>, Global>,
     hand: Hand,
-) -> Result<Option<Turn<'a, G>>, AllocError>
+) -> Result<Option<Share<'a, G>>, AllocError>
     requires words { AreWordsOf task.now.on.now.net.now task.now.setting (arc_value loads.now) }
     requires ready { IsReady (arc_value loads.now) hand }
     ensures { IfOk result (IsTurnOf (arc_value loads.now) hand) }
 {
-    Ok(Some(Turn {
+    Ok(Some(Share::Turn(Turn {
         on: task.on,
         alloc: task.alloc,
         setting: task.setting,
@@ -132,7 +121,7 @@ fn turn_of<'a, G: Gate>(
         loads: Arc::try_clone(loads)?,
         rows: Arc::try_clone(rows)?,
         hand,
-    }))
+    })))
 }
 
 /// A turn for each hand, in their order.
@@ -141,7 +130,7 @@ fn turns_of<'a, G: Gate>(
     loads: &Arc<Loads, Global>,
     rows: &Arc<Vec<Row>, Global>,
     hands: Vec<Hand>,
-) -> Result<Vec<Option<Turn<'a, G>>>, AllocError>
+) -> Result<Vec<Option<Share<'a, G>>>, AllocError>
     requires words { AreWordsOf task.now.on.now.net.now task.now.setting (arc_value loads.now) }
     requires ready { (k : ℕ) (d : _) → k < length hands.items
         → IsReady (arc_value loads.now) (slice_index_or hands.items k d) }
@@ -157,22 +146,22 @@ fn turns_of<'a, G: Gate>(
 }
 
 /// The hand of a turn.
-fn hand_of<G: Gate>(turn: Option<Turn<'_, G>>) -> Hand
-    requires { IsSome turn }
+fn hand_of<G: Gate>(turn: Option<Share<'_, G>>) -> Hand
+    requires { IsSomeTurn turn }
     ensures { HasHand turn.entry result }
 {
     match turn {
-        Some(turn) => turn.hand,
-        None => unreachable!(),
+        Some(Share::Turn(turn)) => turn.hand,
+        _ => unreachable!(),
     }
 }
 
 /// The hands of the turns, in their order.
 fn hands_of<G: Gate>(
     alloc: Global,
-    turns: Vec<Option<Turn<'_, G>>>,
+    turns: Vec<Option<Share<'_, G>>>,
 ) -> Result<Vec<Hand>, AllocError>
-    requires { (k : ℕ) (d : _) → k < length turns.items → IsSome (slice_index_or turns.items k d) }
+    requires { (k : ℕ) (d : _) → k < length turns.items → IsSomeTurn (slice_index_or turns.items k d) }
     ensures count { IfOk result (λ hands. length hands.items ≡ length turns.entry.items) }
     ensures hands { IfOk result (λ hands. (k : ℕ) (d : _) (e : _) → k < length turns.entry.items
         → HasHand (slice_index_or turns.entry.items k d) (slice_index_or hands.items k e)) }
@@ -188,7 +177,7 @@ fn hands_of<G: Gate>(
 /// memory, or where the crew gave up waiting, after 2^64 tries, which no run makes.
 pub(crate) fn take_all<'a, G: Gate>(
     task: &Task<'a, G>,
-    crew: &mut Crew<'_, Turn<'a, G>>,
+    crew: &mut Crew<'_, Share<'a, G>>,
     loads: &Arc<Loads, Global>,
     rows: &Arc<Vec<Row>, Global>,
     hands: Vec<Hand>,

@@ -11,14 +11,14 @@ use Rattle.flow_solver.proofs.reached.first.Goals as goal
 
 pub note_and_bound-requires-clause-rows : goal.note_and_bound-requires-clause-rows
 note_and_bound-requires-clause-rows g c κs within =
-    subst (λ (h : HistoryView). AreRowsFor c.args.on.now.net.now h.history h.rows) (sym c.in_ok-route.ensures.routed.history) c.in_ok-search.ensures.search.rows
+    subst (λ (h : HistoryView). AreRowsFor c.args.run.now.on.now.net.now h.history h.rows) (sym c.in_ok-route.ensures.routed.history) c.in_ok-search.ensures.search.rows
 
 pub note_and_bound-requires-clause-work : goal.note_and_bound-requires-clause-work
 note_and_bound-requires-clause-work g c κs within =
-    let net = c.args.on.now.net.now in
+    let net = c.args.run.now.on.now.net.now in
     let count = ap (λ (h : HistoryView). length h.history) c.in_ok-route.ensures.routed.history in
     let none : length c.in_ok-search.search.history.history ≡ 0 = ap (λ (xs : List _). length xs) c.in_ok-search.ensures.nothing in
-    let more : phase_count c.route.new.search + 1 ≤ c.args.options.now.phases = omega (arith, c.requires.options.some_phase) in
+    let more : phase_count c.route.new.search + 1 ≤ c.args.run.now.options.now.phases = omega (arith, c.requires.options.some_phase) in
     let times = mul-le-mul_left (length net.commodities) more in
     omega (arith, times, c.requires.options.work)
 
@@ -29,8 +29,8 @@ note_and_bound-requires-clause-routes g c κs within =
 
 pub returns-clause-reached : goal.returns-clause-reached
 returns-clause-reached g c =
-    let net = c.args.on.now.net.now in
-    let o = c.args.options.now in
+    let net = c.args.run.now.on.now.net.now in
+    let o = c.args.run.now.options.now in
     let old = c.in_ok-search.search in
     let mid = c.route.new.search in
     let new = c.note_and_bound.new.search in

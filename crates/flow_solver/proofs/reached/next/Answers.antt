@@ -1,47 +1,47 @@
-use Rattle.std.proofs.Common.{◌≡◌, ℕ, ◌+◌, ◌≤◌, List, length, sym, ap, ◌∙◌, subst, arith, false}
+use Rattle.std.proofs.Common.{ℕ, ◌+◌, ◌*◌, ◌≤◌, List, length, get_or, sym, ap, ◌∙◌, subst, arith, false}
 use Rattle.std.proofs.Math.Nat.{mul-le-mul_left}
+use Rattle.mcf_limits.specs.declared.TheConstants.{MAX_LENGTH, MAX_TOTAL}
 use Rattle.flow_model.specs.declared.setting.Setting.{Setting}
 use Rattle.flow_model.specs.Lengths.{lengths_of}
 use Rattle.dual_bound.specs.Bounds.{IsBoundOf}
-use Rattle.flow_solver.specs.Rows.{HistoryView, AreRowsFor}
-use Rattle.flow_solver.specs.Search.{phase_count, IsRouted}
-use Rattle.flow_solver.proofs.Routing.{noted-phase}
-use Rattle.flow_solver.proofs.Reaching.{next-reached, fill-after}
+use Rattle.flow_solver.specs.Search.{phase_count, HasRouted}
+use Rattle.flow_solver.proofs.Routing.{loads-size}
+use Rattle.flow_solver.proofs.Reaching.{count-more, next-reached, fill-after}
 use Rattle.flow_solver.proofs.reached.next.Goals as goal
 
-pub note_and_bound-requires-clause-rows : goal.note_and_bound-requires-clause-rows
-note_and_bound-requires-clause-rows g c κs within =
-    subst (λ (h : HistoryView). AreRowsFor c.args.on.now.net.now h.history h.rows) (sym c.in_ok-route.ensures.routed.history) c.requires.reached.search.rows
-
-pub note_and_bound-requires-clause-work : goal.note_and_bound-requires-clause-work
-note_and_bound-requires-clause-work g c κs within =
-    let net = c.args.on.now.net.now in
-    let count = ap (λ (h : HistoryView). length h.history) c.in_ok-route.ensures.routed.history in
-    let more : phase_count c.route.new.search + 1 ≤ c.args.options.now.phases = omega (arith, c.requires.budget) in
+pub one_phase-requires-clause-work : goal.one_phase-requires-clause-work
+one_phase-requires-clause-work g c κs within =
+    let net = c.args.run.now.on.now.net.now in
+    let more : phase_count c.args.reached.search + 1 ≤ c.args.run.now.options.now.phases = omega (arith, c.requires.budget) in
     let times = mul-le-mul_left (length net.commodities) more in
     omega (arith, times, c.requires.options.work)
 
-pub note_and_bound-requires-clause-routes : goal.note_and_bound-requires-clause-routes
-note_and_bound-requires-clause-routes g c κs within =
-    let phase = c.in_ok-route.ensures.routed.phase in
-    (phase.entries, record { count = phase.count; routes = phase.routes })
+pub measured-fill-requires-clause-count : goal.measured-fill-requires-clause-count
+measured-fill-requires-clause-count g c = ap (λ (xs : List ℕ). length xs) c.deref.ensures.value ∙ loads-size c.args.run.now.on.now.net.now c.one_phase.new.search c.in_ok-later.ensures.search
+
+pub measured-fill-requires-clause-small : goal.measured-fill-requires-clause-small
+measured-fill-requires-clause-small g c k d l =
+    let new = c.one_phase.new.search in
+    let size = ap (λ (xs : List ℕ). length xs) c.deref.ensures.value in
+    let more = count-more c.args.run.now.on.now.net.now c.setting_after_first-setting.result c.args.reached.search new c.in_ok-later.ensures.routed in
+    let small : get_or new.loads.items k d ≤ phase_count new * MAX_TOTAL = c.in_ok-later.ensures.search.small k d (omega (arith, size)) in
+    subst (λ (xs : List ℕ). get_or xs k d ≤ MAX_LENGTH) (sym c.deref.ensures.value) (omega (arith, small, more, c.requires.budget, c.requires.options.phases))
 
 pub returns-clause-reached : goal.returns-clause-reached
 returns-clause-reached g c =
-    let net = c.args.on.now.net.now in
-    let o = c.args.options.now in
+    let net = c.args.run.now.on.now.net.now in
+    let o = c.args.run.now.options.now in
     let r = c.args.reached in
-    let mid = c.route.new.search in
-    let new = c.note_and_bound.new.search in
+    let new = c.one_phase.new.search in
+    let e = c.in_ok-later.ensures in
     let later = c.in_ok-later.later in
     let setting : Setting = record { first = false; ref_cap = r.reference.cap; ref_load = r.reference.load; step = o.step } in
-    let routed : IsRouted net setting r.search mid = subst (λ (x : Setting). IsRouted net x r.search mid) c.setting_after_first-setting.ensures c.in_ok-route.ensures.routed in
-    let next = noted-phase net setting r.search mid new c.cells-cells.ensures.net c.requires.reached.search routed c.note_and_bound.ensures.loads c.note_and_bound.ensures.hands c.note_and_bound.ensures.commodities
-    c.in_ok-later.ensures.room c.in_ok-later.ensures.rows c.in_ok-later.ensures.phases in
-    let loads : mid.loads.items ≡ new.loads.items = ap (λ (xs : _). xs.items) (sym c.note_and_bound.ensures.loads) in
-    let bound : IsBoundOf net (lengths_of net setting new.loads.items) later.dual =
-    subst (λ (xs : List ℕ). IsBoundOf net (lengths_of net setting xs) later.dual) loads
-    (subst (λ (x : Setting). IsBoundOf net (lengths_of net x mid.loads.items) later.dual) c.setting_after_first-setting.ensures c.in_ok-later.ensures.bound.0) in
-    next-reached net o r new c.measured-fill.result later c.lesser.result c.requires.reached c.requires.unmet next.0 next.1
-    (fill-after net new c.measured-fill.result c.deref.result.now next.0 (c.deref.ensures.value ∙ loads) c.measured-fill.ensures.value) c.measured-fill.ensures.fits bound
-    (lengths_of net c.setting_after_first-setting.result mid.loads.items, c.in_ok-later.ensures.bound.1) c.in_ok-later.ensures.bound.2 c.lesser.ensures
+    let is = c.setting_after_first-setting.ensures in
+    let routed : HasRouted net setting r.search new = subst (λ (x : Setting). HasRouted net x r.search new) is e.routed in
+    let bound : IsBoundOf net (lengths_of net setting new.loads.items) later.dual = subst (λ (x : Setting). IsBoundOf net (lengths_of net x new.loads.items) later.dual) is e.bound.0 in
+    next-reached net o r new c.measured-fill.result later c.lesser.result c.requires.reached c.requires.unmet e.search routed
+    (fill-after net new c.measured-fill.result c.deref.result.now e.search c.deref.ensures.value c.measured-fill.ensures.value) c.measured-fill.ensures.fits bound
+    (lengths_of net c.setting_after_first-setting.result new.loads.items, e.bound.1) e.bound.2 c.lesser.ensures
+
+pub returns-clause-count : goal.returns-clause-count
+returns-clause-count g c = count-more c.args.run.now.on.now.net.now c.setting_after_first-setting.result c.args.reached.search c.one_phase.new.search c.in_ok-later.ensures.routed

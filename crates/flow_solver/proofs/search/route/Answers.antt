@@ -18,18 +18,18 @@ on_ok (Err e) f p = tt
 
 pub phase_over-requires-clause-start : goal.phase_over-requires-clause-start
 phase_over-requires-clause-start g c κs within =
-    let net = c.args.on.now.net.now in
+    let net = c.args.task.now.on.now.net.now in
     let old = c.args.search.now in
     let hands = with_items_is old.hands c.forget_all.new.hands (omega arith) in
     let now : c.deref_mut-3.result.now ≡ c.forget_all.new.hands = c.deref_mut-3.ensures.value ∙ hands in
     let idle = c.requires.search.hands in
     let count = ap (λ (xs : List Hand). length xs) now in
-    subst (λ (base : List ℕ). IsStart (record { net = net; setting = c.args.setting; base = base; workers = length c.deref_mut-3.result.now })) (sym c.deref_mut-2.ensures.value)
-    (start-of net c.args.setting old (length c.deref_mut-3.result.now) c.commodities-commodities.ensures.net c.requires.search c.requires.phases (omega (arith, idle.some)) (omega (arith, idle.few)) (loads-size net old c.requires.search))
+    subst (λ (base : List ℕ). IsStart (record { net = net; setting = c.args.task.now.setting; base = base; workers = length c.deref_mut-3.result.now })) (sym c.deref_mut-2.ensures.value)
+    (start-of net c.args.task.now.setting old (length c.deref_mut-3.result.now) c.commodities-commodities.ensures.net c.requires.search c.requires.phases (omega (arith, idle.some)) (omega (arith, idle.few)) (loads-size net old c.requires.search))
 
 pub returns : goal.returns
 returns g c =
-    let net = c.args.on.now.net.now in
+    let net = c.args.task.now.on.now.net.now in
     let old = c.args.search.now in
     let fresh_hands = c.deref_mut-3.result.now in
     let loads = with_items_is old.loads c.phase_over.new.loads (omega arith) in
@@ -52,11 +52,11 @@ returns g c =
     let size = loads-size net old c.requires.search in
     record {
       routed = on_ok c.phase_over.result (λ ok.
-          let routed : IsRoutedPhase net c.args.setting old.loads.items new.loads.items new.hands.items =
-          subst (λ (hs : List Hand). IsRoutedPhase net c.args.setting old.loads.items new.loads.items hs) (sym hands)
-          (subst (λ (xs : List ℕ). IsRoutedPhase net c.args.setting old.loads.items xs c.phase_over.new.hands) (sym loads)
-          (subst (λ (xs : List ℕ). IsRoutedPhase net c.args.setting xs c.phase_over.new.loads c.phase_over.new.hands) c.deref_mut-2.ensures.value ok)) in
-          routed-phase net c.args.setting old new c.commodities-commodities.ensures.net c.requires.search c.requires.phases routed
+          let routed : IsRoutedPhase net c.args.task.now.setting old.loads.items new.loads.items new.hands.items =
+          subst (λ (hs : List Hand). IsRoutedPhase net c.args.task.now.setting old.loads.items new.loads.items hs) (sym hands)
+          (subst (λ (xs : List ℕ). IsRoutedPhase net c.args.task.now.setting old.loads.items xs c.phase_over.new.hands) (sym loads)
+          (subst (λ (xs : List ℕ). IsRoutedPhase net c.args.task.now.setting xs c.phase_over.new.loads c.phase_over.new.hands) c.deref_mut-2.ensures.value ok)) in
+          routed-phase net c.args.task.now.setting old new c.commodities-commodities.ensures.net c.requires.search c.requires.phases routed
           (ap (λ (xs : List ℕ). length xs) loads ∙ omega (arith, size, c.phase_over.auto.loads, c.deref_mut-2.ensures.len))
           (subst (AreIdle net) (sym hands) (idle-again net fresh_hands c.phase_over.new.hands (omega (arith, idle.some)) (omega (arith, idle.few)) fresh (omega arith) c.phase_over.ensures.back c.phase_over.ensures.turns c.phase_over.ensures.rooms))
           (omega arith) refl refl) c.phase_over.ensures.ok;

@@ -12,18 +12,18 @@ use Rattle.flow_solver.proofs.search.route_with.Goals as goal
 
 pub phase_with-requires-clause-start : goal.phase_with-requires-clause-start
 phase_with-requires-clause-start g c κs within =
-    let net = c.args.on.now.net.now in
+    let net = c.args.task.now.on.now.net.now in
     let old = c.args.search.now in
     let hands = c.replace-hands.result.items in
     let now : hands ≡ c.forget_all.new.hands = ap (λ (v : _). v.items) c.replace-hands.ensures.value ∙ with_items_is old.hands c.forget_all.new.hands (omega arith) in
     let idle = c.requires.search.hands in
     let count = ap (λ (xs : List Hand). length xs) now in
-    subst (λ (base : List ℕ). IsStart (record { net = net; setting = c.args.setting; base = base; workers = length hands })) (sym c.as_mut_slice-loads.ensures.value)
-    (start-of net c.args.setting old (length hands) c.commodities-commodities.ensures.net c.requires.search c.requires.phases (omega (arith, idle.some)) (omega (arith, idle.few)) (loads-size net old c.requires.search))
+    subst (λ (base : List ℕ). IsStart (record { net = net; setting = c.args.task.now.setting; base = base; workers = length hands })) (sym c.as_mut_slice-loads.ensures.value)
+    (start-of net c.args.task.now.setting old (length hands) c.commodities-commodities.ensures.net c.requires.search c.requires.phases (omega (arith, idle.some)) (omega (arith, idle.few)) (loads-size net old c.requires.search))
 
 pub phase_with-requires-clause-fresh : goal.phase_with-requires-clause-fresh
 phase_with-requires-clause-fresh g c κs within =
-    let net = c.args.on.now.net.now in
+    let net = c.args.task.now.on.now.net.now in
     let old = c.args.search.now in
     let now : c.replace-hands.result.items ≡ c.forget_all.new.hands = ap (λ (v : _). v.items) c.replace-hands.ensures.value ∙ with_items_is old.hands c.forget_all.new.hands (omega arith) in
     subst (λ (hs : List Hand). (k : ℕ) (d : Hand) → k < length hs → IsFresh net k (get_or hs k d)) (sym now)
@@ -31,7 +31,7 @@ phase_with-requires-clause-fresh g c κs within =
 
 pub returns : goal.returns
 returns g c =
-    let net = c.args.on.now.net.now in
+    let net = c.args.task.now.on.now.net.now in
     let old = c.args.search.now in
     let hands = c.replace-hands.result.items in
     let back = c.in_ok-search.field-0 in
@@ -54,11 +54,11 @@ returns g c =
     let size = loads-size net old c.requires.search in
     let base_count = ap (λ (xs : List ℕ). length xs) c.as_mut_slice-loads.ensures.value in
     let back_count = c.in_ok-search.ensures.count in
-    let routed : IsRoutedPhase net c.args.setting old.loads.items new.loads.items back.items =
-    subst (λ (xs : List ℕ). IsRoutedPhase net c.args.setting old.loads.items xs back.items) (sym loads)
-    (subst (λ (xs : List ℕ). IsRoutedPhase net c.args.setting xs c.phase_with.new.loads back.items) c.as_mut_slice-loads.ensures.value c.in_ok-search.ensures.ok) in
+    let routed : IsRoutedPhase net c.args.task.now.setting old.loads.items new.loads.items back.items =
+    subst (λ (xs : List ℕ). IsRoutedPhase net c.args.task.now.setting old.loads.items xs back.items) (sym loads)
+    (subst (λ (xs : List ℕ). IsRoutedPhase net c.args.task.now.setting xs c.phase_with.new.loads back.items) c.as_mut_slice-loads.ensures.value c.in_ok-search.ensures.ok) in
     record {
-      routed = routed-phase net c.args.setting old new c.commodities-commodities.ensures.net c.requires.search c.requires.phases routed
+      routed = routed-phase net c.args.task.now.setting old new c.commodities-commodities.ensures.net c.requires.search c.requires.phases routed
           (ap (λ (xs : List ℕ). length xs) loads ∙ omega (arith, size, c.phase_with.auto.loads, base_count))
           (idle-again net hands back.items (omega (arith, idle.some)) (omega (arith, idle.few)) fresh back_count c.in_ok-search.ensures.back c.in_ok-search.ensures.turns c.in_ok-search.ensures.rooms)
           (omega arith) (ap (λ (rs : _). record { lengths = old.room.lengths; rows = rs }) rows) refl;

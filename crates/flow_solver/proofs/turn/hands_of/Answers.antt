@@ -1,6 +1,6 @@
 use Rattle.std.proofs.Common.{List, ◌∷◌, [], ◌++◌, length, sym, ap, subst, arith}
 use Rattle.std.proofs.lemmas.List.{length-append}
-use Rattle.flow_solver.specs.Turns.{HasHand}
+use Rattle.flow_solver.specs.Shares.{HasHand}
 use Rattle.phase_engine.specs.declared.hand.Hand.{Hand}
 use Rattle.flow_solver.proofs.Turning.{Each, each-more, left-with}
 use Rattle.flow_solver.proofs.turn.hands_of.Goals as goal

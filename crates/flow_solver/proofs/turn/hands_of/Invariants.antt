@@ -1,5 +1,5 @@
 use Rattle.std.proofs.Common.{◌≡◌, ◌++◌, length}
-use Rattle.flow_solver.specs.Turns.{HasHand}
+use Rattle.flow_solver.specs.Shares.{HasHand}
 use Rattle.flow_solver.proofs.Turning.{Each}
 use Rattle.flow_solver.proofs.turn.hands_of.Given as goal
 

@@ -4,12 +4,12 @@ use Rattle.std.proofs.Common.{rules, arith}
 use Rattle.std.proofs.lemmas.List.{with_items_is}
 use Rattle.std.specs.Arc.{arc_value}
 use Rattle.std.specs.Prelude.{Result, Ok, Err, IfOk}
-use Rattle.flow_solver.proofs.Sent.{turn-send}
+use Rattle.flow_solver.proofs.Sent.{share-send}
 use Rattle.flow_solver.proofs.Turning.{waits-all, some-all, runs-all}
 use Rattle.flow_solver.proofs.turn.take_all.Goals as goal
 
 pub work_each-requires-send-J : goal.work_each-requires-send-J
-work_each-requires-send-J g c κs within = param_send 0 _ (arg_send _ no _ (turn-send _ _ (param_sync 0 _ c.type_bounds.sync-G)))
+work_each-requires-send-J g c κs within = param_send 0 _ (arg_send _ no _ (share-send _ _ (param_sync 0 _ c.type_bounds.sync-G)))
 
 pub work_each-requires-after_bounds : goal.work_each-requires-after_bounds
 work_each-requires-after_bounds g c κs within =
@@ -17,7 +17,8 @@ work_each-requires-after_bounds g c κs within =
 
 pub hands_of-requires-after_bounds : goal.hands_of-requires-after_bounds
 hands_of-requires-after_bounds g c κs within =
-    some-all c.deref_mut.result.now c.work_each.new.jobs _ (omega arith) (search rules) (with_items_is c.in_ok-turns.turns c.work_each.new.jobs (omega arith))
+    some-all (arc_value c.args.loads.now) c.args.hands.items c.in_ok-turns.turns.items c.deref_mut.result.now c.work_each.new.jobs _ c.in_ok-turns.ensures.count c.in_ok-turns.ensures.turns c.deref_mut.ensures.value
+    (omega arith) (search rules) (with_items_is c.in_ok-turns.turns c.work_each.new.jobs (omega arith))
 
 pub returns-clause-runs : goal.returns-clause-runs
 returns-clause-runs g c =

@@ -2,7 +2,7 @@ use Rattle.std.proofs.Common.{List, ◌∷◌, [], ◌++◌, length, sym, ap, su
 use Rattle.std.proofs.lemmas.List.{length-append}
 use Rattle.std.specs.Arc.{arc_value}
 use Rattle.phase_engine.specs.declared.hand.Hand.{Hand}
-use Rattle.flow_solver.specs.Turns.{IsTurnOf}
+use Rattle.flow_solver.specs.Shares.{IsTurnOf}
 use Rattle.flow_solver.proofs.Turning.{Each, each-more, left-with, none-left}
 use Rattle.flow_solver.proofs.turn.turns_of.Goals as goal
 

@@ -1,6 +1,6 @@
 use Rattle.std.proofs.Common.{◌≡◌, ◌++◌, length}
 use Rattle.std.specs.Arc.{arc_value}
-use Rattle.flow_solver.specs.Turns.{IsTurnOf}
+use Rattle.flow_solver.specs.Shares.{IsTurnOf}
 use Rattle.flow_solver.proofs.Turning.{Each}
 use Rattle.flow_solver.proofs.turn.turns_of.Given as goal
 

@@ -3,7 +3,7 @@ use Rattle.std.specs.Prelude.{Ok, Err, Result, OnOk}
 use Rattle.phase_engine.specs.declared.hand.Hand.{Hand}
 use Rattle.flow_solver.specs.declared.places.Place.{Place}
 use Rattle.flow_solver.specs.Adding.{ArePlaces, IsNoted}
-use Rattle.flow_solver.proofs.search.note_and_bound.Goals as goal
+use Rattle.flow_solver.proofs.bounding.note_and_bound.Goals as goal
 
 -- what holds whatever a call answers
 on_any : {T E P : Type 0} (r : Result T E) → P → OnOk r P

@@ -1,0 +1,7 @@
+use denote.Exit.{no}
+use denote.Param.Send.{arg_send, param_send, param_sync}
+use Rattle.flow_solver.proofs.Sent.{share-send}
+use Rattle.flow_solver.proofs.leading.share_beside.Goals as goal
+
+pub stay_beside-requires-send-J : goal.stay_beside-requires-send-J
+stay_beside-requires-send-J g c κs within = param_send 1 _ (arg_send _ no _ (share-send _ _ (param_sync 0 _ c.type_bounds.sync-G)))

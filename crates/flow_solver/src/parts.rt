@@ -1,0 +1,118 @@
+//! The rows of a bound in parts, which any thread may fill.
+
+ghost use Rattle.std.specs.Prelude.{◌≡◌, ◌++◌, All, IfOk, OnOk};
+ghost use Rattle.std.specs.Arc.{arc_value};
+ghost use Rattle.flow_model.specs.Lengths.{AreLengths};
+ghost use Rattle.dual_bound.specs.Rows.{IsRoom};
+ghost use Rattle.flow_solver.specs.Parts.{CanBeFilled, IsFilled, IsPartOf};
+ghost use Rattle.flow_solver.specs.Shares.{IsShareOf, rows_at, rows_in};
+
+use crate::share::Share;
+use dijkstra_paths::Graph;
+use dual_bound::{Row, refill_rows};
+use std::alloc::{AllocError, Global};
+use std::sync::Arc;
+
+/// A part of the rows of a bound, which are to be filled anew with distances under these lengths. All parts share the lengths.
+#[derive(Drop)]
+pub struct Part<'a> {
+    pub graph: &'a Graph,
+    pub alloc: Global,
+    pub lengths: Arc<Vec<u64>, Global>,
+    pub rows: Vec<Row>,
+}
+
+/// The part with its rows filled, but for those for which no memory was left.
+pub(crate) fn filled<'a>(part: Part<'a>) -> Part<'a>
+    requires { CanBeFilled part }
+    ensures { IsFilled part.entry result }
+{
+    let Part {
+        graph,
+        alloc,
+        lengths,
+        rows,
+    } = part;
+    let mut rows = rows;
+    refill_rows(alloc, graph, &lengths, &mut rows);
+    Part {
+        graph,
+        alloc,
+        lengths,
+        rows,
+    }
+}
+
+/// The last rows, so many of them or all that there are, as a part. `Err` is for want of memory.
+fn last_part<'a>(
+    alloc: Global,
+    graph: &'a Graph,
+    lengths: &Arc<Vec<u64>, Global>,
+    rows: &mut Vec<Row>,
+    size: usize,
+) -> Result<Part<'a>, AllocError>
+    requires lengths { AreLengths graph.now.cells (arc_value lengths.now).items }
+    requires rows { All (IsRoom graph.now.nodes) rows.old.items }
+    ensures part { IfOk result (IsPartOf graph.now (arc_value lengths.now).items) }
+    ensures rows { IfOk result (λ part. rows.new.items ++ part.rows.items ≡ rows.old.items) }
+    ensures room { OnOk result (All (IsRoom graph.now.nodes) rows.new.items) }
+{
+    let at = rows.len().saturating_sub(size);
+    Ok(Part {
+        graph,
+        alloc,
+        lengths: Arc::try_clone(lengths)?,
+        rows: rows.split_off(at)?,
+    })
+}
+
+/// So many parts of so many rows each, from the last row on; the other rows are left. `Err` is for want of memory.
+pub(crate) fn parts_of<'a, G>(
+    alloc: Global,
+    graph: &'a Graph,
+    lengths: &Arc<Vec<u64>, Global>,
+    rows: &mut Vec<Row>,
+    count: usize,
+    size: usize,
+) -> Result<Vec<Option<Share<'a, G>>>, AllocError>
+    requires lengths { AreLengths graph.now.cells (arc_value lengths.now).items }
+    requires rows { All (IsRoom graph.now.nodes) rows.old.items }
+    ensures parts { IfOk result (λ parts. All (IsShareOf graph.now (arc_value lengths.now).items) parts.items) }
+    ensures rows { IfOk result (λ parts. rows.new.items ++ rows_in parts.items ≡ rows.old.items) }
+    ensures room { OnOk result (All (IsRoom graph.now.nodes) rows.new.items) }
+{
+    let mut parts = Vec::with_capacity(alloc, count)?;
+    for _ in 0..count {
+        let part = last_part(alloc, graph, lengths, rows, size)?;
+        parts.push(Some(Share::Part(part)))?;
+    }
+    Ok(parts)
+}
+
+/// Appends the rows of a part. `Err` is for want of memory.
+fn append_part<G>(rows: &mut Vec<Row>, part: Option<Share<'_, G>>) -> Result<(), AllocError>
+    ensures { OnOk result (rows.new.items ≡ rows.old.items ++ rows_at part.entry) }
+{
+    match part {
+        Some(Share::Part(part)) => {
+            let mut more = part.rows;
+            rows.append(&mut more)
+        }
+        Some(Share::Turn(_)) => Ok(()),
+        None => Ok(()),
+    }
+}
+
+/// Appends the rows of all parts, in the order in which they were. `Err` is for want of memory.
+pub(crate) fn append_parts<G>(
+    rows: &mut Vec<Row>,
+    parts: Vec<Option<Share<'_, G>>>,
+) -> Result<(), AllocError>
+    ensures { OnOk result (rows.new.items ≡ rows.old.items ++ rows_in parts.entry.items) }
+{
+    let mut parts = parts;
+    'parts: while let Some(part) = parts.pop() {
+        append_part(rows, part)?;
+    }
+    Ok(())
+}
