@@ -39,6 +39,9 @@ const PATHS_OF_A_THREAD: usize = 4_096;
 /// for them in each phase, which can take longer than their start.
 const WORK_OF_SEVERAL: usize = 1_000_000;
 
+/// Noting the row of a path takes about as long as a search takes for so many cells.
+const CELLS_OF_A_NOTE: usize = 6;
+
 /// The bound of the lengths of these loads, in at most so many threads.
 fn bound_of<R: Threads + Sync>(
     rt: &R,
@@ -139,6 +142,16 @@ pub(crate) fn note_and_bound<R: Threads + Sync>(
     bounded
 }
 
+/// How many rows each of so many parts has, so that its thread takes about as long as the caller's, which notes the rows of all paths
+/// before it fills the rows that are left.
+fn part_size(net: &Net, rows: usize, parts: usize) -> usize {
+    let noted = net.commodities().len().saturating_mul(CELLS_OF_A_NOTE);
+    let searched = rows.saturating_mul(net.cells().len());
+    let each = noted.saturating_add(searched) / parts.saturating_add(1);
+    let own = each.saturating_sub(noted) / net.cells().len().max(1);
+    rows.saturating_sub(own).div_ceil(parts.max(1))
+}
+
 /// Works on the shares in threads of the crew; meanwhile, it calls `lead` and then fills the rows here. `false` where the crew gave up.
 fn work_and_fill<'a, G: Gate, T, F: FnMut() -> T>(
     task: &Task<'a, G>,
@@ -194,7 +207,7 @@ fn fill_beside<'a, G: Gate, T, F: FnMut() -> T>(
     let alloc = task.alloc;
     let graph = task.on.graph;
     let parts = parts as usize;
-    let size = rows.len() / (parts + 1);
+    let size = part_size(task.on.net, rows.len(), parts);
     let mut shares = match parts_of(alloc, graph, lengths, rows, parts, size) {
         Ok(shares) => shares,
         Err(error) => return (lead(), Err(error)),
