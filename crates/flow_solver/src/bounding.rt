@@ -317,7 +317,8 @@ fn note_and_bound_with<'a, G: Gate>(
     bounded
 }
 
-/// One phase more, and the bound of the loads after it, under the same setting. `Err` is for want of memory, and then the search can't go on.
+/// One phase more, and the bound of the loads after it, under the same setting. `Err` is for want of memory, and then the search can't go
+/// on.
 fn phase_alone<G: Gate, R: Threads + Sync>(
     run: &Run<'_, G, R>,
     task: &Task<'_, G>,

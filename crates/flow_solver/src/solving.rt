@@ -57,8 +57,10 @@ fn all_phases<G: Gate, R: Threads + Sync>(run: &Run<'_, G, R>) -> Result<Ended, 
     requires options { AreOptions run.now.on.now.net.now run.now.options.now }
     ensures reached { IfOk result (λ e. IsReached run.now.on.now.net.now run.now.options.now e.reached) }
     ensures budget { IfOk result (λ e. phase_count e.reached.search ≤ run.now.options.now.phases) }
-    ensures closed { IfOk result (λ e. IsTrue e.closed ↔ IsMet run.now.on.now.net.now run.now.options.now e.reached) }
-    ensures spent { IfOk result (λ e. e.closed ≡ false → phase_count e.reached.search ≡ run.now.options.now.phases) }
+    ensures closed { IfOk result (λ e.
+        IsTrue e.closed ↔ IsMet run.now.on.now.net.now run.now.options.now e.reached) }
+    ensures spent { IfOk result (λ e.
+        e.closed ≡ false → phase_count e.reached.search ≡ run.now.options.now.phases) }
 {
     let mut reached = first(run)?;
     'phases: loop {
