@@ -1,6 +1,6 @@
 //! What one thread claims: one number after the other, until all are claimed.
 
-ghost use Rattle.std.specs.Prelude.{◌≡◌, ℕ, ◌<◌, length, slice_index_or};
+ghost use Rattle.std.specs.Prelude.{ℕ, ◌<◌, length, slice_index_or};
 ghost use Rattle.claimed_calls.specs.Answers.{AreClaimed, IsKept};
 
 use std::alloc::{AllocError, Global};

@@ -1,10 +1,8 @@
 -- A dual grows by one row at a time.
 use Rattle.std.proofs.Common.{◌≡◌, ℕ, zero, suc, ◌+◌, ◌<◌, List, [], ◌∷◌, ◌++◌, length, get_or, take, refl, sym, ap, ◌∙◌, arith, add-one}
-use Rattle.std.proofs.lemmas.List.{take_more}
 use Rattle.flow_paths.specs.DualRows.{Length, Potential, DualRows}
-use Rattle.dual_bound.specs.declared.rows.Row.{Row}
 use Rattle.dual_bound.specs.Bounds.{length_rows}
-use Rattle.dual_bound.specs.Rows.{dual_of, potential_of, potentials_of}
+use Rattle.dual_bound.specs.Rows.{dual_of}
 
 length_rows-more : (a i : ℕ) (xs : List ℕ) → i < length xs → length_rows a (take (suc i) xs) ≡ length_rows a (take i xs) ++ record { cell = a + i; value = get_or xs i 0 } ∷ []
 length_rows-more a i [] l = absurd (omega arith)
@@ -26,10 +24,3 @@ lengths-more xs i x dual new l is e n =
     let more : length_rows 0 (take (i + 1) xs) ≡ length_rows 0 (take i xs) ++ record { cell = i; value = x } ∷ []
     = rw add-one (length_rows-more 0 i xs l ∙ ap (λ (c : ℕ). length_rows 0 (take i xs) ++ record { cell = c; value = get_or xs i 0 } ∷ []) zeroth ∙ ap (λ (y : ℕ). length_rows 0 (take i xs) ++ record { cell = i; value = y } ∷ []) (sym is)) in
     n ∙ (ap (λ (d : DualRows). mk (d.lengths ++ record { cell = i; value = x } ∷ []) d.potentials) e ∙ ap (λ (rows : List Length). mk rows []) (sym more))
-
-map-more : (rows : List Row) (i : ℕ) (d : Row) → i < length rows → potentials_of (take (i + 1) rows) ≡ potentials_of (take i rows) ++ potential_of (get_or rows i d) ∷ []
-map-more rows i d l = ap potentials_of (take_more rows i d l) ∙ map-push (take i rows) (get_or rows i d)
-  where
-    map-push : (xs : List Row) (y : Row) → potentials_of (xs ++ y ∷ []) ≡ potentials_of xs ++ potential_of y ∷ []
-    map-push [] y = refl
-    map-push (x ∷ xs) y = ap (λ (ps : List Potential). potential_of x ∷ ps) (map-push xs y)

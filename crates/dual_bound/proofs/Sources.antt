@@ -1,11 +1,9 @@
 -- The sources of commodities, in the order of nodes.
-use Rattle.std.proofs.Common.{◌≡◌, ℕ, zero, suc, ◌+◌, ◌<◌, List, [], ◌∷◌, ◌++◌, Bool, true, false, cond, eqb, length, get_or, take, refl, sym, ap, ◌∙◌, arith, add-one}
+use Rattle.std.proofs.Common.{◌≡◌, ℕ, zero, suc, ◌+◌, List, [], ◌∷◌, ◌++◌, Bool, true, false, cond, refl, sym, ap, ◌∙◌, arith, add-one}
 use Rattle.std.specs.Prelude.{◌||◌}
 use Rattle.std.specs.List.{filter, list_any, range_with_len}
-use Rattle.std.proofs.lemmas.List.{take_more}
 use Rattle.std.proofs.lemmas.List.Elements.{filter-append}
 use Rattle.flow_model.specs.declared.net.Commodity.{Commodity}
-use Rattle.flow_model.specs.Groups.{is_source}
 
 any-append : (p : Commodity → Bool) (xs ys : List Commodity) → list_any p (xs ++ ys) ≡ (list_any p xs || list_any p ys)
 any-append p [] ys = refl
@@ -14,17 +12,6 @@ any-append p (x ∷ xs) ys = step (p x) (list_any p xs) (list_any p (xs ++ ys)) 
     step : (a b c d : Bool) → c ≡ (b || d) → (a || c) ≡ ((a || b) || d)
     step true b c d e = refl
     step false b c d e = e
-
-or-true : (a : Bool) → (a || (true || false)) ≡ true
-or-true true = refl
-or-true false = refl
-
-or-false : (a : Bool) → (a || (false || false)) ≡ a
-or-false true = refl
-or-false false = refl
-
-source-more : (xs : List Commodity) (i v : ℕ) (d : Commodity) → i < length xs → is_source (take (i + 1) xs) v ≡ (is_source (take i xs) v || (eqb (get_or xs i d).from v || false))
-source-more xs i v d l = ap (λ (ys : List Commodity). is_source ys v) (take_more xs i d l) ∙ any-append (λ k. eqb k.from v) (take i xs) (get_or xs i d ∷ [])
 
 range-more : (a n : ℕ) → range_with_len a (suc n) ≡ range_with_len a n ++ (a + n) ∷ []
 range-more a zero = let e : a + 0 ≡ a = omega arith in rw e refl

@@ -60,8 +60,8 @@ fn refill<R: Threads + Sync>(
     fill_all(rt, alloc, graph, lengths, rows, threads);
 }
 
-/// As `bound_in`, where rows are filled in the caller's thread, those of some of the sources at a time: fills them anew with distances,
-/// each search from the tree of the one before. A row for which no memory was left is not filled.
+/// Fills rows anew with distances, in the caller's thread; they may be those of some sources alone. Each search begins at the tree of the
+/// one before. A row for which no memory was left is not filled.
 pub fn refill_rows(alloc: Global, graph: &Graph, lengths: &[u64], rows: &mut [Row])
     requires lengths { AreLengths graph.now.cells lengths.now }
     requires rows { All (IsRoom graph.now.nodes) rows.old }

@@ -1,9 +1,7 @@
 //! The dual that lengths and rows make.
 
-ghost use Rattle.std.specs.Prelude.{◌≡◌, ℕ, ◌≤◌, ◌↔◌, All, IsTrue, IfOk, length, slice_index_or, []};
-ghost use Rattle.flow_paths.specs.DualRows.{DualRows};
-ghost use Rattle.dual_bound.specs.Bounds.{length_rows};
-ghost use Rattle.dual_bound.specs.Rows.{dual_of, potentials_of};
+ghost use Rattle.std.specs.Prelude.{◌≡◌, ◌≤◌, ◌↔◌, All, IsTrue, IfOk, length, []};
+ghost use Rattle.dual_bound.specs.Rows.{dual_of};
 
 use crate::rows::Row;
 use flow_paths::Dual;

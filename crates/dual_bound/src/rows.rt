@@ -1,14 +1,12 @@
 //! A row for each source of a commodity, in the order of nodes.
 
-ghost use Rattle.std.specs.Prelude.{◌≡◌, ℕ, max, ◌<◌, ◌≤◌, ◌++◌, ◌∷◌, [], All, IsTrue, IfOk, OnOk, length, slice_index, slice_index_or, false, if◌then◌else◌};
-ghost use Rattle.std.specs.List.{sum_by};
+ghost use Rattle.std.specs.Prelude.{◌≡◌, ℕ, max, ◌<◌, ◌≤◌, ◌++◌, ◌∷◌, [], All, IfOk, OnOk, length, slice_index, slice_index_or, false, if◌then◌else◌};
 ghost use Rattle.flow_model.specs.Groups.{group_sources, is_source};
-ghost use Rattle.flow_model.specs.Network.{IsNetwork};
 ghost use Rattle.flow_model.specs.Lengths.{AreLengths};
 ghost use Rattle.dijkstra_paths.specs.Searched.{dist_at};
-ghost use Rattle.flow_model.specs.Least.{far_or, IsLeast};
+ghost use Rattle.flow_model.specs.Least.{far_or};
 ghost use Rattle.dual_bound.specs.Rows.{Fills, IsBlank, IsFilledWith, IsMadeBlank, mark_at, sources_of};
-ghost use Rattle.dual_bound.specs.Bounds.{IsCutPotential, IsDistance};
+ghost use Rattle.dual_bound.specs.Bounds.{IsCutPotential};
 
 use dijkstra_paths::{Graph, Scratch, Tree};
 use flow_model::{Commodity, Net};

@@ -38,9 +38,6 @@ keeps_pushed rows row = record {
   walk = λ m h. ap (λ (r : Row). r.walk) (get_or_append_left rows (row ∷ []) no_row m h);
 }
 
-pub keeps_same : (rows : List Row) → KeepsRows rows rows
-keeps_same rows = record { more = omega arith; commodity = λ n h. refl; walk = λ n h. refl }
-
 pub keeps_both : (xs ys zs : List Row) → KeepsRows xs ys → KeepsRows ys zs → KeepsRows xs zs
 keeps_both xs ys zs p q = record {
   more = omega (arith, p.more, q.more);

@@ -1,9 +1,8 @@
 -- A phase that is added: its begin, its entries' paths, and its end.
-use Rattle.std.proofs.Common.{◌≡◌, ℕ, ◌+◌, ◌*◌, ◌<◌, ◌≤◌, List, [], ◌∷◌, ◌++◌, length, get_or, map, refl, sym, ap, ◌∙◌, subst, arith, length-append, Some}
+use Rattle.std.proofs.Common.{◌≡◌, ℕ, ◌+◌, ◌<◌, ◌≤◌, List, [], ◌∷◌, ◌++◌, length, get_or, map, refl, sym, ap, ◌∙◌, subst, arith, length-append, Some}
 use Rattle.std.specs.Prelude.{All, slice_get}
 use Rattle.std.proofs.lemmas.List.{same_lists, length-map, get_or-map, map-append}
 use Rattle.std.proofs.lemmas.List.Elements.{All-push, All-head, All-tail, All-weaker}
-use Rattle.std.proofs.lemmas.List.Sums.{sum_by_push}
 use Rattle.std.proofs.lemmas.Option.{slice_get-get_or, get_or_from_slice_get}
 use Rattle.mcf_limits.specs.declared.TheConstants.{MAX_LENGTH, MAX_PHASES, MAX_UNITS}
 use Rattle.flow_model.specs.declared.net.Commodity.{Commodity}
@@ -14,26 +13,15 @@ use Rattle.flow_core.specs.Phase.{Routed}
 use Rattle.phase_engine.specs.declared.hand.Hand.{Hand}
 use Rattle.phase_engine.specs.Routing.{HasRouted}
 use Rattle.solver_run.specs.declared.options.Entry.{Entry}
-use Rattle.solver_run.specs.History.{times_named, path_named, routed_in, NamesRows}
+use Rattle.solver_run.specs.History.{path_named, routed_in, NamesRows}
 use Rattle.flow_solver.specs.declared.places.Place.{Place}
 use Rattle.flow_solver.specs.Phases.{NamesBelow}
 use Rattle.flow_solver.specs.Rows.{AreRowsFor}
 use Rattle.flow_solver.specs.Routes.{IsRoutedOnce}
 use Rattle.flow_solver.specs.Adding.{no_place, path_at, KeepsRows, AreBegun, IsNamedAt, AreNamed}
 use Rattle.flow_solver.proofs.Adds.{pushed_at, added, keeps_both}
-use Rattle.flow_solver.proofs.Times.{names_of, can_grow}
+use Rattle.flow_solver.proofs.Times.{can_grow}
 use Rattle.flow_solver.proofs.OneMore.{one_more}
-
-pub begins : (net : Network) (h : List (List Entry)) (rows : List Row) → AreRowsFor net h rows → AreBegun net h [] rows
-begins net h rows r = record {
-  apart = r.apart;
-  before = r.entries;
-  begun = λ k e is. cc;
-  weighed = λ n row is. let w = r.weighed n row is in
-      let t : times_named (h ++ [] ∷ []) n ≡ times_named h n = sum_by_push (names_of n) h [] ∙ omega arith in
-      record { named = rw t w.named; weight = λ k at. w.weight k at ∙ ap (λ x. k.amount * x) (sym t) };
-  few = let f = r.few in omega (arith, f);
-}
 
 pub ends : (net : Network) (h : List (List Entry)) (es : List Entry) (rows : List Row) → AreBegun net h es rows → length es ≡ length net.commodities → AreRowsFor net (h ++ es ∷ []) rows
 ends net h es rows b count = record {
@@ -42,9 +30,6 @@ ends net h es rows b count = record {
   weighed = b.weighed;
   few = let f = b.few in let l : length (h ++ es ∷ []) ≡ length h + 1 = length-append h (es ∷ []) in rw l (omega (arith, f, count));
 }
-
-pub named_none : (places : List Place) (rows : List Row) → AreNamed places rows []
-named_none places rows = record { each = λ k e is. cc }
 
 pub named_more : (net : Network) (h : List (List Entry)) (places : List Place) (es : List Entry) (old new : List Row) (e : Entry) → AreBegun net h es old → KeepsRows old new → AreNamed places old es
     → IsNamedAt places new (length es) e → AreNamed places new (es ++ e ∷ [])
@@ -86,10 +71,6 @@ same_phases old new (es ∷ h) keeps below =
     let rest = same_phases old new h keeps (All-tail (NamesBelow (length old)) es h below) in
     let f : List Routed → List (List Routed) → List (List Routed) = λ p rs. p ∷ rs in
     ap (λ p. f p (map (routed_in new) h)) first ∙ ap (f (routed_in old es)) rest
-
--- rows that are kept are still there
-pub still_below : (old new : List Row) (h : List (List Entry)) → KeepsRows old new → All (NamesBelow (length old)) h → All (NamesBelow (length new)) h
-still_below old new h keeps below = All-weaker (NamesBelow (length old)) (NamesBelow (length new)) (λ es b. All-weaker (λ (x : Entry). x.row < length old) (λ (x : Entry). x.row < length new) (λ x l. let m = keeps.more in omega (arith, l, m)) es b) h below
 
 pub can_add : (net : Network) (h : List (List Entry)) (es : List Entry) (rows : List Row) (c : Commodity) (path : List ℕ) (k : ℕ) → length es ≡ k → AreBegun net h es rows
     → slice_get net.commodities k ≡ Some c → c.amount ≤ MAX_UNITS → length h < MAX_PHASES → (n : ℕ) → IsFirstRow rows k path n → (row_at rows n).weight + c.amount ≤ MAX_LENGTH

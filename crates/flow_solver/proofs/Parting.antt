@@ -2,13 +2,13 @@
 use Rattle.std.proofs.Common.{◌≡◌, ℕ, zero, suc, ◌<◌, List, [], ◌∷◌, ◌++◌, All, length, get_or, Option, None, Some, refl, sym, ap, ◌∙◌, subst, append_assoc, append-nil, arith}
 use Rattle.std.proofs.lemmas.List.{map-append}
 use Rattle.std.proofs.lemmas.List.Elements.{All-append, All-nil}
-use Rattle.claimed_calls.specs.Jobs.{IsWorked, Waits}
+use Rattle.claimed_calls.specs.Jobs.{IsWorked}
 use Rattle.flow_model.specs.Network.{Network}
 use Rattle.dual_bound.specs.declared.rows.Row.{Row}
 use Rattle.dual_bound.specs.Rows.{HasDistances, sources_of}
 use Rattle.flow_solver.specs.declared.share.Share.{Share}
 use Rattle.flow_solver.specs.declared.share.Share.TheVariants.{Turn, Part}
-use Rattle.flow_solver.specs.Shares.{CanBeDone, IsDoneOf, IsShareOf, rows_at, rows_in}
+use Rattle.flow_solver.specs.Shares.{IsDoneOf, IsShareOf, rows_at, rows_in}
 
 pub all-one : {X : Type 0} (P : X → Type 0) (x : X) → P x → All P (x ∷ [])
 all-one P x p zero d l = p
@@ -47,17 +47,6 @@ module _ {G : Type 0} where
         sources-append (rows_in new) (rows_at y) ∙ (subst Q (λ i. (sym rest.0 i, sym one.0 i)) refl ∙ sym (sources-append (rows_in old) (rows_at x))),
         All-append (HasDistances net lengths) (rows_in new) (rows_at y) rest.1 one.1,
       )
-
-  waits-part : (net : Network) (lengths : List ℕ) (p : Option (Share G)) → IsShareOf net lengths p → Waits CanBeDone p
-  waits-part net lengths None of = absurd of
-  waits-part net lengths (Some (Turn t)) of = absurd of
-  waits-part net lengths (Some (Part p)) of = of.0
-
-  -- parts can be filled
-  pub waits-parts : (net : Network) (lengths : List ℕ) (parts now : List (Option (Share G))) → All (IsShareOf net lengths) parts → now ≡ parts → (k : ℕ) (d : Option (Share G)) → k < length now → Waits CanBeDone (get_or now k d)
-  waits-parts net lengths parts now of is k d l =
-      let size = ap (λ (ps : List (Option (Share G))). length ps) is in
-      subst (λ (ps : List (Option (Share G))). Waits CanBeDone (get_or ps k d)) (sym is) (waits-part net lengths (get_or parts k d) (of k d (omega arith)))
 
   -- the rows that were filled in parts and those that were filled beside them, all together
   pub filled-together : (net : Network) (lengths : List ℕ) (rows own filled : List Row) (old was new : List (Option (Share G))) → own ++ rows_in old ≡ rows → was ≡ old → length new ≡ length was → All (IsShareOf net lengths) old

@@ -90,9 +90,6 @@ routes_inside net hands w hand (entries, once) found =
 pub record ArePlaced (hands : List Hand) (places : List Place) (n : ℕ) : Type 0 where
   pub each : (w : ℕ) (hand : Hand) → w < n → slice_get hands w ≡ Some hand → All (λ (r : Route). IsPlaceOf hands r.commodity (get_or places r.commodity no_place)) hand.routes
 
-pub placed_none : (hands : List Hand) (places : List Place) → ArePlaced hands places 0
-placed_none hands places = record { each = λ w hand l found. absurd (omega arith) }
-
 -- the routes of one hand more
 pub placed_more : (net : Network) (hands : List Hand) (n : ℕ) (hand : Hand) (old new : List Place) → HaveRouted net hands → slice_get hands n ≡ Some hand → length old ≡ length net.commodities
     → AreKept n hand old new → All (IsNoted n hand new) hand.routes → ArePlaced hands old n → ArePlaced hands new (n + 1)

@@ -6,7 +6,7 @@ use Rattle.flow_model.specs.Routing.{Row}
 use Rattle.flow_paths.specs.PathRows.{row_at, HasNoRow, IsFirstRow, Adds}
 use Rattle.flow_solver.specs.declared.places.Place.{Place}
 use Rattle.flow_solver.specs.declared.noted.Sought.{Sought}
-use Rattle.flow_solver.specs.Rows.{AreApart, IsRowOf}
+use Rattle.flow_solver.specs.Rows.{AreApart}
 use Rattle.flow_solver.specs.Adding.{path_at, IsRowFor, KeepsRows}
 use Rattle.flow_solver.proofs.Adds.{added}
 
@@ -23,14 +23,6 @@ still_first old new k path n keeps apart first =
       here = (commodity, walk);
       none_before = λ j below has. apart j n below within (commodity ∙ sym has.0, walk ∙ sym has.1);
     }
-
--- where no two rows are alike, each is the first of its commodity and path
-pub first_of_apart : (rows : List Row) (k : ℕ) (path : List ℕ) (n : ℕ) → AreApart rows → IsRowOf rows k path n → IsFirstRow rows k path n
-first_of_apart rows k path n apart row = record {
-  within = row.0;
-  here = row.1;
-  none_before = λ j below has. apart j n below row.0 (row.1.0 ∙ sym has.0, row.1.1 ∙ sym has.1);
-}
 
 -- rows that were appended are of commodities below k
 abbrev pub AreNewBelow : List Row → List Row → ℕ → Type 0

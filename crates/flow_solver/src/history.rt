@@ -41,7 +41,7 @@ impl Model for PathHistory {
 }
 
 impl PathHistory {
-    ghost use Rattle.std.specs.Prelude.{◌≡◌, ℕ, ◌+◌, ◌*◌, ◌<◌, ◌≤◌, ◌++◌, ◌∷◌, [], List, OnOk, OnErr, IfOk, MatchOption, length, map, slice_index_or};
+    ghost use Rattle.std.specs.Prelude.{◌≡◌, ℕ, ◌+◌, ◌*◌, ◌<◌, ◌≤◌, [], OnOk, OnErr, IfOk, MatchOption, length, map, slice_index_or};
     ghost use Rattle.flow_model.specs.Network.{Network};
     ghost use Rattle.flow_paths.specs.PathRows.{row_at, HasNoRow, IsFirstRow, Adds};
     ghost use Rattle.solver_run.specs.History.{routed_in, AreRowsOf};

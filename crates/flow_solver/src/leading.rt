@@ -1,6 +1,6 @@
 //! Several phases with threads that stay beside the caller's.
 
-ghost use Rattle.std.specs.Prelude.{◌≡◌, ℕ, ◌<◌, ◌≤◌, IsTrue, IfOk, IsSome, IfSome};
+ghost use Rattle.std.specs.Prelude.{◌<◌, ◌≤◌, IsTrue, IfOk, IsSome, IfSome};
 ghost use denote.Param.Send.{IsSync};
 ghost use Rattle.claimed_calls.specs.Posts.{AreAt};
 ghost use Rattle.solver_run.specs.Options.{AreOptions};

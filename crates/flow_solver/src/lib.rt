@@ -4,6 +4,7 @@
 
 mod bounding;
 mod entries;
+mod filling;
 mod found;
 mod hands;
 mod history;

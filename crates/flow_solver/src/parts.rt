@@ -66,7 +66,8 @@ fn last_part<'a>(
     })
 }
 
-/// So many parts of so many rows each, from the last row on; the other rows are left. `Err` is for want of memory.
+/// So many parts of so many rows each, from the last row on; the first rows are left. Where there are too few, the last parts have fewer or
+/// none. `Err` is for want of memory.
 pub(crate) fn parts_of<'a, G>(
     alloc: Global,
     graph: &'a Graph,

@@ -41,8 +41,8 @@ pub(crate) struct Task<'a, G> {
 }
 
 impl<'a, G, R> Run<'a, G, R> {
-    /// In how many threads beside the caller's rows of a bound are filled at most.
+    /// In how many threads beside the caller's rows of a bound are filled at most, of those that a crew for all workers has.
     pub(crate) fn others(&self) -> u16 {
-        self.threads.saturating_sub(1)
+        self.threads.min(self.options.workers).saturating_sub(1)
     }
 }

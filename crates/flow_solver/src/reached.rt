@@ -1,11 +1,9 @@
 //! What a solve has reached after some phases.
 
 ghost use Rattle.std.specs.Prelude.{◌≡◌, ℕ, ◌+◌, ◌*◌, ◌<◌, ◌≤◌, ◌↔◌, All, IsTrue, IfOk, length, slice_index};
-ghost use Rattle.flow_model.specs.Lengths.{IsSetting};
 ghost use Rattle.flow_model.specs.Least.{HasNoCut};
 ghost use Rattle.flow_paths.specs.Evaluation.{fill};
 ghost use Rattle.flow_paths.specs.Fullness.{IsFill, fullness};
-ghost use Rattle.solver_run.specs.History.{first_setting};
 ghost use Rattle.solver_run.specs.Options.{AreOptions};
 ghost use Rattle.flow_solver.specs.Leading.{CanGoOn};
 ghost use Rattle.flow_solver.specs.Reached.{IsMet, IsReached};
@@ -22,9 +20,9 @@ use flow_model::Net;
 use flow_paths::{Fill, fullest};
 use gap_fraction::Frac;
 use mcf_base::Gate;
-use mcf_limits::{MAX_GAP, MAX_LENGTH, MAX_PHASES};
+use mcf_limits::{MAX_LENGTH, MAX_PHASES};
 use solver_run::{SolveOptions, setting_after_first, setting_at_first};
-use std::alloc::{AllocError, Global};
+use std::alloc::AllocError;
 use std::thread::Threads;
 
 /// After one phase or more: the search, the fullest cell of the first phase and that of all, and the least bound.

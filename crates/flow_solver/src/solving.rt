@@ -1,7 +1,7 @@
 //! From a network to a proof: a cut's, or that of all phases.
 
-ghost use Rattle.std.specs.Prelude.{◌≡◌, ℕ, ◌<◌, ◌≤◌, ◌↔◌, true, false, IsTrue, IfOk, length};
-ghost use Rattle.flow_model.specs.Least.{HasCut, HasNoCut};
+ghost use Rattle.std.specs.Prelude.{◌≡◌, ℕ, ◌<◌, ◌≤◌, ◌↔◌, true, false, IsTrue, IfOk};
+ghost use Rattle.flow_model.specs.Least.{HasNoCut};
 ghost use Rattle.dijkstra_paths.specs.Reach.{IsFirstCut};
 ghost use Rattle.flow_paths.specs.Certificate.{FractionsArePrinted};
 ghost use Rattle.solver_run.specs.Headline.{IsSolved};

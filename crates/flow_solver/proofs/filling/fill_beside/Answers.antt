@@ -7,7 +7,7 @@ use Rattle.dual_bound.specs.declared.rows.Row.{Row}
 use Rattle.dual_bound.specs.Rows.{sources_of}
 use Rattle.flow_solver.specs.Shares.{rows_in}
 use Rattle.flow_solver.proofs.Parting.{filled-together}
-use Rattle.flow_solver.proofs.bounding.fill_beside.Goals as goal
+use Rattle.flow_solver.proofs.filling.fill_beside.Goals as goal
 
 on_ok : {T E P Q : Type 0} (r : Result T E) → (P → Q) → OnOk r P → OnOk r Q
 on_ok (Ok x) f p = f p

@@ -1,0 +1,172 @@
+//! The rows of a bound are filled by a crew, beside the caller's thread.
+
+ghost use Rattle.std.specs.Prelude.{◌≡◌, ℕ, ◌<◌, All, IsTrue, IfOk, OnOk, length, slice_index_or};
+ghost use Rattle.std.specs.Arc.{arc_value};
+ghost use Rattle.claimed_calls.specs.Jobs.{IsWorked, Waits};
+ghost use Rattle.flow_model.specs.Lengths.{AreLengths};
+ghost use Rattle.flow_model.specs.Groups.{group_sources};
+ghost use Rattle.flow_paths.specs.Certificate.{upper_of};
+ghost use Rattle.fixed_exp.specs.Far.{EmptyAreFar};
+ghost use Rattle.dual_bound.specs.Bounds.{IsBoundOf, ShowsBound};
+ghost use Rattle.dual_bound.specs.Rows.{HasDistances, IsRoom, sources_of};
+ghost use Rattle.flow_solver.specs.Shares.{CanBeDone, IsDoneOf};
+ghost use Rattle.flow_solver.specs.Search.{CanBeBounded, IsBoundRoom, IsBoundUnder};
+
+use crate::parts::{append_parts, parts_of};
+use crate::prepared::{Prepared, Task};
+use crate::search::BoundRoom;
+use crate::share::Share;
+use claimed_calls::Crew;
+use dual_bound::{Bounded, Row, bound_of_rows, refill_rows};
+use flow_model::Net;
+use mcf_base::Gate;
+use std::alloc::{AllocError, Global};
+use std::mem;
+use std::sync::Arc;
+
+/// From so many sources times cells on, searches for the rows of a bound take longer than handing them over.
+const WORK_OF_PARTS: usize = 2_000;
+
+/// Noting the row of a path takes about as long as a search takes for so many cells.
+const CELLS_OF_A_NOTE: usize = 6;
+
+/// In how many threads beside the caller's rows of a bound are filled, of at most so many: in none, where handing rows over takes longer
+/// than their searches.
+pub(crate) fn parts_for(on: &Prepared<'_>, most: u16) -> u16 {
+    let work = on.groups.count() as usize * on.net.cells().len();
+    if work < WORK_OF_PARTS { 0 } else { most }
+}
+
+/// How many rows each of so many parts has, so that its thread takes about as long as the caller's, which notes the rows of all paths
+/// before it fills the rows that are left.
+fn part_size(net: &Net, rows: usize, parts: usize) -> usize {
+    let noted = net.commodities().len().saturating_mul(CELLS_OF_A_NOTE);
+    let searched = rows.saturating_mul(net.cells().len());
+    let each = noted.saturating_add(searched) / parts.saturating_add(1);
+    let own = each.saturating_sub(noted) / net.cells().len().max(1);
+    rows.saturating_sub(own).div_ceil(parts.max(1))
+}
+
+/// Works on the shares in threads of the crew; meanwhile, it calls `lead` and then fills the rows here. `false` where the crew gave up.
+fn work_and_fill<'a, G: Gate, T, F: FnMut() -> T>(
+    task: &Task<'a, G>,
+    lengths: &[u64],
+    rows: &mut [Row],
+    crew: &mut Crew<'_, Share<'a, G>>,
+    shares: &mut [Option<Share<'a, G>>],
+    lead: &mut F,
+) -> (bool, T)
+    requires lengths { AreLengths task.now.on.now.graph.now.cells lengths.now }
+    requires rows { All (IsRoom task.now.on.now.graph.now.nodes) rows.old }
+    requires shares { (k : ℕ) (d : _) → k < length shares.old → Waits CanBeDone (slice_index_or shares.old k d) }
+    requires lead { F.pre lead.old }
+    ensures done { IsTrue result.0 → (k : ℕ) (d : _) → k < length shares.old
+        → IsWorked IsDoneOf (slice_index_or shares.old k d) (slice_index_or shares.new k d) }
+    ensures lead { F.step lead.old result.1 lead.new }
+    ensures sources { sources_of rows.new ≡ sources_of rows.old }
+    ensures distances { All (HasDistances task.now.on.now.graph.now lengths.now) rows.new }
+{
+    let alloc = task.alloc;
+    let graph = task.on.graph;
+    let mut both = || -> T
+        requires { F.pre lead.now × AreLengths graph.now.cells lengths.now × All (IsRoom graph.now.nodes) rows.now }
+        ensures { F.step lead.entry.now result lead.exit.now
+            × (sources_of rows.exit.now ≡ sources_of rows.entry.now)
+            × All (HasDistances graph.entry.now lengths.entry.now) rows.exit.now }
+    {
+        let made = lead();
+        refill_rows(alloc, graph, lengths, rows);
+        made
+    };
+    crew.work_beside(shares, &mut both)
+}
+
+/// Fills the rows anew with distances, each search from the tree of the one before: so many parts of them in threads of the crew, and the
+/// others here, after a call of `lead`. `Err` is for want of memory, or where the crew gave up; and then rows are lost.
+fn fill_beside<'a, G: Gate, T, F: FnMut() -> T>(
+    task: &Task<'a, G>,
+    lengths: &Arc<Vec<u64>, Global>,
+    rows: &mut Vec<Row>,
+    crew: &mut Crew<'_, Share<'a, G>>,
+    parts: u16,
+    lead: &mut F,
+) -> (T, Result<(), AllocError>)
+    requires lengths { AreLengths task.now.on.now.graph.now.cells (arc_value lengths.now).items }
+    requires rows { All (IsRoom task.now.on.now.graph.now.nodes) rows.old.items }
+    requires lead { F.pre lead.old }
+    ensures lead { F.step lead.old result.0 lead.new }
+    ensures sources { OnOk result.1 (sources_of rows.new.items ≡ sources_of rows.old.items) }
+    ensures distances { OnOk result.1
+        (All (HasDistances task.now.on.now.graph.now (arc_value lengths.now).items) rows.new.items) }
+{
+    let alloc = task.alloc;
+    let graph = task.on.graph;
+    let parts = parts as usize;
+    let size = part_size(task.on.net, rows.len(), parts);
+    let mut shares = match parts_of(alloc, graph, lengths, rows, parts, size) {
+        Ok(shares) => shares,
+        Err(error) => return (lead(), Err(error)),
+    };
+    let (whole, made) = work_and_fill(task, lengths, rows, crew, &mut shares, lead);
+    if !whole {
+        return (made, Err(AllocError));
+    }
+    (made, append_parts(rows, shares))
+}
+
+/// The bound of rows that were filled under these lengths, which go back to their room. `Err` is for want of memory, or where a part shares
+/// the lengths still, which no run does.
+fn bound_after(
+    alloc: Global,
+    net: &Net,
+    lengths: Arc<Vec<u64>, Global>,
+    room: &mut BoundRoom,
+) -> Result<Bounded, AllocError>
+    requires lengths { AreLengths net.now.cells (arc_value lengths).items }
+    requires empty { EmptyAreFar net.now.cells (arc_value lengths).items }
+    requires sources { sources_of room.old.rows.items ≡ group_sources net.now }
+    requires distances { All (HasDistances net.now (arc_value lengths).items) room.old.rows.items }
+    ensures room { OnOk result (IsBoundRoom net.now room.new) }
+    ensures dual { IfOk result (λ b. IsBoundOf net.now (arc_value lengths).items b.dual) }
+    ensures shows { IfOk result (λ b. ShowsBound net.now (arc_value lengths).items b.dual) }
+    ensures value { IfOk result (λ b. b.value ≡ upper_of net.now b.dual) }
+{
+    let bounded = bound_of_rows(alloc, net, &lengths, &room.rows)?;
+    match Arc::try_unwrap(lengths) {
+        Ok(lengths) => room.lengths = lengths,
+        Err(_) => return Err(AllocError),
+    }
+    Ok(bounded)
+}
+
+/// As `bound_of`, with so many parts of the rows in threads of the crew. Before the others are filled here, it calls `lead`. `Err` is for
+/// want of memory, or where the crew gave up or a part shares the lengths still, which no run does.
+pub(crate) fn bound_beside<'a, G: Gate, T, F: FnMut() -> T>(
+    task: &Task<'a, G>,
+    loads: &[u64],
+    room: &mut BoundRoom,
+    crew: &mut Crew<'_, Share<'a, G>>,
+    parts: u16,
+    lead: &mut F,
+) -> (T, Result<Bounded, AllocError>)
+    requires can { CanBeBounded task.now.on.now.net.now task.now.setting loads.now room.old }
+    requires lead { F.pre lead.old }
+    ensures lead { F.step lead.old result.0 lead.new }
+    ensures room { OnOk result.1 (IsBoundRoom task.now.on.now.net.now room.new) }
+    ensures bound { IfOk result.1 (IsBoundUnder task.now.on.now.net.now task.now.setting loads.now) }
+{
+    let alloc = task.alloc;
+    let on = task.on;
+    on.powers
+        .lengths(on.net, &task.setting, loads, &mut room.lengths);
+    let lengths = mem::replace(&mut room.lengths, Vec::new(alloc));
+    let lengths = match Arc::new(alloc, lengths) {
+        Ok(lengths) => lengths,
+        Err(error) => return (lead(), Err(error.into())),
+    };
+    let (made, filled) = fill_beside(task, &lengths, &mut room.rows, crew, parts, lead);
+    match filled {
+        Ok(()) => (made, bound_after(alloc, on.net, lengths, room)),
+        Err(error) => (made, Err(error)),
+    }
+}
