@@ -9,7 +9,7 @@ ghost use Rattle.flow_solver.specs.Rows.{AreRowsFor, phases_kept};
 ghost use Rattle.flow_solver.specs.Adding.{CanBeNoted, IsNoted};
 ghost use Rattle.flow_solver.specs.Search.{CanBeBounded, HasRouted, IsBoundRoom, IsBoundUnder, IsSearch, phase_count};
 
-use crate::filling::{bound_beside, parts_for};
+use crate::filling::bound_beside;
 use crate::places::places_of;
 use crate::prepared::{Prepared, Run, Task};
 use crate::search::{BoundRoom, Search, route, route_with};
@@ -218,8 +218,7 @@ fn phase_by_crew<'a, G: Gate, R: Threads + Sync>(
 {
     let _cells = task.on.net.cells();
     route_with(run.rt, task, crew, search)?;
-    let parts = parts_for(task.on, run.others());
-    note_and_bound_with(task, crew, parts, search)
+    note_and_bound_with(task, crew, run.others(), search)
 }
 
 /// One phase more, by a crew where there is one, and the bound of the loads after it, under the same setting. `Err` is for want of memory,

@@ -13,7 +13,7 @@ ghost use Rattle.flow_solver.specs.Shares.{CanBeDone, IsDoneOf};
 ghost use Rattle.flow_solver.specs.Search.{CanBeBounded, IsBoundRoom, IsBoundUnder};
 
 use crate::parts::{append_parts, parts_of};
-use crate::prepared::{Prepared, Task};
+use crate::prepared::Task;
 use crate::search::BoundRoom;
 use crate::share::Share;
 use claimed_calls::Crew;
@@ -24,18 +24,8 @@ use std::alloc::{AllocError, Global};
 use std::mem;
 use std::sync::Arc;
 
-/// From so many sources times cells on, searches for the rows of a bound take longer than handing them over.
-const WORK_OF_PARTS: usize = 2_000;
-
 /// Noting the row of a path takes about as long as a search takes for so many cells.
 const CELLS_OF_A_NOTE: usize = 6;
-
-/// In how many threads beside the caller's rows of a bound are filled, of at most so many: in none, where handing rows over takes longer
-/// than their searches.
-pub(crate) fn parts_for(on: &Prepared<'_>, most: u16) -> u16 {
-    let work = on.groups.count() as usize * on.net.cells().len();
-    if work < WORK_OF_PARTS { 0 } else { most }
-}
 
 /// How many rows each of so many parts has, so that its thread takes about as long as the caller's, which notes the rows of all paths
 /// before it fills the rows that are left.
