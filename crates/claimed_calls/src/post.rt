@@ -22,7 +22,7 @@ const DONE: u64 = 2;
 
 const AWAY: u64 = 3;
 
-/// So many times a thread looks for its next job before it goes. On a processor of its own that is about ten milliseconds.
+/// So many times a thread looks for its next job before it goes. On a processor of its own that is some twenty milliseconds.
 const PATIENCE: u64 = 40_000;
 
 /// So many times it looks for its first one: more than the owner waits until all threads are there.
