@@ -1,5 +1,6 @@
 pub mod Loads
 pub mod Nexts
+pub mod Same
 pub mod Routing
 pub mod Reaching
 pub mod Ending

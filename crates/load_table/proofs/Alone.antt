@@ -11,10 +11,14 @@ use Rattle.mcf_limits.specs.declared.TheConstants.{MAX_LENGTH}
 use Rattle.atomic_table.specs.Seated.{TableId}
 use Rattle.load_table.specs.declared.view.Known.{Known}
 use Rattle.load_table.specs.declared.view.View.{View}
-use Rattle.load_table.specs.Rule.{Kept, Holds, words_of, M, Claimed, HasRead, Added, ClaimedAlone, HasReadAlone, AddedAlone, HasFoundAndPut, HasReadAll, Steps, IsStep, MayClaim, MayRead, MayAdd}
+use Rattle.load_table.specs.Rule.{Kept, Holds, words_of, M, Claimed, HasRead, Added, ClaimedAlone, HasReadAlone, AddedAlone, HasFoundAndPut, HasReadAll, HasAddedAlong, Steps, IsStep, MayClaim, MayRead, MayAdd}
 use Rattle.load_table.specs.Seen.{LoadsView, PassView, IsPassOf, AreWordsOf}
 use Rattle.load_table.specs.Views.{with_work}
 use Rattle.load_table.specs.Reading.{OneWhere, IsFresh, reads_all}
+use Rattle.load_table.specs.Adding.{IsReadyFor, HasAddedAll, adds_along, words_along}
+use Rattle.load_table.proofs.Adding.{adds_none, adds_one, may_add, along-more, fresh-at, words_more, words_count, ready_inside}
+use Rattle.std.specs.Prelude.{All}
+use Rattle.flow_model.specs.Least.{AreDifferent}
 use Rattle.load_table.proofs.Works.{reads_none, reads_one, may_read}
 use Rattle.load_table.proofs.Keeps.{Can, leads-on, step_leads, claims_of, reads_of, adds_of, only_view}
 
@@ -120,6 +124,68 @@ all_read t slots id me is same fresh s h _ at small =
       },
     )
 
+-- all adds along a path, one after the other
+
+pub added_so : (slots k c a x : ℕ) (v w : M) → x ≡ get_or (words_of v.0.seen) (c + 1) 0 → Added k (step slots (c + 1) a 0 none) v (get_or (words_of v.0.seen) (c + 1) 0) w
+    → Steps v (with_work (has_added k c x) v.0.view) (λ n. add n k c) (c + 1) x w
+added_so slots k c a x v w is s =
+    let cell : (c + 1) - 1 ≡ c = omega arith in
+    let P : ℕ × ℕ → Type 0 = λ z. Steps v (with_work (has_added k z.0 z.1) v.0.view) (λ n. add n k z.0) (c + 1) z.1 w in
+    subst P (λ i. (cell i, sym is i)) s
+
+record AddedSoFar (t : Terms) (homes : List (Option (Unit {0}))) (v : Known) (k : ℕ) (path : List ℕ) (i : ℕ) : Type 0 where
+  known : Known
+  kept : Kept t (own_state homes known)
+  view_is : HasAddedAll (adds_along k (take i path)) v.view known.view
+  words : words_of known.seen ≡ words_along (amount_of t k) (take i path) (words_of v.seen)
+  since : Leads t v.seen known.seen
+
+added_so_far : (t : Terms) (homes : List (Option (Unit {0}))) (v : Known) (k : ℕ) (path : List ℕ) → Kept t (own_state homes v) → v.view.terms ≡ t → OneWhere (IsReadyFor t k) v.view.hands
+    → All (λ c. c < cell_count t) path → AreDifferent path → (i : ℕ) → i ≤ length path → AddedSoFar t homes v k path i
+added_so_far t homes v k path kept same ready inside different zero few = record { known = v; kept = kept; view_is = adds_none v.view; words = refl; since = ([], tt, refl) }
+added_so_far t homes v k path kept same ready inside different (suc i) few =
+    let r = added_so_far t homes v k path kept same ready inside different i (omega arith) in
+    let u = r.known in
+    let l : i < length path = omega arith in
+    let c = get_or path i 0 in
+    let a = amount_of t k in
+    let of : u.view.terms ≡ t = ap (λ (x : View). x.terms) r.view_is.1 ∙ same in
+    let may : MayAdd t k c u.view.hands = may_add t k c (take i path) v.view u.view ready r.view_is (inside i 0 l) (fresh-at path i l different) in
+    let got = adds_of t 0 0 k c a (u, []) (own_state homes u) r.kept refl of u.view.hands refl may refl in
+    let x : ℕ = get_or (words_of u.seen) (c + 1) 0 in
+    let s : Steps (u, []) (with_work (has_added k c x) u.view) (λ n. add n k c) (c + 1) x (got.0, []) = added_so 0 k c a x (u, []) (got.0, []) refl got.2 in
+    record {
+      known = got.0;
+      kept = subst (λ (ws : List ℕ). Kept t record { words = ws; homes = homes; views = got.0 ∷ [] }) {y = words_of got.0.seen} (sym got.3) got.1;
+      view_is = subst (λ (n : ℕ). HasAddedAll (adds_along k (take n path)) v.view got.0.view) (add-one i)
+          (subst (λ (ps : List (ℕ × ℕ)). HasAddedAll ps v.view got.0.view) (sym (along-more k path i l)) (adds_one k c x (adds_along k (take i path)) v.view u.view got.0.view r.view_is s.view_is));
+      words = got.3 ∙ (ap (λ (ws : List ℕ). set ws (c + 1) ((get_or ws (c + 1) 0 + a) % 18446744073709551616)) r.words
+          ∙ (sym (words_more a path i (words_of v.seen) l) ∙ ap (λ (n : ℕ). words_along a (take n path) (words_of v.seen)) (add-one i)));
+      since = leads-on t v.seen u.seen got.0.seen r.since (subst (λ (x : Terms). Leads x u.seen got.0.seen) of (step_leads u.view.terms u.view.hands u.seen got.0.seen (λ n. add n k c) (c + 1) x s.step));
+    }
+
+pub all_added : (t : Terms) (slots id k : ℕ) (path : List ℕ) (me : M) → t.workers ≡ 1 → me.0.view.terms ≡ t → OneWhere (IsReadyFor t k) me.0.view.hands
+    → All (λ c. c < cell_count t) path → AreDifferent path → Allows (Holds t) slots id me 0 (λ n. n) (λ _ w. HasAddedAlong k path me w)
+all_added t slots id k path me is same ready inside different s h _ at small =
+    let one = h.one is in
+    let only = only_view s.views id one.0 me.0 one.1 at in
+    let v = me.0 in
+    let kept : Kept t (own_state s.homes v) = subst (λ (u : Known). Kept t (own_state s.homes u)) only.1 one.2 in
+    let r = added_so_far t s.homes v k path kept same ready inside different (length path) (omega arith) in
+    let views : set s.views id r.known ≡ r.known ∷ [] = (λ j. set (one.1 j) (only.0 j) r.known) in
+    let whole : take (length path) path ≡ path = take_all (length path) path (omega arith) in (
+      r.known,
+      keeps,
+      tt,
+      record { one = λ _. (r.known, views, r.kept); several = λ more. absurd (omega arith) },
+      record {
+        view_is = subst (λ (cs : List ℕ). HasAddedAll (adds_along k cs) v.view r.known.view) whole r.view_is;
+        rest_is = refl;
+        since = subst (λ (x : Terms). Leads x v.seen r.known.seen) (sym same) r.since;
+        words = r.words ∙ (λ i. words_along (amount_of (sym same i) k) (whole i) (words_of v.seen));
+      },
+    )
+
 -- what a call makes of such a step
 
 pub one_inside : (l : LoadsView) (p : PassView) (table : TableId) (v : Known) → record { table = table; view = v.view; seen = v.seen } ≡ p → IsPassOf l p → l.terms.workers ≡ 1 → v.view.terms.workers ≡ 1
@@ -140,13 +206,6 @@ own_after v w own i y are is terms left = record {
   count = length-set own i y ∙ (are.count ∙ ap (λ (t : Terms). cell_count t + 1) (sym terms));
   none_left = left ∙ are.none_left;
 }
-
-pub added_so : (slots k c a x : ℕ) (v w : M) → x ≡ get_or (words_of v.0.seen) (c + 1) 0 → Added k (step slots (c + 1) a 0 none) v (get_or (words_of v.0.seen) (c + 1) 0) w
-    → Steps v (with_work (has_added k c x) v.0.view) (λ n. add n k c) (c + 1) x w
-added_so slots k c a x v w is s =
-    let cell : (c + 1) - 1 ≡ c = omega arith in
-    let P : ℕ × ℕ → Type 0 = λ z. Steps v (with_work (has_added k z.0 z.1) v.0.view) (λ n. add n k z.0) (c + 1) z.1 w in
-    subst P (λ i. (cell i, sym is i)) s
 
 pub read_so : (slots c x : ℕ) (v w : M) → x ≡ get_or (words_of v.0.seen) (c + 1) 0 → HasRead (step slots (c + 1) 0 0 none) v (get_or (words_of v.0.seen) (c + 1) 0) w
     → Steps v (with_work (has_read x) v.0.view) read (c + 1) x w

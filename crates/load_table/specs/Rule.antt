@@ -12,6 +12,7 @@ use Rattle.load_table.specs.declared.view.Hand.{Hand}
 use Rattle.load_table.specs.declared.view.View.{View}
 use Rattle.load_table.specs.declared.view.Known.{Known}
 use Rattle.load_table.specs.Reading.{reads_all}
+use Rattle.load_table.specs.Adding.{HasAddedAll, adds_along, words_along}
 use Rattle.load_table.specs.Views.{with_work, times_in, hands_of, made_of, splits_of}
 
 -- each hand has what the core has of its worker
@@ -105,6 +106,13 @@ pub record HasReadAll (v w : M) : Type 0 where
   pub small : All (λ x. x ≤ MAX_LENGTH) v.0.seen.loads
   pub since : Leads v.0.view.terms v.0.seen w.0.seen
   pub words : words_of w.0.seen ≡ words_of v.0.seen
+
+-- one worker alone has added a commodity's amount along a path, by some schedule from what it saw, and so to its words
+pub record HasAddedAlong (k : ℕ) (path : List ℕ) (v w : M) : Type 0 where
+  pub view_is : HasAddedAll (adds_along k path) v.0.view w.0.view
+  pub rest_is : w.1 ≡ v.1
+  pub since : Leads v.0.view.terms v.0.seen w.0.seen
+  pub words : words_of w.0.seen ≡ words_along (amount_of v.0.view.terms k) path (words_of v.0.seen)
 
 -- the tickets of the hands are below this one, and ascend
 abbrev pub AllFallBelow : ℕ → List Hand → Type 0

@@ -7,11 +7,13 @@ ghost use Rattle.flow_model.specs.Groups.{group_count};
 ghost use Rattle.load_table.specs.Seen.{IsPassOf, HasStepped};
 ghost use Rattle.load_table.specs.Views.{first_view, with_work, cut, cut_off, joined};
 ghost use Rattle.load_table.specs.Reading.{OneWhere, IsFresh, reads_all};
+ghost use Rattle.load_table.specs.Adding.{IsReadyFor, HasAddedAll, adds_along, words_along};
+ghost use Rattle.flow_model.specs.Least.{AreDifferent};
 ghost use Rattle.load_table.specs.Rule.{MayClaim, MayRead, MayAdd, MayClose, AllFallBelow, Closes};
 
 use crate::rule::{
-    Adds, AddsAlone, Claims, ClaimsAlone, Cuts, LoadRule, OfCell, OfCommodity, Reads, ReadsAll,
-    ReadsAlone,
+    Adds, AddsAlone, AddsAlong, Claims, ClaimsAlone, Cuts, LoadRule, OfCell, OfCommodity, OfPath,
+    Reads, ReadsAll, ReadsAlone,
 };
 use crate::view::{Known, Origin};
 use atomic_table::{Seat, Table};
@@ -81,6 +83,17 @@ fn own_words(alloc: Global, words: Vec<u64>, workers: u16) -> Vec<u64>
     ensures { workers ≡ 1 → result.items ≡ words.items }
 {
     if workers == 1 { words } else { Vec::new(alloc) }
+}
+
+/// Adds the amount to the word of each cell of a path.
+fn put_along(own: &mut [u64], path: &[u16], amount: u64)
+    requires { All (λ c. c + 1 < length own.old) path.now }
+    ensures { own.new ≡ words_along amount path.now own.old }
+{
+    for cell in path {
+        let word = *cell as usize + 1;
+        own[word] = own[word].wrapping_add(amount);
+    }
 }
 
 impl Loads {
@@ -335,6 +348,58 @@ impl Loads {
             self.add_at::<Brand, Brand>(pass, k, cell)
         } else {
             self.add_for::<Brand>(pass, k, cell)
+        }
+    }
+
+    fn add_each(&self, pass: &mut Pass, k: u32, path: &[u16])
+        requires several { 1 < self.now.terms.workers }
+        requires of { IsPassOf self.now pass.old }
+        requires ready { OneWhere (IsReadyFor self.now.terms k) pass.old.view.hands }
+        requires inside { All (λ c. c < length self.now.terms.net.cells) path.now }
+        requires different { AreDifferent path.now }
+        ensures of { IsPassOf self.now pass.new }
+        ensures view { HasAddedAll (adds_along k path.now) pass.old.view pass.new.view }
+        ensures since { Leads self.now.terms pass.old.seen pass.new.seen }
+    {
+        for cell in path {
+            self.add_for::<Brand>(pass, k, *cell);
+        }
+    }
+
+    // The step does not see along which path it is: the parameter tells the proof.
+    fn add_along<J: OfCommodity, L: OfPath>(&self, pass: &mut Pass, k: u32, path: &[u16])
+        requires named { k ≡ J.commodity }
+        requires placed { path.now ≡ L.path }
+        requires one { self.now.terms.workers ≡ 1 }
+        requires of { IsPassOf self.now pass.old }
+        requires ready { OneWhere (IsReadyFor self.now.terms k) pass.old.view.hands }
+        requires inside { All (λ c. c < length self.now.terms.net.cells) path.now }
+        requires different { AreDifferent path.now }
+        ensures of { IsPassOf self.now pass.new }
+        ensures view { HasAddedAll (adds_along k path.now) pass.old.view pass.new.view }
+        ensures since { Leads self.now.terms pass.old.seen pass.new.seen }
+    {
+        let amount = self.amounts[k as usize];
+        self.table
+            .shared
+            .load::<AddsAlong<J, L>>(&mut pass.seat, 0);
+        put_along(&mut pass.own, path, amount);
+    }
+
+    /// Adds a commodity's amount to each cell of a path, in order, by one `fetch_add` each, or plainly where there is one worker.
+    pub fn add_path(&self, pass: &mut Pass, k: u32, path: &[u16])
+        requires of { IsPassOf self.now pass.old }
+        requires ready { OneWhere (IsReadyFor self.now.terms k) pass.old.view.hands }
+        requires inside { All (λ c. c < length self.now.terms.net.cells) path.now }
+        requires different { AreDifferent path.now }
+        ensures of { IsPassOf self.now pass.new }
+        ensures view { HasAddedAll (adds_along k path.now) pass.old.view pass.new.view }
+        ensures since { Leads self.now.terms pass.old.seen pass.new.seen }
+    {
+        if self.alone {
+            self.add_along::<Brand, Brand>(pass, k, path)
+        } else {
+            self.add_each(pass, k, path)
         }
     }
 

@@ -1,8 +1,8 @@
 //! The rule of the shared words, and what each step tells the pass that takes it.
 
-ghost use Rattle.std.specs.Prelude.{ℕ};
+ghost use Rattle.std.specs.Prelude.{ℕ, List, []};
 ghost use Rattle.load_table.specs.Views.{first_known, keeps_known, cuts_known, joins_known, spent_known};
-ghost use Rattle.load_table.specs.Rule.{Holds, Claimed, HasRead, Added, ClaimedAlone, HasReadAlone, AddedAlone, HasReadAll};
+ghost use Rattle.load_table.specs.Rule.{Holds, Claimed, HasRead, Added, ClaimedAlone, HasReadAlone, AddedAlone, HasReadAll, HasAddedAlong};
 
 use crate::view::{Known, Origin};
 use atomic_table::{Join, Play, Split, TableRule};
@@ -48,6 +48,15 @@ impl OfCell for Brand {
     ghost cell = { 0 };
 }
 
+/// Along which path a worker alone adds.
+pub trait OfPath {
+    ghost path: { List ℕ };
+}
+
+impl OfPath for Brand {
+    ghost path = { [] };
+}
+
 pub(crate) struct Adds<J> {
     named: PhantomData<J>,
 }
@@ -56,7 +65,7 @@ impl<J: OfCommodity> Play<(), Known> for Adds<J> {
     ghost then = { Added J.commodity };
 }
 
-/// A claim on a pass's own words: the step on the table is a load, for the proof alone. So are those of the other three.
+/// A claim on a pass's own words: the step on the table is a load, for the proof alone. So are those of the other four.
 pub(crate) struct ClaimsAlone;
 
 impl Play<(), Known> for ClaimsAlone {
@@ -84,6 +93,15 @@ pub(crate) struct ReadsAll;
 
 impl Play<(), Known> for ReadsAll {
     ghost then = { λ _ v _ w. HasReadAll v w };
+}
+
+pub(crate) struct AddsAlong<J, L> {
+    named: PhantomData<J>,
+    placed: PhantomData<L>,
+}
+
+impl<J: OfCommodity, L: OfPath> Play<(), Known> for AddsAlong<J, L> {
+    ghost then = { λ _ v _ w. HasAddedAlong J.commodity L.path v w };
 }
 
 pub(crate) struct Cuts;

@@ -28,7 +28,8 @@ use Rattle.load_table.specs.Views.{with_work, first_works}
 use Rattle.flow_core.specs.declared.state.Entry.{Entry}
 use Rattle.phase_engine.specs.Routes.{Route}
 use Rattle.load_table.specs.Reading.{LastWhere, OneWhere, reads_all, put_reads}
-use Rattle.phase_engine.specs.Steps.{IsClaimed, IsReadyForAll, adds_along, adds_of}
+use Rattle.load_table.specs.Adding.{adds_along}
+use Rattle.phase_engine.specs.Steps.{IsClaimed, IsReadyForAll, adds_of}
 use Rattle.phase_engine.specs.Found.{known_path, HasPath, to_at, routes_to, IsSearch}
 use Rattle.phase_engine.specs.Work.{routes_in}
 

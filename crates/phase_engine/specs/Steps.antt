@@ -1,33 +1,17 @@
 -- How the one worker of a pass gets on with its last entry.
-use Rattle.std.specs.Prelude.{◌≡◌, ℕ, ◌<◌, List, [], ◌∷◌, ◌++◌, All, length, map}
+use Rattle.std.specs.Prelude.{◌≡◌, ℕ, ◌<◌, List, [], ◌∷◌, ◌++◌, All, length}
 use Rattle.flow_core.specs.declared.state.Entry.{Entry}
 use Rattle.flow_core.specs.declared.state.Worker.{Worker}
 use Rattle.flow_core.specs.Core.{Terms, entry, worker, cell_count, commodity_count, group_of}
 use Rattle.load_table.specs.declared.view.View.{View}
 use Rattle.load_table.specs.Views.{with_work}
+use Rattle.load_table.specs.Adding.{more_adds, adds_along}
 use Rattle.load_table.specs.Reading.{put_reads}
 use Rattle.phase_engine.specs.Routes.{Route}
-
--- all is read, and k is a member of the group, above the commodities of all adds
-abbrev pub IsReadyFor : Terms → ℕ → Entry → Type 0
-IsReadyFor t k e = (length e.reads ≡ cell_count t) × (k < commodity_count t) × (group_of t k ≡ e.ticket) × All (λ (x : ℕ × ℕ). x.0 < k) e.adds
 
 -- all is read, nothing is added, and these are members of the group
 abbrev pub IsReadyForAll : Terms → List ℕ → Entry → Type 0
 IsReadyForAll t members e = (length e.reads ≡ cell_count t) × (e.adds ≡ []) × All (λ k. (k < commodity_count t) × (group_of t k ≡ e.ticket)) members
-
--- the last entry with these adds after its own
-abbrev pub more_adds : List (ℕ × ℕ) → List Entry → List Entry
-more_adds adds [] = []
-more_adds adds (e ∷ es) = entry e.ticket e.reads (e.adds ++ adds) ∷ es
-
--- the worker after these adds found these words
-abbrev pub adds_all : List (ℕ × ℕ) → List ℕ → Worker → Worker
-adds_all adds found u = worker (more_adds adds u.log) u.stopped u.ticket (u.found ++ found)
-
--- the view after these adds, whatever words they found
-abbrev pub HasAddedAll : List (ℕ × ℕ) → View → View → Type 0
-HasAddedAll adds old new = (found : List ℕ) × (new ≡ with_work (adds_all adds found) old)
 
 -- the worker after these reads, and after these adds found these words
 abbrev pub finishes : List ℕ → List (ℕ × ℕ) → List ℕ → Worker → Worker
@@ -36,10 +20,6 @@ finishes reads adds found u = worker (more_adds adds (put_reads reads u.log)) u.
 -- the view after these reads and adds, whatever words the adds found
 abbrev pub HasFinished : List ℕ → List (ℕ × ℕ) → View → View → Type 0
 HasFinished reads adds old new = (found : List ℕ) × (new ≡ with_work (finishes reads adds found) old)
-
--- the adds of a path
-abbrev pub adds_along : ℕ → List ℕ → List (ℕ × ℕ)
-adds_along k path = map (λ (c : ℕ). (k, c)) path
 
 -- the adds of routes, one after the other
 abbrev pub adds_of : List Route → List (ℕ × ℕ)

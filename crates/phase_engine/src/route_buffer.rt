@@ -5,7 +5,7 @@ ghost use Rattle.flow_model.specs.Least.{AreDifferent};
 ghost use Rattle.load_table.specs.Seen.{IsPassOf};
 ghost use Rattle.load_table.specs.Reading.{OneWhere};
 ghost use Rattle.phase_engine.specs.Routes.{Route, RouteRoom, route_of, AreSpans};
-ghost use Rattle.phase_engine.specs.Steps.{IsReadyFor, HasAddedAll, adds_along};
+ghost use Rattle.load_table.specs.Adding.{IsReadyFor, HasAddedAll, adds_along};
 
 use load_table::{Loads, Pass};
 use std::alloc::{AllocError, Global};
@@ -108,7 +108,8 @@ impl RouteBuffer {
         ensures cells { self.new.cells ≡ self.old.cells - length path.now }
     {
         let start = self.cells.len();
-        add_path(loads, pass, commodity, path, &mut self.cells);
+        loads.add_path(pass, commodity, path);
+        append(path, &mut self.cells);
         self.spans.push_reserved(Span {
             commodity,
             start,
@@ -117,21 +118,14 @@ impl RouteBuffer {
     }
 }
 
-/// Adds the commodity's amount to each cell of its path, and appends the cell, for which there is room.
-fn add_path(loads: &Loads, pass: &mut Pass, k: u32, path: &[u16], cells: &mut Vec<u16>)
-    requires of { IsPassOf loads.now pass.old }
-    requires ready { OneWhere (IsReadyFor loads.now.terms k) pass.old.view.hands }
-    requires inside { All (λ c. c < length loads.now.terms.net.cells) path.now }
-    requires different { AreDifferent path.now }
+/// Appends the cells of a path, for which there is room.
+fn append(path: &[u16], cells: &mut Vec<u16>)
     requires room { vec_len cells.old + length path.now ≤ vec_capacity cells.old }
-    ensures of { IsPassOf loads.now pass.new }
-    ensures view { HasAddedAll (adds_along k path.now) pass.old.view pass.new.view }
     ensures items { cells.new.items ≡ cells.old.items ++ path.now }
     ensures room { vec_capacity cells.new ≡ vec_capacity cells.old }
     ensures count { vec_len cells.new ≡ vec_len cells.old + length path.now }
 {
     for cell in path {
-        loads.add_cell(pass, k, *cell);
         cells.push_reserved(*cell);
     }
 }

@@ -4,7 +4,8 @@ ghost use Rattle.std.specs.Prelude.{◌≡◌, ◌-◌, ◌*◌, ◌<◌, ◌≤
 ghost use Rattle.std.specs.List.Sorted.{IsStrictlyIncreasing};
 ghost use Rattle.load_table.specs.Seen.{IsPassOf};
 ghost use Rattle.load_table.specs.Reading.{OneWhere};
-ghost use Rattle.phase_engine.specs.Steps.{IsReadyFor, IsReadyForAll, HasAddedAll, adds_along, adds_of};
+ghost use Rattle.load_table.specs.Adding.{IsReadyFor, HasAddedAll, adds_along};
+ghost use Rattle.phase_engine.specs.Steps.{IsReadyForAll, adds_of};
 ghost use Rattle.phase_engine.specs.Found.{HasPath, known_path, routes_to, to_at};
 
 use crate::route_buffer::RouteBuffer;

@@ -1,6 +1,7 @@
 use Rattle.std.proofs.Common.{◌≡◌, ◌-◌, ◌*◌, ◌≤◌, ◌++◌, take, length}
 use Rattle.load_table.specs.Seen.{IsPassOf}
-use Rattle.phase_engine.specs.Steps.{HasAddedAll, adds_of}
+use Rattle.load_table.specs.Adding.{HasAddedAll}
+use Rattle.phase_engine.specs.Steps.{adds_of}
 use Rattle.phase_engine.specs.Found.{routes_to}
 use Rattle.phase_engine.proofs.steps.route_group.Given as goal
 
