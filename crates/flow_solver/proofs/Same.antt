@@ -1,5 +1,5 @@
 -- What stays where something is put in the place of what it is.
-use Rattle.std.proofs.Common.{◌≡◌, ℕ, List, length, ap, ◌∙◌, sym}
+use Rattle.std.proofs.Common.{◌≡◌, List, length, ap, ◌∙◌, sym}
 use Rattle.std.proofs.lemmas.List.{with_items_is}
 use Rattle.std.specs.Prelude.{Vec}
 use Rattle.std.specs.Vec.{with_items}

@@ -1,11 +1,11 @@
 -- How the one worker of a view adds along a path.
-use Rattle.std.proofs.Common.{◌≡◌, ◌≢◌, ℕ, zero, suc, ◌+◌, ◌-◌, ◌%◌, ◌<◌, ◌≤◌, Bool, true, false, ◌||◌, ◌&&◌, nat_eq, List, [], ◌∷◌, ◌++◌, take, length, get_or, set, refl, sym, ap, ◌∙◌, subst, arith, append_assoc, append-nil, ne_eqb, length-set}
+use Rattle.std.proofs.Common.{◌≡◌, ◌≢◌, ℕ, zero, suc, ◌+◌, ◌%◌, ◌<◌, ◌≤◌, Bool, true, false, ◌||◌, ◌&&◌, nat_eq, List, [], ◌∷◌, ◌++◌, take, length, get_or, set, refl, sym, ap, ◌∙◌, subst, arith, append_assoc, append-nil, ne_eqb}
 use Rattle.std.specs.Prelude.{All}
 use Rattle.std.proofs.lemmas.List.{take_more, map_push, get_or-take, length-take}
 use Rattle.flow_model.specs.Least.{AreDifferent}
 use Rattle.flow_core.specs.declared.state.Entry.{Entry}
 use Rattle.flow_core.specs.declared.state.Worker.{Worker}
-use Rattle.flow_core.specs.Core.{Terms, entry, worker, has, is_pair, cell_count, commodity_count, NotBelowLast, LastMayAdd, with_add, has_added}
+use Rattle.flow_core.specs.Core.{Terms, entry, worker, has, is_pair, cell_count, NotBelowLast, LastMayAdd, with_add, has_added}
 use Rattle.load_table.specs.declared.view.View.{View}
 use Rattle.load_table.specs.declared.view.Hand.{Hand}
 use Rattle.load_table.specs.Views.{hand, view_of, first_works, with_work}
@@ -127,16 +127,6 @@ fresh-at path i l d j inside e =
     let less : j < i = omega (arith, length-take i path) in
     d j i less l (sym (get_or-take i path j 0 less) ∙ e)
 
--- a commodity whose adds may come is one of the network
-pub ready_inside : (t : Terms) (k : ℕ) (hs : List Hand) → OneWhere (IsReadyFor t k) hs → k < commodity_count t
-ready_inside t k [] h = absurd h
-ready_inside t k (x ∷ []) h = log x.work.log h
-  where
-    log : (l : List Entry) → LastWhere (IsReadyFor t k) l → k < commodity_count t
-    log [] g = absurd g
-    log (e ∷ es) g = g.1
-ready_inside t k (x ∷ y ∷ xs) h = absurd h
-
 -- the words after one add more
 words-push : (a : ℕ) (cs : List ℕ) (c : ℕ) (ws : List ℕ) → words_along a (cs ++ c ∷ []) ws ≡ set (words_along a cs ws) (c + 1) ((get_or (words_along a cs ws) (c + 1) 0 + a) % 18446744073709551616)
 words-push a [] c ws = refl
@@ -145,7 +135,3 @@ words-push a (d ∷ ds) c ws = words-push a ds c (set ws (d + 1) ((get_or ws (d 
 pub words_more : (a : ℕ) (path : List ℕ) (i : ℕ) (ws : List ℕ) → i < length path
     → words_along a (take (i + 1) path) ws ≡ set (words_along a (take i path) ws) (get_or path i 0 + 1) ((get_or (words_along a (take i path) ws) (get_or path i 0 + 1) 0 + a) % 18446744073709551616)
 words_more a path i ws l = ap (λ (cs : List ℕ). words_along a cs ws) (take_more path i 0 l) ∙ words-push a (take i path) (get_or path i 0) ws
-
-pub words_count : (a : ℕ) (path ws : List ℕ) → length (words_along a path ws) ≡ length ws
-words_count a [] ws = refl
-words_count a (c ∷ cs) ws = words_count a cs (set ws (c + 1) ((get_or ws (c + 1) 0 + a) % 18446744073709551616)) ∙ length-set ws (c + 1) ((get_or ws (c + 1) 0 + a) % 18446744073709551616)

@@ -16,7 +16,7 @@ use Rattle.load_table.specs.Seen.{LoadsView, PassView, IsPassOf, AreWordsOf}
 use Rattle.load_table.specs.Views.{with_work}
 use Rattle.load_table.specs.Reading.{OneWhere, IsFresh, reads_all}
 use Rattle.load_table.specs.Adding.{IsReadyFor, HasAddedAll, adds_along, words_along}
-use Rattle.load_table.proofs.Adding.{adds_none, adds_one, may_add, along-more, fresh-at, words_more, words_count, ready_inside}
+use Rattle.load_table.proofs.Adding.{adds_none, adds_one, may_add, along-more, fresh-at, words_more}
 use Rattle.std.specs.Prelude.{All}
 use Rattle.flow_model.specs.Least.{AreDifferent}
 use Rattle.load_table.proofs.Works.{reads_none, reads_one, may_read}

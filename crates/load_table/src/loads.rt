@@ -380,9 +380,7 @@ impl Loads {
         ensures since { Leads self.now.terms pass.old.seen pass.new.seen }
     {
         let amount = self.amounts[k as usize];
-        self.table
-            .shared
-            .load::<AddsAlong<J, L>>(&mut pass.seat, 0);
+        self.table.shared.load::<AddsAlong<J, L>>(&mut pass.seat, 0);
         put_along(&mut pass.own, path, amount);
     }
 

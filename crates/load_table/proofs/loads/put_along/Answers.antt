@@ -1,5 +1,5 @@
-use Rattle.std.proofs.Common.{ℕ, List, ◌+◌, ◌%◌, ◌<◌, length, get_or, set, sym, ap, ◌∙◌, arith}
-use Rattle.load_table.proofs.Adding.{words_more, words_count}
+use Rattle.std.proofs.Common.{ℕ, List, ◌+◌, ◌%◌, get_or, set, sym, ap, ◌∙◌, arith}
+use Rattle.load_table.proofs.Adding.{words_more}
 use Rattle.load_table.proofs.loads.put_along.Goals as goal
 
 pub loop-cell-preserved : goal.loop-cell-preserved

@@ -1,14 +1,10 @@
-use Rattle.std.proofs.Common.{ℕ, List, ◌≡◌, ◌<◌, ◌≤◌, ◌∙◌, sym, ap, subst, rules, arith, length, slice_index_or, get_or}
+use Rattle.std.proofs.Common.{ℕ, ◌≡◌, ◌<◌, subst, rules}
 use Rattle.std.specs.Prelude.{All}
 use Rattle.flow_model.specs.Least.{AreDifferent}
-use Rattle.flow_core.specs.Core.{Terms, cell_count, amount_of}
-use Rattle.load_table.specs.Rule.{HasAddedAlong, words_of}
-use Rattle.load_table.specs.Seen.{AreWordsOf, PassView}
+use Rattle.flow_core.specs.Core.{cell_count}
 use Rattle.load_table.specs.Reading.{OneWhere}
-use Rattle.load_table.specs.Adding.{IsReadyFor, words_along}
-use Rattle.load_table.proofs.Keeps.{amount_is}
-use Rattle.load_table.proofs.Adding.{ready_inside, words_count}
-use Rattle.load_table.proofs.Alone.{all_added, one_inside, own_count}
+use Rattle.load_table.specs.Adding.{IsReadyFor}
+use Rattle.load_table.proofs.Alone.{all_added}
 use Rattle.load_table.proofs.loads.Loads.add_along.Goals as goal
 
 pub load-requires : goal.load-requires
