@@ -11,7 +11,6 @@ use crate::{Graph, Tree};
 use mcf_limits::MAX_LENGTH;
 use std::alloc::{AllocError, Global};
 use std::marker::Model;
-use std::mem;
 
 /// Distances from one node. It is seen as its numbers of nodes and cells, and the distance
 /// of each node and a path to it, if it was reached.
@@ -67,24 +66,17 @@ fn new_front(alloc: Global, nodes: u16) -> Result<Front, AllocError>
     })
 }
 
-/// A tree over so many nodes for each node as a source, none of them told yet.
-fn blank_trees(alloc: Global, nodes: u16, over: u16) -> Result<Vec<Tree>, AllocError> {
+/// A tree for each node as a source, none of them told yet.
+fn blank_trees(alloc: Global, nodes: u16) -> Result<Vec<Tree>, AllocError> {
     let mut trees = Vec::with_capacity(alloc, nodes as usize)?;
     for _ in 0..nodes {
-        trees.push(Tree::new(alloc, over)?)?;
+        trees.push(Tree::new(alloc, nodes)?)?;
     }
     Ok(trees)
 }
 
-/// Finds the least distances from a node, from a tree on where this is one from there, and tells whether the steps may be others than
-/// that tree's.
-fn search_by(
-    graph: &Graph,
-    lengths: &[u64],
-    from: u16,
-    tree: Option<&Tree>,
-    front: &mut Front,
-) -> bool
+/// Finds the least distances from a node, from a tree on where this is one from there.
+fn search_by(graph: &Graph, lengths: &[u64], from: u16, tree: Option<&Tree>, front: &mut Front)
     requires lengths { AreLengths graph.now.cells lengths.now }
     requires front { IsFront graph.now.nodes front.old }
     requires from { from < graph.now.nodes }
@@ -99,10 +91,7 @@ fn search_by(
     };
     match earlier {
         Some(earlier) => search_on(graph, lengths, from, earlier, front),
-        None => {
-            search(graph, lengths, from, front);
-            true
-        }
+        None => search(graph, lengths, from, front),
     }
 }
 
@@ -123,18 +112,16 @@ fn search_along(
     ensures done { (u : ℕ) → u < length front.new.dist.items → slice_index front.new.dist.items u < MAX_LENGTH
         → IsDone graph.now.cells lengths.now front.new.dist.items u }
 {
-    if search_by(graph, lengths, from, Some(&*tree), front) {
-        tree.follow(from, front, room);
-    }
+    search_by(graph, lengths, from, Some(&*tree), front);
+    tree.follow(from, front, room);
 }
 
-/// The same, along the node's own tree where there is one, and else from another one on.
+/// The same, along the node's own tree where there is one, and else from nothing.
 fn search_among(
     graph: &Graph,
     lengths: &[u64],
     from: u16,
     trees: &mut [Tree],
-    other: Option<&Tree>,
     room: &mut Room,
     front: &mut Front,
 )
@@ -149,7 +136,7 @@ fn search_among(
     if (from as usize) < trees.len() {
         search_along(graph, lengths, from, &mut trees[from as usize], room, front);
     } else {
-        search_by(graph, lengths, from, other, front);
+        search(graph, lengths, from, front);
     }
 }
 
@@ -188,28 +175,8 @@ impl Scratch {
         ensures blank { IfOk result (λ s. (v : ℕ) → (dist_at s v ≡ None) × (path_at s v ≡ None)) }
     {
         let mut scratch = Scratch::new(alloc, nodes, cells)?;
-        scratch.trees = blank_trees(alloc, nodes, nodes)?;
+        scratch.trees = blank_trees(alloc, nodes)?;
         Ok(scratch)
-    }
-
-    /// As `new`, with a place for a tree of each node as a source, which `swap_tree` fills.
-    pub fn with_places(alloc: Global, nodes: u16, cells: u16) -> Result<Self, AllocError>
-        ensures nodes { IfOk result (λ s. s.nodes ≡ nodes) }
-        ensures cells { IfOk result (λ s. s.cells ≡ cells) }
-        ensures blank { IfOk result (λ s. (v : ℕ) → (dist_at s v ≡ None) × (path_at s v ≡ None)) }
-    {
-        let mut scratch = Scratch::new(alloc, nodes, cells)?;
-        scratch.trees = blank_trees(alloc, nodes, 0)?;
-        Ok(scratch)
-    }
-
-    /// Takes this tree in the place of that which is kept for the node, and hands that one out. Where there is no place, it does nothing.
-    pub fn swap_tree(&mut self, node: u16, tree: &mut Tree)
-        ensures { self.new ≡ self.old }
-    {
-        if (node as usize) < self.trees.len() {
-            mem::swap(&mut self.trees[node as usize], tree);
-        }
     }
 
     /// Finds the least distances from a node.
@@ -225,7 +192,16 @@ impl Scratch {
             → IsPath graph.now.cells lengths.now self.new.nodes from v (dist_at self.new v) (path_at self.new v) }
         ensures near { IsNear graph.now.cells lengths.now self.new }
     {
-        self.search_near(graph, lengths, from, None);
+        let _nodes = graph.nodes();
+        self.from = from;
+        search_among(
+            graph,
+            lengths,
+            from,
+            &mut self.trees,
+            &mut self.room,
+            &mut self.front,
+        );
     }
 
     /// The same, where the tree of an earlier search from that node makes it quick. Nothing is asked of the tree: one of
@@ -247,8 +223,7 @@ impl Scratch {
         search_along(graph, lengths, from, tree, &mut self.room, &mut self.front);
     }
 
-    /// The same; where no tree is kept for the node, the search begins at this one, if there is one, and leaves it as it is. As with
-    /// `search_from` it is a hint alone.
+    /// The same from a tree that is left as it is, where there is one. As with `search_from` it is a hint alone.
     pub fn search_near(&mut self, graph: &Graph, lengths: &[u64], from: u16, tree: Option<&Tree>)
         requires lengths { AreLengths graph.now.cells lengths.now }
         requires nodes { self.old.nodes ≡ graph.now.nodes }
@@ -263,15 +238,7 @@ impl Scratch {
     {
         let _nodes = graph.nodes();
         self.from = from;
-        search_among(
-            graph,
-            lengths,
-            from,
-            &mut self.trees,
-            tree,
-            &mut self.room,
-            &mut self.front,
-        );
+        search_by(graph, lengths, from, tree, &mut self.front);
     }
 
     /// The least distance of the node, if it was reached.

@@ -239,8 +239,7 @@ fn shortest_way(graph: &Graph, lengths: &[u64], kept: Kept, dist: &[u64]) -> Way
     way
 }
 
-/// Gives the node the distance over the shortest of the ways to it over the cells at it, where that is shorter than what is known, and
-/// tells whether that is another way than the earlier step's.
+/// Gives the node the distance over the shortest of the ways to it over the cells at it, where that is shorter than what is known.
 #[inline(always)]
 fn come_near(
     graph: &Graph,
@@ -249,7 +248,7 @@ fn come_near(
     kept: Kept,
     dist: &mut [u64],
     steps: &mut [Step],
-) -> bool
+)
     requires lengths { AreLengths graph.now.cells lengths.now }
     requires both { GoBothWays graph.now.cells }
     requires nodes { length dist.old ≡ graph.now.nodes }
@@ -260,24 +259,21 @@ fn come_near(
     let _ = from;
     let node = kept.node as usize;
     if kept.node >= graph.nodes() {
-        return false;
+        return;
     }
     let way = shortest_way(graph, lengths, kept, dist);
-    if way.long >= dist[node] {
-        return false;
+    if way.long < dist[node] {
+        dist[node] = way.long;
+        steps[node] = Step {
+            cell: way.cell,
+            from: way.from,
+        };
     }
-    dist[node] = way.long;
-    steps[node] = Step {
-        cell: way.cell,
-        from: way.from,
-    };
-    way.cell != kept.step.cell
 }
 
 /// As `keep_steps`, but each node gets the shortest way over the cells at it, of which the earlier step is mostly one. Mostly these
-/// are the least distances, so few nodes are opened then. Each cell has to go both ways. It tells whether some node has another step than
-/// before.
-#[inline(always)]
+/// are the least distances, so few nodes are opened then. Each cell has to go both ways.
+#[inline(never)]
 fn look_along(
     graph: &Graph,
     lengths: &[u64],
@@ -285,7 +281,7 @@ fn look_along(
     earlier: &[Kept],
     dist: &mut [u64],
     steps: &mut [Step],
-) -> bool
+)
     requires lengths { AreLengths graph.now.cells lengths.now }
     requires both { GoBothWays graph.now.cells }
     requires nodes { length dist.old ≡ graph.now.nodes }
@@ -293,12 +289,9 @@ fn look_along(
     ensures tree { IsTree graph.now.cells lengths.now from dist.new steps.new }
     ensures nodes { length dist.new ≡ length dist.old }
 {
-    let mut moved = false;
     for kept in earlier {
-        // no branch: the look comes first
-        moved = come_near(graph, lengths, from, *kept, dist, steps) | moved;
+        come_near(graph, lengths, from, *kept, dist, steps);
     }
-    moved
 }
 
 /// Whether nodes have so few ways that it pays to look at all of them.
@@ -347,7 +340,7 @@ fn open_over(
 }
 
 /// Opens each node from which a way on is shorter than what is known, and gives the number of open nodes.
-#[inline(always)]
+#[inline(never)]
 fn open_nodes(
     graph: &Graph,
     lengths: &[u64],
@@ -394,8 +387,7 @@ fn close_all(graph: &Graph, lengths: &[u64], from: u16, front: &mut FrontSlices,
     }
 }
 
-/// Puts all nodes but the first out of reach, and then at the distances along an earlier tree, and tells whether steps are others than
-/// the tree's.
+/// Puts all nodes but the first out of reach, and then at the distances along an earlier tree.
 #[inline(always)]
 fn begin(
     graph: &Graph,
@@ -404,7 +396,7 @@ fn begin(
     earlier: &[Kept],
     dist: &mut [u64],
     steps: &mut [Step],
-) -> bool
+)
     requires lengths { AreLengths graph.now.cells lengths.now }
     requires nodes { length dist.old ≡ graph.now.nodes }
     requires steps { length steps.old ≡ length dist.old }
@@ -415,10 +407,10 @@ fn begin(
     clear(dist);
     dist[from as usize] = 0;
     if graph.goes_both_ways() && is_sparse(graph) {
-        return look_along(graph, lengths, from, earlier, dist, steps);
+        look_along(graph, lengths, from, earlier, dist, steps);
+    } else {
+        keep_steps(graph, lengths, from, earlier, dist, steps);
     }
-    keep_steps(graph, lengths, from, earlier, dist, steps);
-    false
 }
 
 /// Finds the least distances from a node.
@@ -457,14 +449,8 @@ pub fn search(graph: &Graph, lengths: &[u64], from: u16, front: &mut Front)
 }
 
 /// The same from an earlier tree on, which changes no distance: it makes the search quick where it is one from that node,
-/// and few nodes have moved since. It tells whether the tree may be another one now; where it is not, each node has its earlier step.
-pub fn search_on(
-    graph: &Graph,
-    lengths: &[u64],
-    from: u16,
-    earlier: &[Kept],
-    front: &mut Front,
-) -> bool
+/// and few nodes have moved since.
+pub fn search_on(graph: &Graph, lengths: &[u64], from: u16, earlier: &[Kept], front: &mut Front)
     requires lengths { AreLengths graph.now.cells lengths.now }
     requires front { IsFront graph.now.nodes front.old }
     requires from { from < graph.now.nodes }
@@ -478,7 +464,7 @@ pub fn search_on(
     let order = front.order.as_mut_slice();
     let place = front.place.as_mut_slice();
     let keys = front.keys.as_mut_slice();
-    let moved = begin(graph, lengths, from, earlier, dist, steps);
+    begin(graph, lengths, from, earlier, dist, steps);
     let count = open_nodes(graph, lengths, dist, order, place, keys);
     let mut slices = FrontSlices {
         dist,
@@ -494,5 +480,4 @@ pub fn search_on(
     let _ = order;
     let _ = place;
     let _ = keys;
-    moved || count > 0
 }

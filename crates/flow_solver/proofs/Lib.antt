@@ -1,6 +1,5 @@
 pub mod Loads
 pub mod Nexts
-pub mod Same
 pub mod Routing
 pub mod Reaching
 pub mod Ending

@@ -4,31 +4,18 @@ ghost use Rattle.std.specs.Prelude.{◌≡◌, ℕ, ◌<◌, [], None, IfOk, len
 ghost use Rattle.phase_engine.specs.Hands.{IsFresh, IsSameWorker};
 
 use dijkstra_paths::Scratch;
-use dual_bound::Row;
 use flow_model::Net;
 use phase_engine::{Hand, Routes};
 use std::alloc::{AllocError, Global};
 
-/// The scratch of a worker; that of one alone has places for the trees of the rows.
-fn scratch_of(alloc: Global, net: &Net, is_alone: bool) -> Result<Scratch, AllocError>
-    ensures nodes { IfOk result (λ s. s.nodes ≡ net.now.nodes) }
-    ensures cells { IfOk result (λ s. s.cells ≡ length net.now.cells) }
-{
-    let cells = net.cells().len() as u16;
-    if is_alone {
-        Scratch::with_places(alloc, net.nodes(), cells)
-    } else {
-        Scratch::new(alloc, net.nodes(), cells)
-    }
-}
-
 /// The hand of a worker, before any phase.
-fn new_hand(alloc: Global, net: &Net, worker: u16, is_alone: bool) -> Result<Hand, AllocError>
+fn new_hand(alloc: Global, net: &Net, worker: u16) -> Result<Hand, AllocError>
     ensures { IfOk result (λ h. IsFresh net.now worker h) }
 {
+    let cells = net.cells().len() as u16;
     Ok(Hand {
         worker,
-        scratch: scratch_of(alloc, net, is_alone)?,
+        scratch: Scratch::new(alloc, net.nodes(), cells)?,
         room: None,
         routes: Routes::new(alloc),
         turn: None,
@@ -43,30 +30,9 @@ pub(crate) fn new_hands(alloc: Global, net: &Net, workers: u16) -> Result<Vec<Ha
 {
     let mut hands = Vec::new(alloc);
     for worker in 0..workers {
-        hands.push(new_hand(alloc, net, worker, workers == 1)?)?;
+        hands.push(new_hand(alloc, net, worker)?)?;
     }
     Ok(hands)
-}
-
-/// The rows and the scratch exchange the trees of the rows' sources.
-fn swap_all(rows: &mut [Row], scratch: &mut Scratch)
-    ensures rows { rows.new ≡ rows.old }
-    ensures scratch { scratch.new ≡ scratch.old }
-{
-    for row in rows.iter_mut() {
-        scratch.swap_tree(row.source, &mut row.tree);
-    }
-}
-
-/// Where there is one hand, it takes the trees of the rows, from which its searches begin and which they leave as their own; the second
-/// time the rows take them back.
-pub(crate) fn swap_trees(rows: &mut [Row], hands: &mut [Hand])
-    ensures rows { rows.new ≡ rows.old }
-    ensures hands { hands.new ≡ hands.old }
-{
-    if hands.len() == 1 {
-        swap_all(rows, &mut hands[0].scratch);
-    }
 }
 
 /// Forgets the routes of the phase before, and keeps their memory and the rooms.

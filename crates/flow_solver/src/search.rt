@@ -12,7 +12,7 @@ ghost use Rattle.flow_solver.specs.Turns.{IsOver};
 ghost use Rattle.flow_solver.specs.Search.{IsRouted, IsSearch, phase_count};
 
 use crate::PathHistory;
-use crate::hands::{forget_all, forget_turns, new_hands, swap_trees};
+use crate::hands::{forget_all, forget_turns, new_hands};
 use crate::noted::Sought;
 use crate::prepared::Task;
 use crate::share::Share;
@@ -118,8 +118,8 @@ fn phase_over<G: Gate, R: Threads + Sync>(
     }
 }
 
-/// One phase more of the hands, whose rows are still to be noted. `Err` is for want of memory, and then the search can't go on.
-fn route_hands<G: Gate, R: Threads + Sync>(
+/// One phase more, whose rows are still to be noted. `Err` is for want of memory, and then the search can't go on.
+pub(crate) fn route<G: Gate, R: Threads + Sync>(
     rt: &R,
     task: &Task<'_, G>,
     search: &mut Search,
@@ -139,31 +139,6 @@ fn route_hands<G: Gate, R: Threads + Sync>(
         &mut search.loads,
         &mut search.hands,
     )
-}
-
-/// The rows and the hand, where there is one alone, exchange their trees.
-fn exchange(search: &mut Search)
-    ensures { search.new ≡ search.old }
-{
-    swap_trees(&mut search.room.rows, &mut search.hands);
-}
-
-/// One phase more, whose rows are still to be noted. One hand alone goes on with the trees that the bound before has left. `Err` is for want of memory, and then the search can't go on.
-pub(crate) fn route<G: Gate, R: Threads + Sync>(
-    rt: &R,
-    task: &Task<'_, G>,
-    search: &mut Search,
-) -> Result<(), AllocError>
-    requires no_cut { HasNoCut task.now.on.now.net.now }
-    requires setting { IsSetting task.now.setting }
-    requires search { IsSearch task.now.on.now.net.now search.old }
-    requires phases { phase_count search.old < MAX_PHASES }
-    ensures routed { OnOk result (IsRouted task.now.on.now.net.now task.now.setting search.old search.new) }
-{
-    exchange(search);
-    let routed = route_hands(rt, task, search);
-    exchange(search);
-    routed
 }
 
 /// The end of a phase over these words, after all turns. Should a turn share them still, which none does then, it is the whole phase

@@ -1,7 +1,7 @@
 -- The routes of a buffer, after one was appended.
-use Rattle.std.proofs.Common.{◌≡◌, ℕ, ◌+◌, ◌<◌, ◌≤◌, List, [], ◌∷◌, ◌++◌, length, get_or, take, drop, sym, ap, ◌∙◌, arith, refl, append_assoc}
+use Rattle.std.proofs.Common.{◌≡◌, ℕ, ◌+◌, ◌≤◌, List, [], ◌∷◌, ◌++◌, length, take, drop, ap, ◌∙◌, arith, refl}
 use Rattle.std.specs.Prelude.{All, map}
-use Rattle.std.proofs.lemmas.List.{length-drop, take_more, map_push, drop-append-le, take-append-le, drop_at, take_all}
+use Rattle.std.proofs.lemmas.List.{length-drop, map_push, drop-append-le, take-append-le, drop_at, take_all}
 use Rattle.std.proofs.lemmas.List.Elements.{All-head, All-tail}
 use Rattle.phase_engine.specs.declared.route_buffer.Span.{Span}
 use Rattle.phase_engine.specs.Routes.{route_of, AreSpans}
@@ -20,12 +20,6 @@ spans_kept cells path (s ∷ spans) places =
 
 new_walk : (cells path : List ℕ) → take (length path) (drop (length cells) (cells ++ path)) ≡ path
 new_walk cells path = ap (take (length path)) (drop_at cells path (length cells) refl) ∙ take_all (length path) path (omega arith)
-
--- the cells with one more of a path's
-pub cells_more : (before path now now' : List ℕ) (i : ℕ) → i < length path → now ≡ before ++ take i path → now' ≡ now ++ get_or path i 0 ∷ [] → now' ≡ before ++ take (i + 1) path
-cells_more before path now now' i l e more =
-    more ∙ (ap (λ (cs : List ℕ). cs ++ get_or path i 0 ∷ []) e
-    ∙ (append_assoc before (take i path) (get_or path i 0 ∷ []) ∙ ap (λ (cs : List ℕ). before ++ cs) (sym (take_more path i 0 l))))
 
 abbrev pub span : ℕ → ℕ → ℕ → Span
 span k start len = record { commodity = k; start = start; len = len }

@@ -1,10 +1,63 @@
-use Rattle.std.proofs.Common.{sym, subst}
-use Rattle.std.specs.Prelude.{OnOk}
+use Rattle.std.proofs.Common.{◌≡◌, ℕ, ◌<◌, length, refl, sym, ap, ◌∙◌, subst, arith, get_or, List}
+use Rattle.std.specs.Prelude.{Ok, Err, Result, OnOk}
+use Rattle.std.proofs.lemmas.List.{with_items_is}
+use Rattle.std.specs.Vec.{with_items}
+use Rattle.flow_core.specs.Core.{IsStart}
+use Rattle.phase_engine.specs.declared.hand.Hand.{Hand}
+use Rattle.phase_engine.specs.Hands.{IsFresh}
+use Rattle.phase_engine.specs.Routing.{IsRoutedPhase}
 use Rattle.flow_solver.specs.declared.search.Search.{Search}
-use Rattle.flow_solver.specs.Search.{IsRouted}
+use Rattle.flow_solver.specs.Search.{AreIdle}
+use Rattle.flow_solver.proofs.Routing.{start-of, loads-size, fresh-hands, idle-again, routed-phase}
 use Rattle.flow_solver.proofs.search.route.Goals as goal
+
+-- what holds where a call answers with Ok
+on_ok : {T E P Q : Type 0} (r : Result T E) → (P → Q) → OnOk r P → OnOk r Q
+on_ok (Ok x) f p = f p
+on_ok (Err e) f p = tt
+
+pub phase_over-requires-clause-start : goal.phase_over-requires-clause-start
+phase_over-requires-clause-start g c κs within =
+    let net = c.args.task.now.on.now.net.now in
+    let old = c.args.search.now in
+    let hands = with_items_is old.hands c.forget_all.new.hands (omega arith) in
+    let now : c.deref_mut-3.result.now ≡ c.forget_all.new.hands = c.deref_mut-3.ensures.value ∙ hands in
+    let idle = c.requires.search.hands in
+    let count = ap (λ (xs : List Hand). length xs) now in
+    subst (λ (base : List ℕ). IsStart (record { net = net; setting = c.args.task.now.setting; base = base; workers = length c.deref_mut-3.result.now })) (sym c.deref_mut-2.ensures.value)
+    (start-of net c.args.task.now.setting old (length c.deref_mut-3.result.now) c.commodities-commodities.ensures.net c.requires.search c.requires.phases (omega (arith, idle.some)) (omega (arith, idle.few)) (loads-size net old c.requires.search))
 
 pub returns : goal.returns
 returns g c =
-    let P : Search × Search → Type 0 = λ s. OnOk c.route_hands-routed.result (IsRouted c.args.task.now.on.now.net.now c.args.task.now.setting s.0 s.1) in
-    record { routed = subst P (λ i. (c.exchange.ensures i, sym c.exchange-2.ensures i)) c.route_hands-routed.ensures.routed }
+    let net = c.args.task.now.on.now.net.now in
+    let old = c.args.search.now in
+    let fresh_hands = c.deref_mut-3.result.now in
+    let loads = with_items_is old.loads c.phase_over.new.loads (omega arith) in
+    let first = with_items_is old.hands c.forget_all.new.hands (omega arith) in
+    let hands = with_items_is (with_items old.hands c.forget_all.new.hands) c.phase_over.new.hands (omega arith) in
+    let before : fresh_hands ≡ c.forget_all.new.hands = c.deref_mut-3.ensures.value ∙ first in
+    let new : Search = record {
+      loads = with_items old.loads c.phase_over.new.loads;
+      room = old.room;
+      hands = with_items (with_items old.hands c.forget_all.new.hands) c.phase_over.new.hands;
+      history = old.history;
+      sought = old.sought;
+    } in
+    let idle = c.requires.search.hands in
+    let fresh : (k : ℕ) (d : Hand) → k < length fresh_hands → IsFresh net k (get_or fresh_hands k d) =
+    subst (λ (hs : List Hand). (k : ℕ) (d : Hand) → k < length hs → IsFresh net k (get_or hs k d)) (sym before)
+    (fresh-hands net c.deref_mut.result.now c.forget_all.new.hands (subst (AreIdle net) (sym c.deref_mut.ensures.value) idle) (omega arith) c.forget_all.ensures) in
+    let count = ap (λ (xs : List Hand). length xs) before in
+    let old_count = ap (λ (xs : List Hand). length xs) c.deref_mut.ensures.value in
+    let size = loads-size net old c.requires.search in
+    record {
+      routed = on_ok c.phase_over.result (λ ok.
+          let routed : IsRoutedPhase net c.args.task.now.setting old.loads.items new.loads.items new.hands.items =
+          subst (λ (hs : List Hand). IsRoutedPhase net c.args.task.now.setting old.loads.items new.loads.items hs) (sym hands)
+          (subst (λ (xs : List ℕ). IsRoutedPhase net c.args.task.now.setting old.loads.items xs c.phase_over.new.hands) (sym loads)
+          (subst (λ (xs : List ℕ). IsRoutedPhase net c.args.task.now.setting xs c.phase_over.new.loads c.phase_over.new.hands) c.deref_mut-2.ensures.value ok)) in
+          routed-phase net c.args.task.now.setting old new c.commodities-commodities.ensures.net c.requires.search c.requires.phases routed
+          (ap (λ (xs : List ℕ). length xs) loads ∙ omega (arith, size, c.phase_over.auto.loads, c.deref_mut-2.ensures.len))
+          (subst (AreIdle net) (sym hands) (idle-again net fresh_hands c.phase_over.new.hands (omega (arith, idle.some)) (omega (arith, idle.few)) fresh (omega arith) c.phase_over.ensures.back c.phase_over.ensures.turns c.phase_over.ensures.rooms))
+          (omega arith) refl refl) c.phase_over.ensures.ok;
+    }
