@@ -9,7 +9,6 @@ pub mod Times
 pub mod OneMore
 pub mod Placed
 pub mod Named
-pub mod RowsFound
 pub mod Renumbered
 pub mod Sent
 pub mod Turning

@@ -1,9 +1,9 @@
 -- A phase that is being added: its first entries, with their rows.
-use Rattle.std.specs.Prelude.{◌≡◌, ℕ, ◌+◌, ◌*◌, ◌<◌, ◌≤◌, List, [], ◌∷◌, ◌++◌, All, Contains, Option, MatchOption, Some, length, slice_get, slice_index_or}
+use Rattle.std.specs.Prelude.{◌≡◌, ℕ, ◌+◌, ◌*◌, ◌<◌, ◌≤◌, List, [], ◌∷◌, ◌++◌, All, Contains, Some, length, slice_get, slice_index_or}
 use Rattle.mcf_limits.specs.declared.TheConstants.{MAX_DEMANDS, MAX_PHASES, MAX_WORK}
 use Rattle.flow_model.specs.Network.{Network}
 use Rattle.flow_model.specs.Routing.{Row}
-use Rattle.flow_paths.specs.PathRows.{row_at, HasNoRow, IsFirstRow}
+use Rattle.flow_paths.specs.PathRows.{row_at}
 use Rattle.phase_engine.specs.declared.hand.Hand.{Hand}
 use Rattle.phase_engine.specs.Routing.{HasRouted}
 use Rattle.flow_core.specs.Phase.{Routed}
@@ -42,10 +42,6 @@ pub record CanBeNoted (net : Network) (h : HistoryView) (places : List Place) : 
 pub record IsNoted (net : Network) (places : List Place) (old new : HistoryView) : Type 0 where
   pub rows : AreRowsFor net new.history new.rows
   pub phases : (hands : List Hand) (entries : List Routed) → ArePlaces net hands places → IsRoutedOnce net hands entries → phases_kept new ≡ phases_kept old ++ entries ∷ []
-
--- the first row of commodity k and of its path, or none where there is none
-pub record IsRowFor (rows : List Row) (places : List Place) (k : ℕ) (row : Option ℕ) : Type 0 where
-  pub is : MatchOption row (HasNoRow rows k (path_at places k)) (IsFirstRow rows k (path_at places k))
 
 -- rows are appended, and the old ones keep their commodity and path
 pub record KeepsRows (old new : List Row) : Type 0 where

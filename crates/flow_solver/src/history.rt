@@ -3,8 +3,7 @@
 ghost use Rattle.std.specs.Prelude.{◌≡◌};
 
 use crate::entries::Entries;
-use crate::found::find_rows;
-use crate::noted::Sought;
+use crate::noted::{Sought, make_room};
 use crate::places::Place;
 use flow_model::Net;
 use flow_paths::{PathStore, new_numbers, order_of, stored};
@@ -41,12 +40,12 @@ impl Model for PathHistory {
 }
 
 impl PathHistory {
-    ghost use Rattle.std.specs.Prelude.{◌≡◌, ℕ, ◌+◌, ◌*◌, ◌<◌, ◌≤◌, [], OnOk, OnErr, IfOk, MatchOption, length, map, slice_index_or};
+    ghost use Rattle.std.specs.Prelude.{◌≡◌, ℕ, ◌+◌, ◌*◌, ◌<◌, ◌≤◌, [], OnOk, OnErr, IfOk, length, map};
     ghost use Rattle.flow_model.specs.Network.{Network};
-    ghost use Rattle.flow_paths.specs.PathRows.{row_at, HasNoRow, IsFirstRow, Adds};
+    ghost use Rattle.flow_paths.specs.PathRows.{row_at, IsFirstRow, Adds};
     ghost use Rattle.solver_run.specs.History.{routed_in, AreRowsOf};
     ghost use Rattle.flow_solver.specs.Rows.{phases_kept, AreApart, AreRowsFor};
-    ghost use Rattle.flow_solver.specs.Adding.{CanBeNoted, IsNoted, IsRowFor, KeepsRows, AreBegun, AreNamed};
+    ghost use Rattle.flow_solver.specs.Adding.{CanBeNoted, IsNoted, KeepsRows, AreBegun, AreNamed};
 
     /// No phase and no row, for the commodities of the network.
     pub fn new(alloc: Global, net: &Net) -> Self
@@ -66,24 +65,16 @@ impl PathHistory {
         self.entries.phases()
     }
 
-    /// Looks for the first row of this commodity and path, where no two rows are alike.
-    pub(crate) fn seek(&self, k: u32, path: &[u16], one: &mut Sought)
-        requires { AreApart self.now.rows }
-        ensures { MatchOption one.new.row (HasNoRow self.now.rows k path.now) (IsFirstRow self.now.rows k path.now) }
-    {
-        one.seek(&self.paths, k, path);
-    }
-
-    /// Adds a path to the rows: its row grows where it was found, and else there is none, so one is appended.
+    /// Adds a path to the rows, no two of which are alike: its row grows, or, where there is none, one is appended. It is looked for first
+    /// where the commodity was found before.
     fn add_path(
         &mut self,
-        found: Option<u32>,
+        one: &mut Sought,
         k: u32,
         path: &[u16],
         amount: u64,
     ) -> Result<u32, AllocError>
-        requires found { MatchOption found (HasNoRow self.old.rows k path.now)
-            (IsFirstRow self.old.rows k path.now) }
+        requires apart { AreApart self.old.rows }
         requires room { length self.old.rows < 4294967295 }
         requires amount { amount ≤ MAX_LENGTH }
         requires weight { (n : ℕ) → IsFirstRow self.old.rows k path.now n
@@ -93,30 +84,29 @@ impl PathHistory {
         ensures ok { IfOk result (Adds self.old.rows self.new.rows k path.now amount) }
         ensures err { OnErr result (self.new.rows ≡ self.old.rows) }
     {
-        match found {
-            Some(row) => {
-                self.paths.grow(row, amount);
-                Ok(row)
-            }
-            None => self.paths.push(k, path, amount),
+        if let Some(row) = one.known(&self.paths, k, path) {
+            one.keep(row);
+            self.paths.grow(row, amount);
+            return Ok(row);
         }
+        let row = self.paths.add(k, path, amount)?;
+        one.note(path, row);
+        Ok(row)
     }
 
-    /// Adds the path of each commodity to the rows, as it was found among them or not, and answers the entries.
+    /// Adds the path of each commodity to the rows, and answers the entries.
     fn name_rows(
         &mut self,
         alloc: Global,
         net: &Net,
         places: &[Place],
-        found: &[Sought],
+        sought: &mut [Sought],
     ) -> Result<Vec<Entry>, AllocError>
         requires rows { AreRowsFor net.now self.old.history self.old.rows }
         requires phases { length self.old.history < MAX_PHASES }
         requires work { length net.now.commodities * (length self.old.history + 1) ≤ MAX_WORK }
         requires count { length places.now ≡ length net.now.commodities }
-        requires found_count { length found.now ≡ length net.now.commodities }
-        requires found { (k : ℕ) (d : _) → k < length net.now.commodities
-            → IsRowFor self.old.rows places.now k (slice_index_or found.now k d).row }
+        requires sought { length sought.old ≡ length net.now.commodities }
         ensures commodities { self.new.commodities ≡ self.old.commodities }
         ensures history { self.new.history ≡ self.old.history }
         ensures keeps { KeepsRows self.old.rows self.new.rows }
@@ -128,7 +118,7 @@ impl PathHistory {
         let mut entries = Vec::with_capacity(alloc, commodities.len())?;
         for k in 0..commodities.len() {
             let row = self.add_path(
-                found[k].row,
+                &mut sought[k],
                 k as u32,
                 places[k].path,
                 commodities[k].amount,
@@ -138,7 +128,6 @@ impl PathHistory {
                 row,
             })?;
         }
-        self.paths.index_rows()?;
         Ok(entries)
     }
 
@@ -157,7 +146,7 @@ impl PathHistory {
         ensures noted { OnOk result (IsNoted net.now places.now self.old self.new) }
         ensures err { OnErr result (phases_kept self.new ≡ phases_kept self.old) }
     {
-        find_rows(alloc, self, places, sought)?;
+        make_room(alloc, sought, places.len())?;
         let entries = self.name_rows(alloc, net, places, sought)?;
         self.entries.push(&entries)?;
         Ok(())

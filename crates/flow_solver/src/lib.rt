@@ -5,7 +5,6 @@
 mod bounding;
 mod entries;
 mod filling;
-mod found;
 mod hands;
 mod history;
 mod kept;

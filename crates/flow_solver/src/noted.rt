@@ -1,10 +1,10 @@
 //! The rows that a commodity was found at of late: hints, of which no contract speaks.
 
-ghost use Rattle.std.specs.Prelude.{⊤, MatchOption};
-ghost use Rattle.flow_paths.specs.PathRows.{HasNoRow, IsFirstRow};
-ghost use Rattle.flow_solver.specs.Rows.{AreApart, IsRowOf};
+ghost use Rattle.std.specs.Prelude.{◌≡◌, ⊤, MatchOption, OnOk, length};
+ghost use Rattle.flow_solver.specs.Rows.{IsRowOf};
 
 use flow_paths::PathStore;
+use std::alloc::{AllocError, Global};
 
 /// How many rows are noted of a commodity.
 const NOTED_ROWS: usize = 8;
@@ -46,14 +46,12 @@ impl NotedRows {
         found
     }
 
-    /// Notes a row, if there is one, in the place of that which was noted first.
-    fn note(&mut self, mark: u32, row: Option<u32>) {
-        if let Some(row) = row {
-            let place = self.next as usize % NOTED_ROWS;
-            self.marks[place] = mark;
-            self.rows[place] = row;
-            self.next = (place as u8 + 1) % NOTED_ROWS as u8;
-        }
+    /// Notes a row, in the place of that which was noted first.
+    fn note(&mut self, mark: u32, row: u32) {
+        let place = self.next as usize % NOTED_ROWS;
+        self.marks[place] = mark;
+        self.rows[place] = row;
+        self.next = (place as u8 + 1) % NOTED_ROWS as u8;
     }
 }
 
@@ -79,52 +77,64 @@ fn mark_of(path: &[u16]) -> u32 {
     })
 }
 
-/// The row of a commodity and its path that was looked for last, if there is one, and those that were found of late.
+/// The row at which a commodity was found last, and those at which it was found of late.
 #[derive(Clone, Copy)]
 pub struct Sought {
-    pub row: Option<u32>,
+    last: u32,
     noted: NotedRows,
 }
 
 impl Sought {
-    /// Nothing was looked for.
+    /// Nothing was found.
     pub fn new() -> Self {
         Sought {
-            row: None,
+            last: NO_ROW,
             noted: NotedRows::new(),
         }
     }
 
-    /// Looks for the first row of this commodity and path, where no two rows are alike. Mostly it is the one that was looked for last,
-    /// and else mostly one that was noted.
-    pub(crate) fn seek(&mut self, paths: &PathStore, k: u32, path: &[u16])
-        requires { AreApart paths.now }
-        ensures { MatchOption self.new.row (HasNoRow paths.now k path.now) (IsFirstRow paths.now k path.now) }
+    /// A row of this commodity and path, among those where the commodity was found: mostly it is the last one, and else mostly one that
+    /// was noted. `None` says nothing of other rows.
+    pub(crate) fn known(&self, paths: &PathStore, k: u32, path: &[u16]) -> Option<u32>
+        ensures { MatchOption result ⊤ (IsRowOf paths.now k path.now) }
     {
-        self.row = noted_row(paths, self.row.unwrap_or(NO_ROW), k, path);
-        if self.row.is_none() {
-            self.seek_noted(paths, k, path);
+        let last = noted_row(paths, self.last, k, path);
+        if last.is_some() {
+            return last;
         }
+        noted_row(paths, self.noted.row_of(mark_of(path)), k, path)
     }
 
-    /// The same among the rows that were noted, and then among all.
-    fn seek_noted(&mut self, paths: &PathStore, k: u32, path: &[u16])
-        requires { AreApart paths.now }
-        ensures { MatchOption self.new.row (HasNoRow paths.now k path.now) (IsFirstRow paths.now k path.now) }
-    {
-        let mark = mark_of(path);
-        self.row = noted_row(paths, self.noted.row_of(mark), k, path);
-        if self.row.is_none() {
-            self.row = paths.find(k, path);
-            self.noted.note(mark, self.row);
-        }
+    /// The commodity was found at this row, which was known.
+    pub(crate) fn keep(&mut self, row: u32) {
+        self.last = row;
     }
+
+    /// The commodity was found at this row of its path, which was not known.
+    pub(crate) fn note(&mut self, path: &[u16], row: u32) {
+        self.last = row;
+        self.noted.note(mark_of(path), row);
+    }
+}
+
+/// Makes room for what is known of so many commodities, where there is another number.
+pub(crate) fn make_room(
+    alloc: Global,
+    sought: &mut Vec<Sought>,
+    count: usize,
+) -> Result<(), AllocError>
+    ensures { OnOk result (length sought.new.items ≡ count) }
+{
+    if sought.len() != count {
+        *sought = vec![in alloc; Sought::new(); count]?;
+    }
+    Ok(())
 }
 
 /// The row of that number, if it is there and is of this commodity and path.
 #[inline(always)]
 fn noted_row(paths: &PathStore, row: u32, k: u32, path: &[u16]) -> Option<u32>
-    ensures { MatchOption result ⊤ (λ n. IsRowOf paths.now k path.now n) }
+    ensures { MatchOption result ⊤ (IsRowOf paths.now k path.now) }
 {
     if row < paths.rows() && paths.has_path(row, k, path) {
         Some(row)

@@ -41,7 +41,7 @@ pub(crate) struct Task<'a, G> {
 }
 
 impl<'a, G, R> Run<'a, G, R> {
-    /// In how many threads beside the caller's rows of a bound are filled at most, of those that a crew for all workers has.
+    /// How many threads of a crew fill rows of a bound at most, beside the caller's.
     pub(crate) fn others(&self) -> u16 {
         self.threads.min(self.options.workers).saturating_sub(1)
     }

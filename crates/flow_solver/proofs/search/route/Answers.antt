@@ -1,5 +1,5 @@
 use Rattle.std.proofs.Common.{◌≡◌, ℕ, ◌<◌, length, refl, sym, ap, ◌∙◌, subst, arith, get_or, List}
-use Rattle.std.specs.Prelude.{Ok, Err, Result, OnOk}
+use Rattle.std.proofs.lemmas.Result.{on_ok_weaker}
 use Rattle.std.proofs.lemmas.List.{with_items_is}
 use Rattle.std.specs.Vec.{with_items}
 use Rattle.flow_core.specs.Core.{IsStart}
@@ -10,11 +10,6 @@ use Rattle.flow_solver.specs.declared.search.Search.{Search}
 use Rattle.flow_solver.specs.Search.{AreIdle}
 use Rattle.flow_solver.proofs.Routing.{start-of, loads-size, fresh-hands, idle-again, routed-phase}
 use Rattle.flow_solver.proofs.search.route.Goals as goal
-
--- what holds where a call answers with Ok
-on_ok : {T E P Q : Type 0} (r : Result T E) → (P → Q) → OnOk r P → OnOk r Q
-on_ok (Ok x) f p = f p
-on_ok (Err e) f p = tt
 
 pub phase_over-requires-clause-start : goal.phase_over-requires-clause-start
 phase_over-requires-clause-start g c κs within =
@@ -51,7 +46,7 @@ returns g c =
     let old_count = ap (λ (xs : List Hand). length xs) c.deref_mut.ensures.value in
     let size = loads-size net old c.requires.search in
     record {
-      routed = on_ok c.phase_over.result (λ ok.
+      routed = on_ok_weaker c.phase_over.result (λ ok.
           let routed : IsRoutedPhase net c.args.task.now.setting old.loads.items new.loads.items new.hands.items =
           subst (λ (hs : List Hand). IsRoutedPhase net c.args.task.now.setting old.loads.items new.loads.items hs) (sym hands)
           (subst (λ (xs : List ℕ). IsRoutedPhase net c.args.task.now.setting old.loads.items xs c.phase_over.new.hands) (sym loads)

@@ -1,9 +1,9 @@
 use denote.Exit.{no}
+use Rattle.std.proofs.lemmas.Result.{IfOk-weaker}
 use denote.Param.Send.{arg_send, param_send, param_sync}
 use Rattle.std.proofs.Common.{rules, arith}
 use Rattle.std.proofs.lemmas.List.{with_items_is}
 use Rattle.std.specs.Arc.{arc_value}
-use Rattle.std.specs.Prelude.{Result, Ok, Err, IfOk}
 use Rattle.flow_solver.proofs.Sent.{share-send}
 use Rattle.flow_solver.proofs.Turning.{waits-all, some-all, runs-all}
 use Rattle.flow_solver.proofs.turn.take_all.Goals as goal
@@ -23,9 +23,5 @@ hands_of-requires-after_bounds g c κs within =
 pub returns-clause-runs : goal.returns-clause-runs
 returns-clause-runs g c =
     let now = with_items_is c.in_ok-turns.turns c.work_each.new.jobs (omega arith) in
-    on_ok c.hands_of.result (λ back. runs-all (arc_value c.args.loads.now) c.args.hands.items back.items c.in_ok-turns.turns.items c.deref_mut.result.now c.work_each.new.jobs _
+    IfOk-weaker c.hands_of.result _ _ (λ back. runs-all (arc_value c.args.loads.now) c.args.hands.items back.items c.in_ok-turns.turns.items c.deref_mut.result.now c.work_each.new.jobs _
     c.in_ok-turns.ensures.count c.in_ok-turns.ensures.turns c.deref_mut.ensures.value (omega arith) (search rules) now) c.hands_of.ensures.hands
-  where
-    on_ok : {T E : Type 0} {P Q : T → Type 0} (r : Result T E) → ((x : T) → P x → Q x) → IfOk r P → IfOk r Q
-    on_ok (Ok x) f p = f x p
-    on_ok (Err e) f p = tt

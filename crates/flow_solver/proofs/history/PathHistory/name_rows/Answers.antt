@@ -7,18 +7,11 @@ use Rattle.flow_model.specs.Network.{IsCommodity}
 use Rattle.flow_paths.specs.PathRows.{Adds}
 use Rattle.solver_run.specs.declared.options.Entry.{Entry}
 use Rattle.flow_solver.specs.Adding.{no_place, path_at}
-use Rattle.flow_solver.proofs.RowsFound.{still_found, new_more}
 use Rattle.flow_solver.proofs.Named.{can_add, adds_begun, adds_named, adds_keep}
 use Rattle.flow_solver.proofs.history.PathHistory.name_rows.Goals as goal
 
 no_commodity : Commodity
 no_commodity = record { from = 0; to = 0; amount = 0 }
-
-pub add_path-requires-clause-found : goal.add_path-requires-clause-found
-add_path-requires-clause-found c =
-    let k = c.loop-k.k in
-    let l : k < length c.args.net.now.commodities = subst (λ (t : List Commodity). k < length t) c.commodities-commodities.ensures.value c.loop-k-test.true in
-    still_found c.args.self.now.rows c.loop-k.self.rows c.args.places.now k _ c.loop-k.invariant.keeps c.loop-k.invariant.begun.apart c.loop-k.invariant.below (c.requires.found k _ l)
 
 pub add_path-requires-clause-weight : goal.add_path-requires-clause-weight
 unfolding no_commodity
@@ -56,7 +49,6 @@ loop-k-preserved c =
       commodities = c.in_ok-row.ensures.commodities ∙ c.loop-k.invariant.commodities;
       history = c.in_ok-row.ensures.history ∙ c.loop-k.invariant.history;
       keeps = adds_keep c.args.self.now.rows old new path k c.in_ok-row.row this.amount c.loop-k.invariant.keeps adds;
-      below = new_more c.args.self.now.rows old new path k c.in_ok-row.row this.amount adds c.loop-k.invariant.below;
       begun = rw pushed (adds_begun net c.args.self.now.history es old new path this k c.in_ok-row.row p.hand c.loop-k.invariant.count c.loop-k.invariant.begun (slice_get-get_or net.commodities k no_commodity l) adds);
       named = rw pushed (adds_named net c.args.self.now.history c.args.places.now es old new k c.in_ok-row.row this.amount c.loop-k.invariant.count c.loop-k.invariant.begun adds c.loop-k.invariant.named);
     }

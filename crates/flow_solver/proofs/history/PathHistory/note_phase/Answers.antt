@@ -38,7 +38,7 @@ returns-clause-noted c = record {
       let h = c.args.self.now.history in
       let es = c.in_ok-entries.entries.items in
       let r : c.self.inside.paths ≡ new = ap (λ (v : HistoryView). v.rows) c.self.view_is in
-      let p : c.push.new.self.phases ≡ h ++ es ∷ [] = c.in_ok-push.ensures.ok ∙ ap (λ (t : List (List Entry)). t ++ c.deref-2.result.now ∷ []) (ap (λ (v : HistoryView). v.history) c.self.view_is ∙ c.name_rows.ensures.history) ∙ ap (λ (t : List Entry). h ++ t ∷ []) c.deref-2.ensures.value in
+      let p : c.push.new.self.phases ≡ h ++ es ∷ [] = c.in_ok-push.ensures.ok ∙ ap (λ (t : List (List Entry)). t ++ c.deref.result.now ∷ []) (ap (λ (v : HistoryView). v.history) c.self.view_is ∙ c.name_rows.ensures.history) ∙ ap (λ (t : List Entry). h ++ t ∷ []) c.deref.ensures.value in
       subst (AreRowsFor c.args.net.now c.push.new.self.phases) (sym r) (subst (λ (t : List (List Entry)). AreRowsFor c.args.net.now t new) (sym p) (ends c.args.net.now h es new c.in_ok-entries.ensures.begun c.in_ok-entries.ensures.count))
       );
   phases = λ hands entries are once. (
@@ -47,7 +47,7 @@ returns-clause-noted c = record {
       let h = c.args.self.now.history in
       let es = c.in_ok-entries.entries.items in
       let r : c.self.inside.paths ≡ new = ap (λ (v : HistoryView). v.rows) c.self.view_is in
-      let p : c.push.new.self.phases ≡ h ++ es ∷ [] = c.in_ok-push.ensures.ok ∙ ap (λ (t : List (List Entry)). t ++ c.deref-2.result.now ∷ []) (ap (λ (v : HistoryView). v.history) c.self.view_is ∙ c.name_rows.ensures.history) ∙ ap (λ (t : List Entry). h ++ t ∷ []) c.deref-2.ensures.value in
+      let p : c.push.new.self.phases ≡ h ++ es ∷ [] = c.in_ok-push.ensures.ok ∙ ap (λ (t : List (List Entry)). t ++ c.deref.result.now ∷ []) (ap (λ (v : HistoryView). v.history) c.self.view_is ∙ c.name_rows.ensures.history) ∙ ap (λ (t : List Entry). h ++ t ∷ []) c.deref.ensures.value in
       let places = c.args.places.now in
       let named : AreNamed places new es = c.in_ok-entries.ensures.named in
       ap (λ (t : List Row). map (routed_in t) c.push.new.self.phases) r ∙ ap (map (routed_in new)) p ∙ phase_added c.args.net.now hands places old new h es entries c.name_rows.ensures.keeps c.requires.rows.entries c.requires.count are c.in_ok-entries.ensures.count named once
