@@ -3,8 +3,8 @@
 use std::hint::spin_loop;
 use std::thread::yield_now;
 
-/// So many times a thread looks again at once, before it lets others run in between: some ten microseconds. The one that it waits for may be on
-/// the same processor, where Linux has not moved it to another yet.
+/// So many times a thread looks again at once, before it lets others run in between: some ten microseconds. The one that it waits for
+/// may be on the same processor.
 const SPINS: u64 = 200;
 
 /// So many times the owner of jobs looks whether all threads have come, which a busy system may start late. One that can't be started
