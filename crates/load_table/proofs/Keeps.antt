@@ -1,5 +1,5 @@
 -- Each step keeps the rule.
-use Rattle.std.proofs.Common.{◌≡◌, ◌≢◌, ℕ, zero, suc, ◌+◌, ◌-◌, ◌%◌, ◌^◌, ◌<◌, ◌≤◌, Bool, true, false, nat_eq, nat_lt, List, [], ◌∷◌, ◌++◌, length, get_or, set, min, refl, sym, ap, ◌∙◌, subst, ⊎_elim, arith, add-one, get_or-set_same, get_or-set_other, length-set, length-append, eq-eqb, ne_eqb}
+use Rattle.std.proofs.Common.{◌≡◌, ◌≢◌, ℕ, zero, suc, ◌+◌, ◌-◌, ◌*◌, ◌%◌, ◌^◌, ◌<◌, ◌≤◌, Bool, true, false, nat_eq, nat_lt, List, [], ◌∷◌, ◌++◌, length, get_or, set, min, refl, sym, ap, ◌∙◌, subst, ⊎_elim, arith, add-one, get_or-set_same, get_or-set_other, length-set, length-append, eq-eqb, ne_eqb}
 use Rattle.std.proofs.lemmas.Bool.Decides.{nat_tests}
 use Rattle.std.proofs.lemmas.List.{get_or_default, set-get_or, length-map}
 use mathlib.Core.Logic.{dite}
@@ -21,7 +21,7 @@ use Rattle.load_table.specs.declared.view.Hand.{Hand}
 use Rattle.load_table.specs.declared.view.Known.{Known}
 use Rattle.load_table.specs.Views.{known, first_known, times_in, hands_of, made_of, splits_of, first_works, with_work, keeps_known, cuts_known, joins_known, spent_known}
 use Rattle.flow_model.specs.declared.net.Commodity.{Commodity}
-use Rattle.load_table.specs.Rule.{AllFallBelow, AllFit, FitsView, Kept, Holds, words_of, IsStep, first_number, M, Claimed, HasRead, Added, MayClaim, LastReads, MayRead, MayAdd, MayClose, Closes}
+use Rattle.load_table.specs.Rule.{AllFallBelow, AllFit, FitsView, Kept, Holds, words_of, IsStep, first_number, M, Claimed, HasRead, Added, HasReadAt, AddedAt, HasApart, MayClaim, LastReads, MayRead, MayAdd, MayClose, Closes}
 use Rattle.load_table.proofs.Totals.{total-put, total-snoc, total-append, total-of, total-two, total-whole, same_lists}
 
 abbrev St : Type 0
@@ -158,6 +158,26 @@ stepped_so t s k id v h event i at alone same legal =
       now_is = refl;
     }
 
+-- what may be read or added to is there
+
+pub read_inside : (t : Terms) (c : ℕ) (hs : List Hand) → MayRead t c hs → c < cell_count t
+read_inside t c [] may = absurd may
+read_inside t c (h ∷ []) may = last h.work.log may
+  where
+    last : (log : List Entry) → LastReads t c log → c < cell_count t
+    last [] l = absurd l
+    last (e ∷ es) l = l.1
+read_inside t c (h ∷ i ∷ hs) may = absurd may
+
+pub add_inside : (t : Terms) (n c : ℕ) (hs : List Hand) → MayAdd t n c hs → (c < cell_count t) × (n < commodity_count t)
+add_inside t n c [] may = absurd may
+add_inside t n c (h ∷ []) may = (may.0, last h.work.log may.1)
+  where
+    last : (log : List Entry) → LastMayAdd t n c log → n < commodity_count t
+    last [] l = absurd l
+    last (e ∷ es) l = l.1
+add_inside t n c (h ∷ i ∷ hs) may = absurd may
+
 -- the claim
 
 claim_moves : (t : Terms) (s : core.State) (count found : ℕ) (h : Hand) → count ≡ ticket_count t → found ≡ s.claims → h.number < length s.workers → worker_at s h.number ≡ h.work
@@ -171,13 +191,41 @@ claim_moves t s count found h c f inside is going complete = record {
 abbrev pub Can : Terms → St → ℕ → M → ℕ → ℕ → (M → Type 0) → Type 0
 Can t s id me i n then = (w : Known) × Kept t record { words = set s.words i n; homes = s.homes; views = set s.views id w } × then (w, me.1) × (words_of w.seen ≡ set s.words i n)
 
--- what `Allows` asks of several workers
-pub several : (t : Terms) (slots id : ℕ) (me : M) (i : ℕ) (f : ℕ → ℕ) (then : ℕ → M → Type 0) → 1 < t.workers
+-- the words stay apart where one of them changes
+apart_set : (table words : List ℕ) (i x : ℕ) → i < length words → HasApart table words → HasApart (set table (8 * i) x) (set words i x)
+apart_set table words i x inside apart = record {
+  room = (let a = length-set table (8 * i) x in let b = length-set words i x in let r = apart.room in omega arith);
+  each = λ k l. dite (ℕ_discrete k i)
+      (λ same. subst (λ (j : ℕ). get_or (set table (8 * i) x) (8 * j) 0 ≡ get_or (set words i x) j 0) (sym same)
+      (get_or-set_same table (8 * i) x 0 (let r = apart.room in omega arith) ∙ sym (get_or-set_same words i x 0 inside)))
+      (λ other. get_or-set_other table (8 * i) (8 * k) x 0 (λ e. other (let f : 8 * k ≡ 8 * i = e in omega arith))
+      ∙ (apart.each k (let b = length-set words i x in omega arith) ∙ sym (get_or-set_other words i k x 0 other)));
+}
+
+-- how many words there are
+kept_count : (t : Terms) (s : St) → Kept t s → length s.words ≡ cell_count t + 1
+kept_count t s k =
+    let old : core.State = after_schedule t (start t) k.events in
+    let law = loads_of t old k.is_start (laws t k.events k.is_start k.legal) in
+    ap (λ (ws : List ℕ). length ws) k.words ∙ (let l = law.cells in omega arith)
+
+-- what `Allows` asks of several workers, of the word at this place
+pub several : (t : Terms) (slots id : ℕ) (me : M) (i : ℕ) (f : ℕ → ℕ) (then : ℕ → M → Type 0) → 1 < t.workers → i < cell_count t + 1
     → ((s : St) → Kept t s → get_elem? s.views id ≡ some me.0 → Can t s id me i (f (get_or s.words i 0)) (then (get_or s.words i 0)))
-    → Allows (Holds t) slots id me i f then
-several t slots id me i f then more can s h _ at small =
-    let r = can s (h.several more) at in
-    (r.0, keeps, tt, record { one = λ is. absurd (omega arith); several = λ _. r.1 }, r.2)
+    → Allows (Holds t) slots id me (8 * i) f then
+several t slots id me i f then more inside can s h _ at small =
+    let a = h.several more in
+    let ws : List ℕ = a.0 in
+    let here : St = record { words = ws; homes = s.homes; views = s.views } in
+    let long : i < length ws = (let n = kept_count t here a.2 in omega arith) in
+    let same : get_or ws i 0 ≡ get_or s.words (8 * i) 0 = sym (a.1.each i long) in
+    let r = can here a.2 at in
+    let x : ℕ = f (get_or ws i 0) in
+    let y : ℕ = f (get_or s.words (8 * i) 0) in
+    let now : x ≡ y = ap f same in
+    let P : ℕ → Type 0 = λ z. then z (r.0, me.1) in
+    let apart : HasApart (set s.words (8 * i) y) (set ws i x) = subst (λ (z : ℕ). HasApart (set s.words (8 * i) z) (set ws i x)) now (apart_set s.words ws i x long a.1) in
+    (r.0, keeps, tt, record { one = λ is. absurd (omega arith); several = λ _. (set ws i x, apart, r.1) }, subst P same r.2)
 
 pub claims_of : (t : Terms) (slots id : ℕ) (me : M) (s : St) (k : Kept t s) → get_elem? s.views id ≡ some me.0 → me.0.view.terms ≡ t → (hs : List Hand) → me.0.view.hands ≡ hs → MayClaim t hs
     → Can t s id me 0 ((get_or s.words 0 0 + 1) % 18446744073709551616) (Claimed (step slots 0 1 0 none) me (get_or s.words 0 0))
@@ -202,7 +250,7 @@ claims_of t slots id me s k at same (h ∷ []) is may =
     )
 
 pub claims : (t : Terms) (slots id : ℕ) (me : M) → 1 < t.workers → me.0.view.terms ≡ t → MayClaim t me.0.view.hands → Allows (Holds t) slots id me 0 (λ n. (n + 1) % 2 ^ 64) (Claimed (step slots 0 1 0 none) me)
-claims t slots id me more same may = several t slots id me 0 (λ n. (n + 1) % 2 ^ 64) (Claimed (step slots 0 1 0 none) me) more (λ s k at. claims_of t slots id me s k at same me.0.view.hands refl may)
+claims t slots id me more same may = several t slots id me 0 (λ n. (n + 1) % 2 ^ 64) (Claimed (step slots 0 1 0 none) me) more (omega arith) (λ s k at. claims_of t slots id me s k at same me.0.view.hands refl may)
 
 -- the read
 
@@ -241,8 +289,8 @@ reads_of t slots id c me s k at same (h ∷ []) is may =
       sym (set-get_or s.words (c + 1) 0 ∙ k.words),
     )
 
-pub reads : (t : Terms) (slots id c : ℕ) (me : M) → 1 < t.workers → me.0.view.terms ≡ t → MayRead t c me.0.view.hands → Allows (Holds t) slots id me (c + 1) (λ n. n) (HasRead (step slots (c + 1) 0 0 none) me)
-reads t slots id c me more same may = several t slots id me (c + 1) (λ n. n) (HasRead (step slots (c + 1) 0 0 none) me) more (λ s k at. reads_of t slots id c me s k at same me.0.view.hands refl may)
+pub reads : (t : Terms) (slots id c : ℕ) (me : M) → 1 < t.workers → me.0.view.terms ≡ t → MayRead t c me.0.view.hands → Allows (Holds t) slots id me (8 * (c + 1)) (λ n. n) (HasReadAt c (step slots (8 * (c + 1)) 0 0 none) me)
+reads t slots id c me more same may = several t slots id me (c + 1) (λ n. n) (HasRead (step slots (c + 1) 0 0 none) me) more (let few = read_inside t c me.0.view.hands may in omega arith) (λ s k at. reads_of t slots id c me s k at same me.0.view.hands refl may)
 
 -- the add
 
@@ -284,8 +332,8 @@ adds_of t slots id n c a me s k at same (h ∷ []) is may amount =
       sym words,
     )
 
-pub adds : (t : Terms) (slots id n c a : ℕ) (me : M) → 1 < t.workers → me.0.view.terms ≡ t → MayAdd t n c me.0.view.hands → a ≡ amount_of t n → Allows (Holds t) slots id me (c + 1) (λ m. (m + a) % 2 ^ 64) (Added n (step slots (c + 1) a 0 none) me)
-adds t slots id n c a me more same may amount = several t slots id me (c + 1) (λ m. (m + a) % 2 ^ 64) (Added n (step slots (c + 1) a 0 none) me) more (λ s k at. adds_of t slots id n c a me s k at same me.0.view.hands refl may amount)
+pub adds : (t : Terms) (slots id n c a : ℕ) (me : M) → 1 < t.workers → me.0.view.terms ≡ t → MayAdd t n c me.0.view.hands → a ≡ amount_of t n → Allows (Holds t) slots id me (8 * (c + 1)) (λ m. (m + a) % 2 ^ 64) (AddedAt n c (step slots (8 * (c + 1)) a 0 none) me)
+adds t slots id n c a me more same may amount = several t slots id me (c + 1) (λ m. (m + a) % 2 ^ 64) (AddedAt n c (step slots (8 * (c + 1)) a 0 none) me) more (let few = add_inside t n c me.0.view.hands may in omega (arith, few.0)) (λ s k at. adds_of t slots id n c a me s k at same me.0.view.hands refl may amount)
 
 -- the split
 
@@ -390,7 +438,10 @@ splits t id v same some_left s h at = record {
   one = λ is. absurd (let k = h.one is in let only = only_view s.views id k.0 v k.1 at in
       let none_left : total splits_of (k.0 ∷ []) + 1 ≡ t.workers = k.2.splits in
       let more : 0 < k.0.view.left = subst (λ (u : Known). 0 < u.view.left) (sym only.1) some_left in omega arith);
-  several = λ more. splits_several t id v same some_left s (h.several more) at;
+  several = λ more. (
+      let a = h.several more in
+      (a.0, a.1, splits_several t id v same some_left record { words = a.0; homes = s.homes; views = s.views } a.2 at)
+      );
 }
 
 pub joins : (t : Terms) (id other : ℕ) (v w : Known) → v.view.terms ≡ t → Joins (Holds t) id v other w (joins_known v w) spent_known
@@ -398,7 +449,10 @@ joins t id other v w same s h at apart there = record {
   one = λ is. absurd (let k = h.one is in let only = only_view s.views id k.0 v k.1 at in
       let now : set s.views id (joins_known v w) ≡ joins_known v w ∷ [] = (λ i. set (k.1 i) (only.0 i) (joins_known v w)) in
       apart ((only_view _ other (joins_known v w) w now there).0 ∙ sym only.0));
-  several = λ more. joins_several t id other v w same s (h.several more) at apart there;
+  several = λ more. (
+      let a = h.several more in
+      (a.0, a.1, joins_several t id other v w same record { words = a.0; homes = s.homes; views = s.views } a.2 at apart there)
+      );
 }
 
 -- the start
@@ -528,35 +582,21 @@ closes t id v ws xs loads may same f long each =
 
 -- what the calls need besides
 
-pub read_inside : (t : Terms) (c : ℕ) (hs : List Hand) → MayRead t c hs → c < cell_count t
-read_inside t c [] may = absurd may
-read_inside t c (h ∷ []) may = last h.work.log may
-  where
-    last : (log : List Entry) → LastReads t c log → c < cell_count t
-    last [] l = absurd l
-    last (e ∷ es) l = l.1
-read_inside t c (h ∷ i ∷ hs) may = absurd may
-
-pub add_inside : (t : Terms) (n c : ℕ) (hs : List Hand) → MayAdd t n c hs → (c < cell_count t) × (n < commodity_count t)
-add_inside t n c [] may = absurd may
-add_inside t n c (h ∷ []) may = (may.0, last h.work.log may.1)
-  where
-    last : (log : List Entry) → LastMayAdd t n c log → n < commodity_count t
-    last [] l = absurd l
-    last (e ∷ es) l = l.1
-add_inside t n c (h ∷ i ∷ hs) may = absurd may
-
 pub amount_is : (t : Terms) (n a : ℕ) → n < commodity_count t → a ≡ get_or (amounts t) n a → a ≡ amount_of t n
 amount_is t n a few is = is ∙ get_or_default (amounts t) n a 0 (let m = length-map t.net.commodities (λ (k : Commodity). k.amount) in omega arith)
 
-pub begins_at : (t t' : Terms) (ws : List ℕ) → t' ≡ t → ws ≡ 0 ∷ t.base → IsStart t → Holds t' (opening ws [] (first_known t'))
-begins_at t t' ws same is h =
-    let P : Terms × List ℕ → Type 0 = λ x. Holds x.0 (opening x.1 [] (first_known x.0)) in
-    subst P (λ i. (sym same i, sym is i)) record { one = λ _. (first_known t, refl, begins t h); several = λ _. begins t h }
+pub begins_at : (t t' : Terms) (ws : List ℕ) → t' ≡ t → HasApart ws (0 ∷ t.base) → IsStart t → Holds t' (opening ws [] (first_known t'))
+begins_at t t' ws same apart h =
+    let P : Terms → Type 0 = λ x. Holds x (opening ws [] (first_known x)) in
+    subst P (sym same) record { one = λ _. (first_known t, refl, begins t h); several = λ _. (0 ∷ t.base, apart, begins t h) }
 
 -- several workers end as their rule says, and one alone on the words that it has seen
-pub ends_several : (t : Terms) (id : ℕ) (v : Known) (ws : List ℕ) (xs : List (Unit {0})) → 1 < t.workers → Final (Seen (Holds t) id v) ws xs → Final (Seen (Kept t) id v) ws xs
-ends_several t id v ws xs more f = (f.0, (f.1.0.several more, f.1.1), f.2, f.3, f.4)
+pub ends_several : (t : Terms) (id : ℕ) (v : Known) (ws : List ℕ) (xs : List (Unit {0})) → 1 < t.workers → Final (Seen (Holds t) id v) ws xs
+    → (words : List ℕ) × HasApart ws words × (length words ≡ cell_count t + 1) × Final (Seen (Kept t) id v) words xs
+ends_several t id v ws xs more f =
+    let a = f.1.0.several more in
+    let here : St = record { words = a.0; homes = f.0.homes; views = f.0.views } in
+    (a.0, subst (λ (us : List ℕ). HasApart us a.0) f.2 a.1, kept_count t here a.2, (here, (a.2, f.1.1), refl, f.3, f.4))
 
 pub ends_alone : (t : Terms) (id : ℕ) (v : Known) (ws : List ℕ) (xs : List (Unit {0})) → t.workers ≡ 1 → Final (Seen (Holds t) id v) ws xs → Final (Seen (Kept t) 0 v) (words_of v.seen) xs
 ends_alone t id v ws xs is f =
@@ -570,10 +610,10 @@ read_at [] i a e = absurd (some-ne-none a (sym e))
 read_at (x ∷ xs) zero a e = some-injective x a e
 read_at (x ∷ xs) (suc i) a e = read_at xs i a e
 
-pub copied : (into ws : List ℕ) (i x : ℕ) → i < length into → ((k : ℕ) → k < i → get_or into k 0 ≡ get_or ws (k + 1) 0) → get_elem? ws (i + 1) ≡ some x
-    → (k : ℕ) → k < i + 1 → get_or (set into i x) k 0 ≡ get_or ws (k + 1) 0
+pub copied : (into ws : List ℕ) (i x : ℕ) → i < length into → ((k : ℕ) → k < i → get_or into k 0 ≡ get_or ws (8 * (k + 1)) 0) → get_elem? ws (8 * (i + 1)) ≡ some x
+    → (k : ℕ) → k < i + 1 → get_or (set into i x) k 0 ≡ get_or ws (8 * (k + 1)) 0
 copied into ws i x inside below here k less = dite (ℕ_discrete k i)
-    (λ same. subst (λ (j : ℕ). get_or (set into i x) j 0 ≡ get_or ws (j + 1) 0) (sym same) (get_or-set_same into i x 0 inside ∙ sym (read_at ws (i + 1) x here)))
+    (λ same. subst (λ (j : ℕ). get_or (set into i x) j 0 ≡ get_or ws (8 * (j + 1)) 0) (sym same) (get_or-set_same into i x 0 inside ∙ sym (read_at ws (8 * (i + 1)) x here)))
     (λ apart. get_or-set_other into i k x 0 apart ∙ below k (omega arith))
 
 -- what holds where a step came

@@ -1,5 +1,5 @@
 -- The rule of the shared words, and what its steps tell.
-use Rattle.std.specs.Prelude.{◌≡◌, ℕ, ◌+◌, ◌-◌, ◌%◌, ◌^◌, ◌<◌, ◌≤◌, ◌==◌, nat_lt, false, List, [], ◌∷◌, length, slice_index, slice_set, All}
+use Rattle.std.specs.Prelude.{◌≡◌, ℕ, ◌+◌, ◌-◌, ◌*◌, ◌%◌, ◌^◌, ◌<◌, ◌≤◌, ◌==◌, nat_lt, false, List, [], ◌∷◌, length, slice_index, slice_set, All}
 use mathlib.Core.Option.{none, some}
 use lib.ListN.{get_elem?}
 use Rattle.atomic_table.specs.Table.{State, Me, Step, step}
@@ -39,6 +39,15 @@ pub record Kept (t : Terms) (s : State (Unit {0}) Known) : Type 0 where
   pub fits : (j : ℕ) (v : Known) → get_elem? s.views j ≡ some v → FitsView t (after_schedule t (start t) events) v
   pub fresh : (n : ℕ) → total made_of s.views < n → worker_at (after_schedule t (start t) events) n ≡ idle
 
+-- the table has these words, each at eight times its place: then no two share a line of memory, which processors pass on whole
+pub record HasApart (table words : List ℕ) : Type 0 where
+  pub room : 8 * length words < length table + 8
+  pub each : (i : ℕ) → i < length words → slice_index table (8 * i) ≡ slice_index words i
+
+-- some schedule leads to the words that the table has apart
+abbrev pub KeptApart : Terms → State (Unit {0}) Known → Type 0
+KeptApart t s = (words : List ℕ) × HasApart s.words words × Kept t record { words = words; homes = s.homes; views = s.views }
+
 -- the words as one list, that of claims first
 abbrev pub words_of : core.State → List ℕ
 words_of s = s.claims ∷ s.loads
@@ -50,7 +59,7 @@ KeptAlone t s = (v : Known) × (s.views ≡ v ∷ []) × Kept t record { words =
 -- the rule: of several workers, some schedule leads to the table's words; of one, to those that it has seen
 pub record Holds (t : Terms) (s : State (Unit {0}) Known) : Type 0 where
   pub one : t.workers ≡ 1 → KeptAlone t s
-  pub several : 1 < t.workers → Kept t s
+  pub several : 1 < t.workers → KeptApart t s
 
 -- the number of the first worker
 abbrev pub first_number : List Hand → ℕ
@@ -85,6 +94,14 @@ HasRead s v found w = Steps v (with_work (has_read found) v.0.view) read s.word 
 
 abbrev pub Added : ℕ → Step (Unit {0}) → M → ℕ → M → Type 0
 Added k s v found w = Steps v (with_work (has_added k (s.word - 1) found) v.0.view) (λ n. add n k (s.word - 1)) s.word found w
+
+-- a read at this cell, wherever its word lies
+abbrev pub HasReadAt : ℕ → Step (Unit {0}) → M → ℕ → M → Type 0
+HasReadAt c s v found w = HasRead (step s.slots (c + 1) 0 0 none) v found w
+
+-- an add for this commodity at this cell
+abbrev pub AddedAt : ℕ → ℕ → Step (Unit {0}) → M → ℕ → M → Type 0
+AddedAt k c s v found w = Added k (step s.slots (c + 1) (amount_of v.0.view.terms k) 0 none) v found w
 
 -- a step of one worker alone found the word that it had seen, and left this one in its place
 abbrev pub HasFoundAndPut : ℕ → (ℕ → ℕ) → (ℕ → M → Type 0) → M → M → Type 0

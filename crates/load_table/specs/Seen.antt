@@ -1,5 +1,5 @@
 -- What contracts see of the loads and of a pass.
-use Rattle.std.specs.Prelude.{◌≡◌, ℕ, ◌+◌, ◌==◌, Bool, List, length}
+use Rattle.std.specs.Prelude.{◌≡◌, ℕ, ◌+◌, ◌*◌, ◌==◌, Bool, List, length}
 use Rattle.atomic_table.specs.Seated.{TableId}
 use Rattle.flow_model.specs.Groups.{group_count}
 use Rattle.flow_core.specs.Core.{Terms, State, Event, IsStart, cell_count, amounts}
@@ -18,9 +18,9 @@ pub record PassView : Type 0 where
   pub view : View
   pub seen : State
 
--- how the shared words are kept: a word of claims and one a cell, with the amounts of the commodities, the number of groups, and whether there is one worker beside them
+-- how the shared words are kept: a word of claims and one a cell, eight words apart, with the amounts of the commodities, the number of groups, and whether there is one worker beside them
 pub record IsLoads (table : TableId) (t : Terms) (sizes : List ℕ) (groups : ℕ) (alone : Bool) : Type 0 where
-  pub words : table.words ≡ cell_count t + 1
+  pub words : table.words ≡ 8 * cell_count t + 1
   pub slots : table.slots ≡ 0
   pub is_start : IsStart t
   pub sizes_are : sizes ≡ amounts t

@@ -1,7 +1,7 @@
 //! The words that workers share, and the passes by which they step: one word of claims, and one a cell. One worker alone has the
 //! words to itself.
 
-ghost use Rattle.std.specs.Prelude.{◌≡◌, ◌+◌, ◌-◌, ◌<◌, ◌≤◌, [], ◌∷◌, map, length, All, IfOk};
+ghost use Rattle.std.specs.Prelude.{◌≡◌, ◌+◌, ◌-◌, ◌*◌, ◌<◌, ◌≤◌, [], ◌∷◌, map, length, slice_index, All, IfOk};
 ghost use Rattle.flow_core.specs.Core.{IsStart, Leads, start, claim, read, add, claimed, has_read, has_added};
 ghost use Rattle.flow_model.specs.Groups.{group_count};
 ghost use Rattle.load_table.specs.Seen.{IsPassOf, HasStepped};
@@ -9,7 +9,7 @@ ghost use Rattle.load_table.specs.Views.{first_view, with_work, cut, cut_off, jo
 ghost use Rattle.load_table.specs.Reading.{OneWhere, IsFresh, reads_all};
 ghost use Rattle.load_table.specs.Adding.{IsReadyFor, HasAddedAll, adds_along, words_along};
 ghost use Rattle.flow_model.specs.Least.{AreDifferent};
-ghost use Rattle.load_table.specs.Rule.{MayClaim, MayRead, MayAdd, MayClose, AllFallBelow, Closes};
+ghost use Rattle.load_table.specs.Rule.{MayClaim, MayRead, MayAdd, MayClose, AllFallBelow, Closes, HasApart};
 
 use crate::rule::{
     Adds, AddsAlone, AddsAlong, Claims, ClaimsAlone, Cuts, LoadRule, OfCell, OfCommodity, OfPath,
@@ -18,7 +18,7 @@ use crate::rule::{
 use crate::view::{Known, Origin};
 use atomic_table::{Seat, Table};
 use flow_model::{Commodity, Groups, Net, Setting};
-use mcf_limits::MAX_LENGTH;
+use mcf_limits::{MAX_CELLS, MAX_LENGTH};
 use std::alloc::{AllocError, Global};
 use std::marker::{Brand, Model};
 use std::snapshot::Snapshot;
@@ -67,6 +67,34 @@ fn amounts_of(alloc: Global, commodities: &[Commodity]) -> Result<Vec<u64>, Allo
     ensures { IfOk result (λ v. v.items ≡ map (λ k. k.amount) commodities.now) }
 {
     commodities.iter().map(|k| k.amount).collect(alloc)
+}
+
+/// Words of the table lie so many apart, so that none shares a line of memory with another: processors pass lines on whole, and one that
+/// adds to a word has to wait for its line.
+const APART: usize = 8;
+
+/// The words of the table: 0, and each base, apart.
+fn words_apart(alloc: Global, base: &[u64]) -> Result<Vec<u64>, AllocError>
+    requires { length base.now ≤ MAX_CELLS }
+    ensures apart { IfOk result (λ v. HasApart v.items (0 ∷ base.now)) }
+    ensures count { IfOk result (λ v. length v.items ≡ 8 * length base.now + 1) }
+{
+    let mut words = vec![in alloc; 0u64; APART * base.len() + 1]?;
+    put_apart(base, &mut words);
+    Ok(words)
+}
+
+/// Puts each base in its place.
+fn put_apart(base: &[u64], words: &mut [u64])
+    requires count { length words.old ≡ 8 * length base.now + 1 }
+    requires few { length base.now ≤ MAX_CELLS }
+    requires first { slice_index words.old 0 ≡ 0 }
+    ensures apart { HasApart words.new (0 ∷ base.now) }
+    ensures count { length words.new ≡ length words.old }
+{
+    for (cell, load) in base.iter().enumerate() {
+        words[APART * (cell + 1)] = *load;
+    }
 }
 
 fn words_over(alloc: Global, base: &[u64]) -> Result<Vec<u64>, AllocError>
@@ -121,7 +149,8 @@ impl Loads {
             words: Snapshot::of(&words),
             workers,
         };
-        let (table, seat) = Table::of_words(alloc, words.as_slice(), &origin)?;
+        let apart = words_apart(alloc, base)?;
+        let (table, seat) = Table::of_words(alloc, apart.as_slice(), &origin)?;
         let groups = groups.count();
         Ok((
             Loads {
@@ -149,7 +178,7 @@ impl Loads {
     pub fn cell_count(&self) -> u16
         ensures { result ≡ length self.now.terms.net.cells }
     {
-        (self.table.word_count() - 1) as u16
+        (self.table.word_count() / APART) as u16
     }
 
     /// A pass for the next worker, which has done nothing.
@@ -210,7 +239,9 @@ impl Loads {
         }
     }
 
-    fn read_shared(&self, pass: &mut Pass, cell: u16) -> u64
+    // The step does not see which cell it is at: the parameter tells the proof.
+    fn read_shared<L: OfCell>(&self, pass: &mut Pass, cell: u16) -> u64
+        requires placed { cell ≡ L.cell }
         requires several { 1 < self.now.terms.workers }
         requires of { IsPassOf self.now pass.old }
         requires may { MayRead self.now.terms cell pass.old.view.hands }
@@ -219,8 +250,8 @@ impl Loads {
         ensures step { HasStepped self.now pass.old pass.new read (cell + 1) result }
         ensures within { result ≤ MAX_LENGTH }
     {
-        let word = cell as usize + 1;
-        self.table.shared.load::<Reads>(&mut pass.seat, word)
+        let word = APART * (cell as usize + 1);
+        self.table.shared.load::<Reads<L>>(&mut pass.seat, word)
     }
 
     // The step does not see which cell of the pass's own words it is at: the parameter tells the proof.
@@ -251,7 +282,7 @@ impl Loads {
         if self.alone {
             self.read_at::<Brand>(pass, cell)
         } else {
-            self.read_shared(pass, cell)
+            self.read_shared::<Brand>(pass, cell)
         }
     }
 
@@ -266,7 +297,7 @@ impl Loads {
         ensures small { All (λ x. x ≤ MAX_LENGTH) reads.new }
     {
         for cell in 0..self.cell_count() {
-            reads[cell as usize] = self.read_shared(pass, cell);
+            reads[cell as usize] = self.read_shared::<Brand>(pass, cell);
         }
     }
 
@@ -301,9 +332,10 @@ impl Loads {
         }
     }
 
-    // The step does not see which commodity it is for: the parameter tells the proof.
-    fn add_for<J: OfCommodity>(&self, pass: &mut Pass, k: u32, cell: u16) -> u64
+    // The step does not see which commodity it is for, nor at which cell: the parameters tell the proof.
+    fn add_for<J: OfCommodity, L: OfCell>(&self, pass: &mut Pass, k: u32, cell: u16) -> u64
         requires named { k ≡ J.commodity }
+        requires placed { cell ≡ L.cell }
         requires several { 1 < self.now.terms.workers }
         requires of { IsPassOf self.now pass.old }
         requires may { MayAdd self.now.terms k cell pass.old.view.hands }
@@ -312,9 +344,9 @@ impl Loads {
         ensures step { HasStepped self.now pass.old pass.new (λ w. add w J.commodity cell) (cell + 1) result }
     {
         let amount = self.amounts[k as usize];
-        let word = cell as usize + 1;
+        let word = APART * (cell as usize + 1);
         let shared = &self.table.shared;
-        shared.fetch_add::<Adds<J>>(&mut pass.seat, word, amount)
+        shared.fetch_add::<Adds<J, L>>(&mut pass.seat, word, amount)
     }
 
     // Nor at which cell of the pass's own words.
@@ -347,7 +379,7 @@ impl Loads {
         if self.alone {
             self.add_at::<Brand, Brand>(pass, k, cell)
         } else {
-            self.add_for::<Brand>(pass, k, cell)
+            self.add_for::<Brand, Brand>(pass, k, cell)
         }
     }
 
@@ -362,7 +394,7 @@ impl Loads {
         ensures since { Leads self.now.terms pass.old.seen pass.new.seen }
     {
         for cell in path {
-            self.add_for::<Brand>(pass, k, *cell);
+            self.add_for::<Brand, Brand>(pass, k, *cell);
         }
     }
 
@@ -423,7 +455,7 @@ impl Loads {
         let Pass { seat, own: _ } = pass;
         let closed = table.close_with(seat);
         for i in 0..into.len() {
-            into[i] = closed.word(i + 1);
+            into[i] = closed.word(APART * (i + 1));
         }
         closed.free();
     }

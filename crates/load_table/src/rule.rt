@@ -2,7 +2,7 @@
 
 ghost use Rattle.std.specs.Prelude.{ℕ, List, []};
 ghost use Rattle.load_table.specs.Views.{first_known, keeps_known, cuts_known, joins_known, spent_known};
-ghost use Rattle.load_table.specs.Rule.{Holds, Claimed, HasRead, Added, ClaimedAlone, HasReadAlone, AddedAlone, HasReadAll, HasAddedAlong};
+ghost use Rattle.load_table.specs.Rule.{Holds, Claimed, HasReadAt, AddedAt, ClaimedAlone, HasReadAlone, AddedAlone, HasReadAll, HasAddedAlong};
 
 use crate::view::{Known, Origin};
 use atomic_table::{Join, Play, Split, TableRule};
@@ -24,12 +24,6 @@ impl Play<(), Known> for Claims {
     ghost then = { Claimed };
 }
 
-pub(crate) struct Reads;
-
-impl Play<(), Known> for Reads {
-    ghost then = { HasRead };
-}
-
 /// Which commodity an add is for.
 pub trait OfCommodity {
     ghost commodity: { ℕ };
@@ -39,7 +33,7 @@ impl OfCommodity for Brand {
     ghost commodity = { 0 };
 }
 
-/// Which cell a step on a pass's own words is at.
+/// Which cell a step is at.
 pub trait OfCell {
     ghost cell: { ℕ };
 }
@@ -57,12 +51,21 @@ impl OfPath for Brand {
     ghost path = { [] };
 }
 
-pub(crate) struct Adds<J> {
-    named: PhantomData<J>,
+pub(crate) struct Reads<L> {
+    placed: PhantomData<L>,
 }
 
-impl<J: OfCommodity> Play<(), Known> for Adds<J> {
-    ghost then = { Added J.commodity };
+impl<L: OfCell> Play<(), Known> for Reads<L> {
+    ghost then = { HasReadAt L.cell };
+}
+
+pub(crate) struct Adds<J, L> {
+    named: PhantomData<J>,
+    placed: PhantomData<L>,
+}
+
+impl<J: OfCommodity, L: OfCell> Play<(), Known> for Adds<J, L> {
+    ghost then = { AddedAt J.commodity L.cell };
 }
 
 /// A claim on a pass's own words: the step on the table is a load, for the proof alone. So are those of the other four.

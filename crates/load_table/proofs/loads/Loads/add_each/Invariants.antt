@@ -11,5 +11,8 @@ invariant-loop-cell l = record {
   since : Leads l.self.terms l.fn.pass.seen l.pass.seen;
 }
 
-abbrev pub ghosts-add_for : goal.ghosts-add_for
-ghosts-add_for a = record { commodity = a.k }
+abbrev pub ghosts-add_for-J-OfCommodity : goal.ghosts-add_for-J-OfCommodity
+ghosts-add_for-J-OfCommodity a = record { commodity = a.k }
+
+abbrev pub ghosts-add_for-L-OfCell : goal.ghosts-add_for-L-OfCell
+ghosts-add_for-L-OfCell a = record { cell = a.cell }

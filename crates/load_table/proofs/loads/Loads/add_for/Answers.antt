@@ -1,6 +1,8 @@
-use Rattle.std.proofs.Common.{rules, arith, ℕ, List, ◌<◌, ◌≡◌, ap, subst, ◌∙◌, slice_index_or}
+use Rattle.std.proofs.Common.{rules, arith, ℕ, List, ◌+◌, ◌*◌, ◌%◌, ◌^◌, ◌<◌, ◌≡◌, ap, sym, subst, ◌∙◌, slice_index_or}
 use Rattle.flow_core.specs.Core.{cell_count, amounts}
-use Rattle.load_table.specs.Rule.{MayAdd}
+use mathlib.Core.Option.{none}
+use Rattle.atomic_table.specs.Table.{Allows, step}
+use Rattle.load_table.specs.Rule.{MayAdd, Holds, AddedAt}
 use Rattle.load_table.proofs.Keeps.{adds, add_inside, amount_is}
 use Rattle.load_table.proofs.loads.Loads.add_for.Goals as goal
 
@@ -9,10 +11,19 @@ fetch_add-requires g c =
     let t = c.self.inside.table.shared.key in
     let me = c.pass.inside.seat.me.0.view in
     let may : MayAdd t c.args.k c.args.cell me.hands = search rules in
-    let may' : MayAdd t g.J.OfCommodity.commodity c.args.cell me.hands = subst (λ (n : ℕ). MayAdd t n c.args.cell me.hands) c.requires.named may in
+    let P : ℕ × ℕ → Type 0 = λ z. MayAdd t z.0 z.1 me.hands in
+    let may' : MayAdd t g.J.OfCommodity.commodity g.L.OfCell.cell me.hands = subst P (λ i. (c.requires.named i, c.requires.placed i)) may in
     let same : me.terms ≡ t = search rules in
     let inside = add_inside t c.args.k c.args.cell me.hands may in
     let few : c.args.cell < cell_count t = inside.0 in
     let wide = c.self.invariant.words in
     let amount = amount_is t c.args.k c.index-amount.result.now inside.1 (c.index-amount.ensures ∙ ap (λ (xs : List ℕ). slice_index_or xs c.args.k c.index-amount.result.now) c.self.invariant.sizes_are) in
-    (search rules, omega arith, adds t _ _ _ _ _ _ (search rules) same may' (subst (λ (n : ℕ). c.index-amount.result.now ≡ slice_index_or (amounts t) n 0) c.requires.named amount))
+    let k = g.J.OfCommodity.commodity in
+    let cell = g.L.OfCell.cell in
+    let a = c.index-amount.result.now in
+    let slots = c.self.inside.table.shared.table_id.slots in
+    let id = c.pass.inside.seat.id in
+    let seat = c.pass.inside.seat.me in
+    let size : a ≡ slice_index_or (amounts t) k 0 = subst (λ (n : ℕ). a ≡ slice_index_or (amounts t) n 0) c.requires.named amount in
+    let all : Allows (Holds t) slots id seat (8 * (cell + 1)) (λ m. (m + a) % 2 ^ 64) (AddedAt k cell (step slots (8 * (cell + 1)) a 0 none) seat) = adds t slots id k cell a seat (search rules) same may' size in
+    (search rules, omega arith, subst (λ (n : ℕ). Allows (Holds t) slots id seat (8 * (n + 1)) (λ m. (m + a) % 2 ^ 64) (AddedAt k cell (step slots (8 * (n + 1)) a 0 none) seat)) (sym c.requires.placed) all)

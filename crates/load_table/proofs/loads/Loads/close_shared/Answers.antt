@@ -1,4 +1,4 @@
-use Rattle.std.proofs.Common.{◌≡◌, length, rules, arith, ap, sym, subst}
+use Rattle.std.proofs.Common.{◌≡◌, length, rules, arith, ap, ◌∙◌, ◌+◌, sym, subst}
 use Rattle.flow_core.specs.Core.{Terms, State, cell_count}
 use Rattle.load_table.specs.declared.view.View.{View}
 use Rattle.load_table.specs.Rule.{MayClose, Closes}
@@ -19,4 +19,5 @@ returns c =
     let seen = ap (λ (p : PassView). p.seen) c.pass.view_is in
     let same : c.pass.inside.seat.me.0.view.terms ≡ c.self.inside.table.shared.key = search rules in
     let P : Terms × State × View → Type 0 = λ x. Closes x.0 x.1 x.2.hands c.loop-i.into in
-    subst P (λ i. (terms i, seen i, view i)) (closes _ _ _ _ _ c.loop-i.into may same (ends_several _ _ _ _ _ (search rules) c.close_with-closed.ensures.values.2) long (λ k inside. c.loop-i.invariant k (omega arith)))
+    let e = ends_several _ _ _ _ _ (search rules) c.close_with-closed.ensures.values.2 in
+    subst P (λ i. (terms i, seen i, view i)) (closes _ _ _ _ _ c.loop-i.into may same e.3 long (λ k inside. c.loop-i.invariant k (omega arith) ∙ e.1.each (k + 1) (let n = e.2 in omega arith)))

@@ -1,5 +1,6 @@
-use Rattle.std.proofs.Common.{◌≡◌, ap, ◌∙◌, drop}
+use Rattle.std.proofs.Common.{◌≡◌, ℕ, List, ◌∷◌, ap, ◌∙◌, sym, subst, drop}
 use Rattle.flow_core.specs.Core.{Terms}
+use Rattle.load_table.specs.Rule.{HasApart}
 use Rattle.load_table.proofs.Keeps.{begins_at}
 use Rattle.load_table.proofs.loads.Loads.new.Goals as goal
 
@@ -7,4 +8,4 @@ pub of_words-requires : goal.of_words-requires
 of_words-requires c =
     let t : Terms = record { net = c.args.net.now; setting = c.args.setting; base = c.args.base.now; workers = c.args.workers } in
     let base : drop 1 c.of-2.result.value.items ≡ c.args.base.now = ap (λ v. drop 1 v.items) c.of-2.ensures ∙ ap (drop 1) c.in_ok-words.ensures in
-    begins_at t _ _ (λ i. record { net = c.of.ensures i; setting = c.args.setting; base = base i; workers = c.args.workers }) (c.as_slice.ensures.value ∙ c.in_ok-words.ensures) c.requires.start
+    begins_at t _ _ (λ i. record { net = c.of.ensures i; setting = c.args.setting; base = base i; workers = c.args.workers }) (subst (λ (ws : List ℕ). HasApart ws (0 ∷ c.args.base.now)) (sym c.as_slice.ensures.value) c.in_ok-apart.ensures.apart) c.requires.start

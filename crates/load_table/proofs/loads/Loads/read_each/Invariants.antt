@@ -13,3 +13,6 @@ invariant-loop-cell l = record {
   small : (k : ℕ) → k < l.cell → get_or l.reads k 0 ≤ MAX_LENGTH;
   since : Leads l.self.terms l.fn.pass.seen l.pass.seen;
 }
+
+abbrev pub ghosts-read_shared : goal.ghosts-read_shared
+ghosts-read_shared a = record { cell = a.cell }

@@ -1,6 +1,8 @@
-use Rattle.std.proofs.Common.{rules, arith, ◌+◌, ◌<◌, ap, subst}
+use Rattle.std.proofs.Common.{rules, arith, ◌+◌, ◌*◌, ◌<◌, ap, sym, subst, ℕ}
 use Rattle.flow_core.specs.Core.{cell_count}
-use Rattle.load_table.specs.Rule.{MayRead}
+use mathlib.Core.Option.{none}
+use Rattle.atomic_table.specs.Table.{Allows, step}
+use Rattle.load_table.specs.Rule.{MayRead, Holds, HasReadAt}
 use Rattle.load_table.specs.Rule.{IsStep}
 use Rattle.load_table.specs.Seen.{LoadsView}
 use Rattle.flow_core.specs.Core.{IsStart, read}
@@ -8,15 +10,21 @@ use Rattle.load_table.proofs.Keeps.{reads, read_inside, word_within}
 use Rattle.load_table.proofs.loads.Loads.read_shared.Goals as goal
 
 pub load-requires : goal.load-requires
-load-requires c =
+load-requires g c =
     let t = c.self.inside.table.shared.key in
     let hands = c.pass.inside.seat.me.0.view.hands in
     let may : MayRead t c.args.cell hands = search rules in
     let few : c.args.cell < cell_count t = read_inside t c.args.cell hands may in
     let wide = c.self.invariant.words in
-    (search rules, omega arith, reads t _ _ _ _ (search rules) (search rules) may)
+    let cell = g.L.OfCell.cell in
+    let slots = c.self.inside.table.shared.table_id.slots in
+    let id = c.pass.inside.seat.id in
+    let me = c.pass.inside.seat.me in
+    let may' : MayRead t cell hands = subst (λ (n : ℕ). MayRead t n hands) c.requires.placed may in
+    let all : Allows (Holds t) slots id me (8 * (cell + 1)) (λ n. n) (HasReadAt cell (step slots (8 * (cell + 1)) 0 0 none) me) = reads t slots id cell me (search rules) (search rules) may' in
+    (search rules, omega arith, subst (λ (n : ℕ). Allows (Holds t) slots id me (8 * (n + 1)) (λ m. m) (HasReadAt cell (step slots (8 * (n + 1)) 0 0 none) me)) (sym c.requires.placed) all)
 
 pub returns-clause-within : goal.returns-clause-within
-returns-clause-within c =
+returns-clause-within g c =
     let w : IsStep c.args.self.now.terms c.args.pass.now.view.hands c.args.pass.now.seen c.load.new.seat.me.0.seen read (c.args.cell + 1) c.load.result = search rules in
     word_within c.args.self.now.terms c.args.pass.now.view.hands c.args.pass.now.seen c.load.new.seat.me.0.seen read c.args.cell c.load.result (subst IsStart (ap (λ (l : LoadsView). l.terms) c.self.view_is) c.self.invariant.is_start) (read_inside c.args.self.now.terms c.args.cell c.args.pass.now.view.hands c.requires.may) w
