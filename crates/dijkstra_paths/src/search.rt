@@ -272,7 +272,8 @@ fn come_near(
 }
 
 /// As `keep_steps`, but each node gets the shortest way over the cells at it, of which the earlier step is mostly one. Mostly these
-/// are the least distances, so few nodes are opened then. Each cell has to go both ways.
+/// are the least distances, so few nodes are opened then. Each cell has to go both ways. It is a function of its own, as
+/// `open_nodes` is, so that its pointers stay in registers: within the whole search they are on the stack.
 #[inline(never)]
 fn look_along(
     graph: &Graph,

@@ -2,7 +2,7 @@
 
 ghost use Rattle.std.specs.Prelude.{◌≡◌, ◌<◌, ◌↔◌, IsTrue, MatchOption, OnOk, length, map};
 ghost use Rattle.flow_paths.specs.PathKey.{key_of, row_key};
-ghost use Rattle.flow_paths.specs.PathRows.{row_at, HasPath, HasNoRow, HasNoRowBelow, IsFirstRow};
+ghost use Rattle.flow_paths.specs.PathRows.{row_at, HasPath, HasNoRowBelow, IsFirstRow};
 ghost use Rattle.flow_paths.specs.KeyIndex.{IsIndexOf};
 
 use crate::key_index::KeyIndex;
@@ -15,7 +15,7 @@ use std::marker::Model;
 #[derive(Drop)]
 pub struct PathStore {
     rows: RowBuffer,
-    // The keys of the first rows. `index_rows` brings it up to the last row, and so does `add` before it looks for one.
+    // The keys of the first rows. `add` brings it up to the last row before it looks for one.
     index: KeyIndex,
 }
 
@@ -81,23 +81,10 @@ fn first_row(rows: &RowBuffer, index: &KeyIndex, k: u32, path: &[u16]) -> Option
     first
 }
 
-// The first row of this commodity and path, where none of the rows before `start` is.
-fn first_row_from(rows: &RowBuffer, start: u32, k: u32, path: &[u16]) -> Option<u32>
-    requires { HasNoRowBelow start rows.now k path.now }
-    ensures { MatchOption result (HasNoRow rows.now k path.now) (IsFirstRow rows.now k path.now) }
-{
-    for row in start..rows.rows() {
-        if has_path(rows, row, k, path) {
-            return Some(row);
-        }
-    }
-    None
-}
-
 impl PathStore {
-    ghost use Rattle.std.specs.Prelude.{◌≡◌, ◌↔◌, ◌+◌, ◌≤◌, ◌<◌, ◌++◌, ◌∷◌, [], ℕ, length, IfOk, IsTrue, MatchOption, OnErr, OnOk};
+    ghost use Rattle.std.specs.Prelude.{◌≡◌, ◌↔◌, ◌+◌, ◌≤◌, ◌<◌, ◌++◌, ◌∷◌, [], ℕ, length, IfOk, IsTrue, OnErr, OnOk};
     ghost use Rattle.flow_model.specs.Routing.{carried};
-    ghost use Rattle.flow_paths.specs.PathRows.{row_at, grown, HasPath, HasNoRow, IsFirstRow, Adds};
+    ghost use Rattle.flow_paths.specs.PathRows.{row_at, grown, HasPath, IsFirstRow, Adds};
 
     /// No rows.
     pub fn new(alloc: Global) -> Self
@@ -159,17 +146,6 @@ impl PathStore {
         total
     }
 
-    /// The first row of this commodity and path. It is looked up among the rows that `add` or `index_rows` has seen, and
-    /// then one by one among those that were pushed since then. Takes no memory.
-    pub fn find(&self, k: u32, path: &[u16]) -> Option<u32>
-        ensures { MatchOption result (HasNoRow self.now k path.now) (IsFirstRow self.now k path.now) }
-    {
-        match first_row(&self.rows, &self.index, k, path) {
-            Some(row) => Some(row),
-            None => first_row_from(&self.rows, self.index.len(), k, path),
-        }
-    }
-
     /// Makes the row's weight greater.
     pub fn grow(&mut self, row: u32, amount: u64)
         requires row { row < length self.old }
@@ -189,13 +165,6 @@ impl PathStore {
         ensures err { OnErr result (self.new ≡ self.old) }
     {
         self.rows.push(k, path, weight)
-    }
-
-    /// Makes `find` quick for the rows that were pushed since it was called before. The rows stay.
-    pub fn index_rows(&mut self) -> Result<(), AllocError>
-        ensures { self.new ≡ self.old }
-    {
-        catch_up(&mut self.index, &self.rows)
     }
 
     /// The first row of this commodity and path grows by the amount, or, where there is none, a new row is appended; answers its number.
