@@ -1,7 +1,9 @@
 -- How the one worker of a view adds along a path.
-use Rattle.std.proofs.Common.{◌≡◌, ◌≢◌, ℕ, zero, suc, ◌+◌, ◌%◌, ◌<◌, ◌≤◌, Bool, true, false, ◌||◌, ◌&&◌, nat_eq, List, [], ◌∷◌, ◌++◌, take, length, get_or, set, refl, sym, ap, ◌∙◌, subst, arith, append_assoc, append-nil, ne_eqb}
+use Rattle.std.proofs.Common.{◌≡◌, ◌≢◌, ◌⊎◌, inl, inr, ℕ, zero, suc, ◌+◌, ◌%◌, ◌<◌, ◌≤◌, Bool, true, false, ◌||◌, ◌&&◌, nat_eq, List, [], ◌∷◌, ◌++◌, take, length, get_or, set, refl, sym, ap, ◌∙◌, subst, arith, append_assoc, append-nil, ne_eqb, length-append, length-set, get_or-set_same, get_or-set_other}
+use mathlib.Core.Logic.{dite}
+use native.Mathlib.Decide.{ℕ_discrete}
 use Rattle.std.specs.Prelude.{All}
-use Rattle.std.proofs.lemmas.List.{take_more, map_push, get_or-take, length-take}
+use Rattle.std.proofs.lemmas.List.{take_more, map_push, get_or-take, get_or_default, length-take}
 use Rattle.flow_model.specs.Least.{AreDifferent}
 use Rattle.flow_core.specs.declared.state.Entry.{Entry}
 use Rattle.flow_core.specs.declared.state.Worker.{Worker}
@@ -11,8 +13,9 @@ use Rattle.load_table.specs.declared.view.Hand.{Hand}
 use Rattle.load_table.specs.Views.{hand, view_of, first_works, with_work}
 use Rattle.load_table.specs.Rule.{MayAdd}
 use Rattle.load_table.specs.Reading.{LastWhere, OneWhere}
-use Rattle.load_table.specs.Adding.{IsReadyFor, more_adds, adds_all, HasAddedAll, adds_along, words_along}
+use Rattle.load_table.specs.Adding.{IsReadyFor, more_adds, adds_all, HasAddedAll, adds_along, AreMoreAlong}
 use Rattle.load_table.proofs.Works.{with-with}
+use Rattle.load_table.proofs.Totals.{same_lists}
 
 adds-more : (k c x : ℕ) (ps : List (ℕ × ℕ)) (xs : List ℕ) (u : Worker) → has_added k c x (adds_all ps xs u) ≡ adds_all (ps ++ (k, c) ∷ []) (xs ++ x ∷ []) u
 adds-more k c x ps xs u = λ i. worker (log u.log i) u.stopped u.ticket (append_assoc u.found xs (x ∷ []) i)
@@ -29,7 +32,7 @@ adds-nothing u = λ i. worker (log u.log i) u.stopped u.ticket (sym (append-nil 
     log (e ∷ es) = ap (λ (xs : List (ℕ × ℕ)). entry e.ticket e.reads xs ∷ es) (sym (append-nil e.adds))
 
 pub adds_none : (v : View) → HasAddedAll [] v v
-adds_none v = ([], ap (view_of v.terms v.left v.made) (hands v.hands))
+adds_none v = ([], refl, ap (view_of v.terms v.left v.made) (hands v.hands))
   where
     hands : (hs : List Hand) → hs ≡ first_works (adds_all [] []) hs
     hands [] = refl
@@ -38,7 +41,7 @@ adds_none v = ([], ap (view_of v.terms v.left v.made) (hands v.hands))
 pub adds_one : (k c x : ℕ) (ps : List (ℕ × ℕ)) (v w y : View) → HasAddedAll ps v w → y ≡ with_work (has_added k c x) w → HasAddedAll (ps ++ (k, c) ∷ []) v y
 adds_one k c x ps v w y h now =
     let xs = h.0 in
-    (xs ++ x ∷ [], now ∙ (ap (with_work (has_added k c x)) h.1 ∙ with-with (has_added k c x) (adds_all ps xs) (adds_all (ps ++ (k, c) ∷ []) (xs ++ x ∷ [])) (adds-more k c x ps xs) v))
+    (xs ++ x ∷ [], length-append xs (x ∷ []) ∙ (ap (λ (n : ℕ). n + 1) h.1 ∙ sym (length-append ps ((k, c) ∷ []))), now ∙ (ap (with_work (has_added k c x)) h.2 ∙ with-with (has_added k c x) (adds_all ps xs) (adds_all (ps ++ (k, c) ∷ []) (xs ++ x ∷ [])) (adds-more k c x ps xs) v))
 
 -- whether an add may come
 
@@ -87,6 +90,14 @@ all-cons P x xs p h (suc j) d l = h j d (omega arith)
 pub all-nil : {A : Type 0} (P : A → Type 0) → All P []
 all-nil P = λ j d l. absurd (omega arith)
 
+first-all : {A : Type 0} (P : A → Type 0) (xs ys : List A) → All P (xs ++ ys) → All P xs
+first-all P [] ys h = all-nil P
+first-all P (x ∷ xs) ys h = all-cons P x xs (head-all P x (xs ++ ys) h) (first-all P xs ys (tail-all P x (xs ++ ys) h))
+
+last-all : {A : Type 0} (P : A → Type 0) (xs : List A) (y : A) → All P (xs ++ y ∷ []) → P y
+last-all P [] y h = head-all P y [] h
+last-all P (x ∷ xs) y h = last-all P xs y (tail-all P x (xs ++ y ∷ []) h)
+
 pub all-append : {A : Type 0} (P : A → Type 0) (xs ys : List A) → All P xs → All P ys → All P (xs ++ ys)
 all-append P [] ys a b = b
 all-append P (x ∷ xs) ys a b = all-cons P x (xs ++ ys) (head-all P x xs a) (all-append P xs ys (tail-all P x xs a) b)
@@ -100,7 +111,7 @@ all-along P k [] f = all-nil P
 all-along P k (c ∷ cs) f = all-cons P (k, c) (adds_along k cs) (f c) (all-along P k cs f)
 
 pub may_add : (t : Terms) (k c : ℕ) (path : List ℕ) (v w : View) → OneWhere (IsReadyFor t k) v.hands → HasAddedAll (adds_along k path) v w → c < cell_count t → ((j : ℕ) → j < length path → get_or path j 0 ≢ c) → MayAdd t k c w.hands
-may_add t k c path v w one is few new = subst (λ (x : View). MayAdd t k c x.hands) (sym is.1) (hands v.hands one)
+may_add t k c path v w one is few new = subst (λ (x : View). MayAdd t k c x.hands) (sym is.2) (hands v.hands one)
   where
     log : (l : List Entry) → LastWhere (IsReadyFor t k) l → LastMayAdd t k c (more_adds (adds_along k path) l)
     log [] h = absurd h
@@ -127,11 +138,45 @@ fresh-at path i l d j inside e =
     let less : j < i = omega (arith, length-take i path) in
     d j i less l (sym (get_or-take i path j 0 less) ∙ e)
 
--- the words after one add more
-words-push : (a : ℕ) (cs : List ℕ) (c : ℕ) (ws : List ℕ) → words_along a (cs ++ c ∷ []) ws ≡ set (words_along a cs ws) (c + 1) ((get_or (words_along a cs ws) (c + 1) 0 + a) % 18446744073709551616)
-words-push a [] c ws = refl
-words-push a (d ∷ ds) c ws = words-push a ds c (set ws (d + 1) ((get_or ws (d + 1) 0 + a) % 18446744073709551616))
+-- the words along a path
 
-pub words_more : (a : ℕ) (path : List ℕ) (i : ℕ) (ws : List ℕ) → i < length path
-    → words_along a (take (i + 1) path) ws ≡ set (words_along a (take i path) ws) (get_or path i 0 + 1) ((get_or (words_along a (take i path) ws) (get_or path i 0 + 1) 0 + a) % 18446744073709551616)
-words_more a path i ws l = ap (λ (cs : List ℕ). words_along a cs ws) (take_more path i 0 l) ∙ words-push a (take i path) (get_or path i 0) ws
+pub more_none : (a : ℕ) (ws : List ℕ) → AreMoreAlong a [] ws ws
+more_none a ws = record { count = refl; on = all-nil (λ (c : ℕ). get_or ws (c + 1) 0 ≡ (get_or ws (c + 1) 0 + a) % 18446744073709551616); off = λ i h. refl }
+
+-- and one cell more
+pub more_next : (a : ℕ) (path : List ℕ) (i : ℕ) (old mid : List ℕ) → i < length path → AreDifferent path → get_or path i 0 + 1 < length old → AreMoreAlong a (take i path) old mid
+    → AreMoreAlong a (take (i + 1) path) old (set mid (get_or path i 0 + 1) ((get_or mid (get_or path i 0 + 1) 0 + a) % 18446744073709551616))
+more_next a path i old mid l different inside m =
+    let c = get_or path i 0 in
+    let x : ℕ = (get_or mid (c + 1) 0 + a) % 18446744073709551616 in
+    let new = set mid (c + 1) x in
+    let was : get_or mid (c + 1) 0 ≡ get_or old (c + 1) 0 = m.off (c + 1) (λ j d k e. fresh-at path i l different j k (let f : get_or (take i path) j d + 1 ≡ c + 1 = e in let g : get_or (take i path) j d ≡ get_or (take i path) j 0 = get_or_default (take i path) j d 0 k in omega arith)) in
+    let P : ℕ → Type 0 = λ d. get_or new (d + 1) 0 ≡ (get_or old (d + 1) 0 + a) % 18446744073709551616 in
+    let here : P c = get_or-set_same mid (c + 1) x 0 (let n = m.count in omega arith) ∙ ap (λ (y : ℕ). (y + a) % 18446744073709551616) was in
+    let before : All P (take i path) = λ j d k. get_or-set_other mid (c + 1) (get_or (take i path) j d + 1) x 0 (λ e. fresh-at path i l different j k (let g : get_or (take i path) j d ≡ get_or (take i path) j 0 = get_or_default (take i path) j d 0 k in let f : get_or (take i path) j d + 1 ≡ c + 1 = e in omega arith)) ∙ m.on j d k in
+    let more = take_more path i 0 l in
+    record {
+      count = length-set mid (c + 1) x ∙ m.count;
+      on = subst (All P) (sym more) (all-append P (take i path) (c ∷ []) before (all-cons P c [] here (all-nil P)));
+      off = λ n h.
+          let parts : All (λ (d : ℕ). d + 1 ≢ n) (take i path ++ c ∷ []) = subst (All (λ (d : ℕ). d + 1 ≢ n)) more h in
+          let apart : n ≢ c + 1 = λ e. last-all (λ (d : ℕ). d + 1 ≢ n) (take i path) c parts (sym e) in
+          get_or-set_other mid (c + 1) n x 0 apart ∙ m.off n (first-all (λ (d : ℕ). d + 1 ≢ n) (take i path) (c ∷ []) parts);
+    }
+
+-- whether some cell of the path has this word
+on-path : (path : List ℕ) (n : ℕ) → ((j : ℕ) × (j < length path) × (get_or path j 0 + 1 ≡ n)) ⊎ All (λ c. c + 1 ≢ n) path
+on-path [] n = inr (all-nil (λ c. c + 1 ≢ n))
+on-path (x ∷ xs) n = dite (ℕ_discrete (x + 1) n)
+    (λ same. inl (0, omega arith, same))
+    (λ apart. elim (on-path xs n) as (λ _. ((j : ℕ) × (j < length (x ∷ xs)) × (get_or (x ∷ xs) j 0 + 1 ≡ n)) ⊎ All (λ c. c + 1 ≢ n) (x ∷ xs)) [
+      | inl h ↦ inl (suc h.0, (let l = h.1 in omega arith), h.2)
+      | inr h ↦ inr (all-cons (λ c. c + 1 ≢ n) x xs apart h)
+    ])
+
+-- these are no others
+pub more_same : (a : ℕ) (path old xs ys : List ℕ) → AreMoreAlong a path old xs → AreMoreAlong a path old ys → xs ≡ ys
+more_same a path old xs ys m o = same_lists xs ys (m.count ∙ sym o.count) (λ n inside. elim (on-path path n) as (λ _. get_or xs n 0 ≡ get_or ys n 0) [
+  | inl h ↦ subst (λ (w : ℕ). get_or xs w 0 ≡ get_or ys w 0) h.2 (m.on h.0 0 h.1 ∙ sym (o.on h.0 0 h.1))
+  | inr h ↦ m.off n h ∙ sym (o.off n h)
+])

@@ -1,8 +1,8 @@
 -- The steps of one worker alone, whose words are its own.
-use Rattle.std.proofs.Common.{◌≡◌, ℕ, zero, suc, ◌+◌, ◌-◌, ◌%◌, ◌<◌, ◌≤◌, List, [], ◌∷◌, ◌++◌, take, length, min, get_or, set, refl, sym, ap, ◌∙◌, subst, arith, length-set, drop, add-one}
+use Rattle.std.proofs.Common.{◌≡◌, ℕ, zero, suc, ◌+◌, ◌%◌, ◌<◌, ◌≤◌, List, [], ◌∷◌, ◌++◌, take, length, min, get_or, set, refl, sym, ap, ◌∙◌, subst, arith, length-set, drop, add-one}
 use Rattle.std.proofs.lemmas.List.{get_or_default, set-get_or, take_more, length-take, take_all}
-use mathlib.Core.Option.{Option, none}
-use Rattle.atomic_table.specs.Table.{State, step, keeps, Allows}
+use mathlib.Core.Option.{Option}
+use Rattle.atomic_table.specs.Table.{State, keeps, Allows}
 use Rattle.flow_core.specs.Core as core
 use Rattle.flow_core.specs.Core.{Terms, Event, Leads, start, after_schedule, read, add, has_read, has_added, amount_of, cell_count}
 use Rattle.flow_core.specs.Laws.{Loads}
@@ -11,16 +11,16 @@ use Rattle.mcf_limits.specs.declared.TheConstants.{MAX_LENGTH}
 use Rattle.atomic_table.specs.Seated.{TableId}
 use Rattle.load_table.specs.declared.view.Known.{Known}
 use Rattle.load_table.specs.declared.view.View.{View}
-use Rattle.load_table.specs.Rule.{Kept, Holds, words_of, M, Claimed, HasRead, Added, ClaimedAlone, HasReadAlone, AddedAlone, HasFoundAndPut, HasReadAll, HasAddedAlong, Steps, IsStep, MayClaim, MayRead, MayAdd}
+use Rattle.load_table.specs.Rule.{Kept, KeepsWorks, Holds, words_of, M, HasClaimed, HasRead, HasAdded, HasClaimedAlone, HasReadAlone, HasAddedAlone, HasFoundAndPut, HasReadAll, HasAddedAlong, IsStep, AllFit, MayClaim, MayRead, MayAdd}
 use Rattle.load_table.specs.Seen.{LoadsView, PassView, IsPassOf, AreWordsOf}
 use Rattle.load_table.specs.Views.{with_work}
 use Rattle.load_table.specs.Reading.{OneWhere, IsFresh, reads_all}
-use Rattle.load_table.specs.Adding.{IsReadyFor, HasAddedAll, adds_along, words_along}
-use Rattle.load_table.proofs.Adding.{adds_none, adds_one, may_add, along-more, fresh-at, words_more}
+use Rattle.load_table.specs.Adding.{IsReadyFor, HasAddedAll, adds_along, AreMoreAlong}
+use Rattle.load_table.proofs.Adding.{adds_none, adds_one, may_add, along-more, fresh-at, more_none, more_next}
 use Rattle.std.specs.Prelude.{All}
 use Rattle.flow_model.specs.Least.{AreDifferent}
 use Rattle.load_table.proofs.Works.{reads_none, reads_one, may_read}
-use Rattle.load_table.proofs.Keeps.{Can, leads-on, step_leads, claims_of, reads_of, adds_of, only_view}
+use Rattle.load_table.proofs.Keeps.{Can, leads-on, step_leads, claims_of, reads_of, adds_of, only_view, read_fits, add_fits}
 
 abbrev St : Type 0
 St = State (Unit {0}) Known
@@ -43,21 +43,21 @@ alone t slots id word i me f tells is can s h _ at small =
     (r.0, keeps, tt, record { one = λ _. (r.0, views, now); several = λ more. absurd (omega arith) }, (r.2, r.3))
 
 pub claims_alone : (t : Terms) (slots id : ℕ) (me : M) → t.workers ≡ 1 → me.0.view.terms ≡ t → MayClaim t me.0.view.hands
-    → Allows (Holds t) slots id me 0 (λ n. n) (ClaimedAlone (step slots 0 0 0 none) me)
+    → Allows (Holds t) slots id me 0 (λ n. n) (λ _ w. HasClaimedAlone me w)
 claims_alone t slots id me is same may =
-    alone t slots id 0 0 me (λ n. (n + 1) % 18446744073709551616) (Claimed (step slots 0 1 0 none) me) is (λ homes k. claims_of t slots 0 me _ k refl same me.0.view.hands refl may)
+    alone t slots id 0 0 me (λ n. (n + 1) % 18446744073709551616) (HasClaimed me) is (λ homes k. claims_of t 0 me _ k refl same me.0.view.hands refl may)
 
 pub reads_alone : (t : Terms) (slots id c : ℕ) (me : M) → t.workers ≡ 1 → me.0.view.terms ≡ t → MayRead t c me.0.view.hands
-    → Allows (Holds t) slots id me 0 (λ n. n) (HasReadAlone c (step slots 0 0 0 none) me)
+    → Allows (Holds t) slots id me 0 (λ n. n) (λ _ w. HasReadAlone c me w)
 reads_alone t slots id c me is same may =
-    alone t slots id 0 (c + 1) me (λ n. n) (HasRead (step slots (c + 1) 0 0 none) me) is (λ homes k. reads_of t slots 0 c me _ k refl same me.0.view.hands refl may)
+    alone t slots id 0 (c + 1) me (λ n. n) (HasRead c me) is (λ homes k. reads_of t 0 c me _ k refl same me.0.view.hands refl may)
 
 pub adds_alone : (t : Terms) (slots id n c : ℕ) (me : M) → t.workers ≡ 1 → me.0.view.terms ≡ t → MayAdd t n c me.0.view.hands
-    → Allows (Holds t) slots id me 0 (λ m. m) (AddedAlone n c (step slots 0 0 0 none) me)
+    → Allows (Holds t) slots id me 0 (λ m. m) (λ _ w. HasAddedAlone n c me w)
 adds_alone t slots id n c me is same may =
     let a = amount_of me.0.view.terms n in
-    alone t slots id 0 (c + 1) me (λ m. (m + a) % 18446744073709551616) (Added n (step slots (c + 1) a 0 none) me) is
-    (λ homes k. adds_of t slots 0 n c a me _ k refl same me.0.view.hands refl may (ap (λ (x : Terms). amount_of x n) same))
+    alone t slots id 0 (c + 1) me (λ m. (m + a) % 18446744073709551616) (HasAdded n c me) is
+    (λ homes k. adds_of t 0 n c a me _ k refl same me.0.view.hands refl may (ap (λ (x : Terms). amount_of x n) same))
 
 pub own_rest : (s : core.State) (own : List ℕ) (n : ℕ) → own ≡ words_of s → length own ≤ n + 1 → take n (drop 1 own) ≡ s.loads
 own_rest s own n is few = ap (λ (ws : List ℕ). take n (drop 1 ws)) is ∙ take_all n s.loads (let l = ap (λ (ws : List ℕ). length ws) is in omega arith)
@@ -70,6 +70,7 @@ record ReadSoFar (t : Terms) (homes : List (Option (Unit {0}))) (v : Known) (c :
   view_is : known.view ≡ with_work (reads_all (take c v.seen.loads)) v.view
   words : words_of known.seen ≡ words_of v.seen
   since : Leads t v.seen known.seen
+  works : KeepsWorks v.seen v.view.hands known.seen known.view.hands
 
 -- the loads that were seen are those after the events
 loads_law : (t : Terms) (homes : List (Option (Unit {0}))) (v : Known) (k : Kept t (own_state homes v)) → Loads t record { claims = v.seen.claims; loads = v.seen.loads; workers = (after_schedule t (start t) k.events).workers }
@@ -79,7 +80,7 @@ loads_law t homes v k =
     subst (Loads t) (ap parts (sym k.words)) (loads_of t old k.is_start (laws t k.events k.is_start k.legal))
 
 read_so_far : (t : Terms) (homes : List (Option (Unit {0}))) (v : Known) → Kept t (own_state homes v) → v.view.terms ≡ t → OneWhere IsFresh v.view.hands → (c : ℕ) → c ≤ cell_count t → ReadSoFar t homes v c
-read_so_far t homes v k same fresh zero few = record { known = v; kept = k; view_is = reads_none v.view fresh; words = refl; since = ([], tt, refl) }
+read_so_far t homes v k same fresh zero few = record { known = v; kept = k; view_is = reads_none v.view fresh; words = refl; since = ([], tt, refl); works = λ fit. fit }
 read_so_far t homes v k same fresh (suc c) few =
     let r = read_so_far t homes v k same fresh c (omega arith) in
     let u = r.known in
@@ -87,7 +88,7 @@ read_so_far t homes v k same fresh (suc c) few =
     let long : c < length v.seen.loads = (let l = law.cells in omega arith) in
     let of : u.view.terms ≡ t = ap (λ (x : View). x.terms) r.view_is ∙ same in
     let may : MayRead t c u.view.hands = may_read t c (take c v.seen.loads) v.view u.view fresh r.view_is (length-take c v.seen.loads ∙ (let z : min c (length v.seen.loads) ≡ c = omega arith in z)) (omega arith) in
-    let got = reads_of t 0 0 c (u, []) (own_state homes u) r.kept refl of u.view.hands refl may in
+    let got = reads_of t 0 c (u, []) (own_state homes u) r.kept refl of u.view.hands refl may in
     let x : ℕ = get_or (words_of u.seen) (c + 1) 0 in
     let is : x ≡ get_or v.seen.loads c 0 = ap (λ (ws : List ℕ). get_or ws (c + 1) 0) r.words ∙ ap (λ (n : ℕ). get_or (words_of v.seen) n 0) (add-one c) in
     let all : take c v.seen.loads ++ x ∷ [] ≡ take (suc c) v.seen.loads = ap (λ (y : ℕ). take c v.seen.loads ++ y ∷ []) is ∙ (sym (take_more v.seen.loads c 0 long) ∙ ap (λ (n : ℕ). take n v.seen.loads) (add-one c)) in
@@ -98,6 +99,8 @@ read_so_far t homes v k same fresh (suc c) few =
       view_is = got.2.view_is ∙ (reads_one x (take c v.seen.loads) v.view u.view r.view_is ∙ ap (λ (rs : List ℕ). with_work (reads_all rs) v.view) all);
       words = words ∙ r.words;
       since = leads-on t v.seen u.seen got.0.seen r.since (subst (λ (x : Terms). Leads x u.seen got.0.seen) of (step_leads u.view.terms u.view.hands u.seen got.0.seen read (c + 1) x got.2.step));
+      works = λ _. subst (λ (w : View). AllFit got.0.seen w.hands) (sym got.2.view_is)
+          (read_fits t c x u.view.hands u.seen got.0.seen (subst (λ (y : Terms). IsStep y u.view.hands u.seen got.0.seen read (c + 1) x) of got.2.step) may);
     }
 
 pub all_read : (t : Terms) (slots id : ℕ) (me : M) → t.workers ≡ 1 → me.0.view.terms ≡ t → OneWhere IsFresh me.0.view.hands
@@ -121,47 +124,46 @@ all_read t slots id me is same fresh s h _ at small =
         small = λ i d inside. (let w = law.within i (let l = law.cells in omega arith) in subst (λ (x : ℕ). x ≤ MAX_LENGTH) (get_or_default v.seen.loads i 0 d inside) w);
         words = r.words;
         since = subst (λ (x : Terms). Leads x v.seen r.known.seen) (sym same) r.since;
+        works = r.works;
       },
     )
 
 -- all adds along a path, one after the other
 
-pub added_so : (slots k c a x : ℕ) (v w : M) → x ≡ get_or (words_of v.0.seen) (c + 1) 0 → Added k (step slots (c + 1) a 0 none) v (get_or (words_of v.0.seen) (c + 1) 0) w
-    → Steps v (with_work (has_added k c x) v.0.view) (λ n. add n k c) (c + 1) x w
-added_so slots k c a x v w is s =
-    let cell : (c + 1) - 1 ≡ c = omega arith in
-    let P : ℕ × ℕ → Type 0 = λ z. Steps v (with_work (has_added k z.0 z.1) v.0.view) (λ n. add n k z.0) (c + 1) z.1 w in
-    subst P (λ i. (cell i, sym is i)) s
-
 record AddedSoFar (t : Terms) (homes : List (Option (Unit {0}))) (v : Known) (k : ℕ) (path : List ℕ) (i : ℕ) : Type 0 where
   known : Known
   kept : Kept t (own_state homes known)
   view_is : HasAddedAll (adds_along k (take i path)) v.view known.view
-  words : words_of known.seen ≡ words_along (amount_of t k) (take i path) (words_of v.seen)
+  words : AreMoreAlong (amount_of t k) (take i path) (words_of v.seen) (words_of known.seen)
   since : Leads t v.seen known.seen
+  works : KeepsWorks v.seen v.view.hands known.seen known.view.hands
 
 added_so_far : (t : Terms) (homes : List (Option (Unit {0}))) (v : Known) (k : ℕ) (path : List ℕ) → Kept t (own_state homes v) → v.view.terms ≡ t → OneWhere (IsReadyFor t k) v.view.hands
     → All (λ c. c < cell_count t) path → AreDifferent path → (i : ℕ) → i ≤ length path → AddedSoFar t homes v k path i
-added_so_far t homes v k path kept same ready inside different zero few = record { known = v; kept = kept; view_is = adds_none v.view; words = refl; since = ([], tt, refl) }
+added_so_far t homes v k path kept same ready inside different zero few = record { known = v; kept = kept; view_is = adds_none v.view; words = more_none (amount_of t k) (words_of v.seen); since = ([], tt, refl); works = λ fit. fit }
 added_so_far t homes v k path kept same ready inside different (suc i) few =
     let r = added_so_far t homes v k path kept same ready inside different i (omega arith) in
     let u = r.known in
     let l : i < length path = omega arith in
     let c = get_or path i 0 in
     let a = amount_of t k in
-    let of : u.view.terms ≡ t = ap (λ (x : View). x.terms) r.view_is.1 ∙ same in
+    let of : u.view.terms ≡ t = ap (λ (x : View). x.terms) r.view_is.2 ∙ same in
     let may : MayAdd t k c u.view.hands = may_add t k c (take i path) v.view u.view ready r.view_is (inside i 0 l) (fresh-at path i l different) in
-    let got = adds_of t 0 0 k c a (u, []) (own_state homes u) r.kept refl of u.view.hands refl may refl in
+    let got = adds_of t 0 k c a (u, []) (own_state homes u) r.kept refl of u.view.hands refl may refl in
     let x : ℕ = get_or (words_of u.seen) (c + 1) 0 in
-    let s : Steps (u, []) (with_work (has_added k c x) u.view) (λ n. add n k c) (c + 1) x (got.0, []) = added_so 0 k c a x (u, []) (got.0, []) refl got.2 in
+    let s : HasAdded k c (u, []) x (got.0, []) = got.2 in
+    let long : length (words_of v.seen) ≡ cell_count t + 1 = (let law = loads_law t homes v kept in let n = law.cells in omega arith) in
+    let next = more_next a path i (words_of v.seen) (words_of u.seen) l different (let n = inside i 0 l in omega arith) r.words in
     record {
       known = got.0;
       kept = subst (λ (ws : List ℕ). Kept t record { words = ws; homes = homes; views = got.0 ∷ [] }) {y = words_of got.0.seen} (sym got.3) got.1;
       view_is = subst (λ (n : ℕ). HasAddedAll (adds_along k (take n path)) v.view got.0.view) (add-one i)
           (subst (λ (ps : List (ℕ × ℕ)). HasAddedAll ps v.view got.0.view) (sym (along-more k path i l)) (adds_one k c x (adds_along k (take i path)) v.view u.view got.0.view r.view_is s.view_is));
-      words = got.3 ∙ (ap (λ (ws : List ℕ). set ws (c + 1) ((get_or ws (c + 1) 0 + a) % 18446744073709551616)) r.words
-          ∙ (sym (words_more a path i (words_of v.seen) l) ∙ ap (λ (n : ℕ). words_along a (take n path) (words_of v.seen)) (add-one i)));
+      words = subst (λ (n : ℕ). AreMoreAlong a (take n path) (words_of v.seen) (words_of got.0.seen)) (add-one i)
+          (subst (AreMoreAlong a (take (i + 1) path) (words_of v.seen)) (sym got.3) next);
       since = leads-on t v.seen u.seen got.0.seen r.since (subst (λ (x : Terms). Leads x u.seen got.0.seen) of (step_leads u.view.terms u.view.hands u.seen got.0.seen (λ n. add n k c) (c + 1) x s.step));
+      works = λ _. subst (λ (w : View). AllFit got.0.seen w.hands) (sym s.view_is)
+          (add_fits t k c x u.view.hands u.seen got.0.seen (subst (λ (y : Terms). IsStep y u.view.hands u.seen got.0.seen (λ n. add n k c) (c + 1) x) of s.step) may);
     }
 
 pub all_added : (t : Terms) (slots id k : ℕ) (path : List ℕ) (me : M) → t.workers ≡ 1 → me.0.view.terms ≡ t → OneWhere (IsReadyFor t k) me.0.view.hands
@@ -182,7 +184,8 @@ all_added t slots id k path me is same ready inside different s h _ at small =
         view_is = subst (λ (cs : List ℕ). HasAddedAll (adds_along k cs) v.view r.known.view) whole r.view_is;
         rest_is = refl;
         since = subst (λ (x : Terms). Leads x v.seen r.known.seen) (sym same) r.since;
-        words = r.words ∙ (λ i. words_along (amount_of (sym same i) k) (whole i) (words_of v.seen));
+        works = r.works;
+        words = subst (λ (z : Terms × List ℕ). AreMoreAlong (amount_of z.0 k) z.1 (words_of v.seen) (words_of r.known.seen)) (λ i. (sym same i, whole i)) r.words;
       },
     )
 
@@ -206,10 +209,6 @@ own_after v w own i y are is terms left = record {
   count = length-set own i y ∙ (are.count ∙ ap (λ (t : Terms). cell_count t + 1) (sym terms));
   none_left = left ∙ are.none_left;
 }
-
-pub read_so : (slots c x : ℕ) (v w : M) → x ≡ get_or (words_of v.0.seen) (c + 1) 0 → HasRead (step slots (c + 1) 0 0 none) v (get_or (words_of v.0.seen) (c + 1) 0) w
-    → Steps v (with_work (has_read x) v.0.view) read (c + 1) x w
-read_so slots c x v w is s = let P : ℕ → Type 0 = λ z. Steps v (with_work (has_read z) v.0.view) read (c + 1) z w in subst P (sym is) s
 
 -- a read leaves the words as they were
 pub own_same : (v w : M) (own : List ℕ) (i : ℕ) → AreWordsOf v.0 own → (words_of w.0.seen ≡ set (words_of v.0.seen) i (get_or (words_of v.0.seen) i 0)) → w.0.view.terms ≡ v.0.view.terms → w.0.view.left ≡ v.0.view.left → AreWordsOf w.0 own

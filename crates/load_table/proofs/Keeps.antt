@@ -1,12 +1,13 @@
 -- Each step keeps the rule.
-use Rattle.std.proofs.Common.{◌≡◌, ◌≢◌, ℕ, zero, suc, ◌+◌, ◌-◌, ◌*◌, ◌%◌, ◌^◌, ◌<◌, ◌≤◌, Bool, true, false, nat_eq, nat_lt, List, [], ◌∷◌, ◌++◌, length, get_or, set, min, refl, sym, ap, ◌∙◌, subst, ⊎_elim, arith, add-one, get_or-set_same, get_or-set_other, length-set, length-append, eq-eqb, ne_eqb}
+use Rattle.std.proofs.Common.{◌≡◌, ◌≢◌, ℕ, zero, suc, ◌+◌, ◌*◌, ◌%◌, ◌^◌, ◌<◌, ◌≤◌, Bool, true, false, nat_eq, nat_lt, List, [], ◌∷◌, ◌++◌, length, get_or, set, min, refl, sym, ap, ◌∙◌, subst, ⊎_elim, arith, add-one, get_or-set_same, get_or-set_other, length-set, length-append, eq-eqb, ne_eqb}
+use Rattle.std.specs.Prelude.{◌==◌, if◌then◌else◌}
 use Rattle.std.proofs.lemmas.Bool.Decides.{nat_tests}
 use Rattle.std.proofs.lemmas.List.{get_or_default, set-get_or, length-map}
 use mathlib.Core.Logic.{dite}
 use native.Mathlib.Decide.{ℕ_discrete}
-use mathlib.Core.Option.{none, some, some-ne-none, some-injective}
+use mathlib.Core.Option.{some, some-ne-none, some-injective}
 use lib.ListN.{get_elem?}
-use Rattle.atomic_table.specs.Table.{State, step, keeps, Allows, Splits, Joins, opening, Final, Seen}
+use Rattle.atomic_table.specs.Table.{State, keeps, Allows, Splits, Joins, opening, Final, Seen}
 use Rattle.atomic_table.proofs.Lists.{at_set, at_snoc}
 use Rattle.flow_core.specs.declared.state.Entry.{Entry}
 use Rattle.flow_core.specs.declared.state.Worker.{Worker}
@@ -19,9 +20,10 @@ use Rattle.flow_core.proofs.Sums.{total-set, once-more, get_or-replicate, length
 use Rattle.flow_core.proofs.Steps.{Inv, laws, falls-more, counts_of, loads_of}
 use Rattle.load_table.specs.declared.view.Hand.{Hand}
 use Rattle.load_table.specs.declared.view.Known.{Known}
-use Rattle.load_table.specs.Views.{known, first_known, times_in, hands_of, made_of, splits_of, first_works, with_work, keeps_known, cuts_known, joins_known, spent_known}
+use Rattle.load_table.specs.Views.{hand, known, first_known, times_in, hands_of, made_of, splits_of, first_works, with_work, keeps_known, cuts_known, joins_known, spent_known}
 use Rattle.flow_model.specs.declared.net.Commodity.{Commodity}
-use Rattle.load_table.specs.Rule.{AllFallBelow, AllFit, FitsView, Kept, Holds, words_of, IsStep, first_number, M, Claimed, HasRead, Added, HasReadAt, AddedAt, HasApart, MayClaim, LastReads, MayRead, MayAdd, MayClose, Closes}
+use Rattle.load_table.specs.Rule.{AllFallBelow, AllFit, FitsView, Kept, Holds, words_of, IsStep, first_number, M, HasClaimed, HasRead, HasAdded, HasApart, MayClaim, LastReads, MayRead, MayAdd, MayClose, Closes}
+use Rattle.load_table.specs.Seen.{shared_cells}
 use Rattle.load_table.proofs.Totals.{total-put, total-snoc, total-append, total-of, total-two, total-whole, same_lists}
 
 abbrev St : Type 0
@@ -189,7 +191,7 @@ claim_moves t s count found h c f inside is going complete = record {
 
 -- the seat can take the step in this state, and then has seen what the step made of the words
 abbrev pub Can : Terms → St → ℕ → M → ℕ → ℕ → (M → Type 0) → Type 0
-Can t s id me i n then = (w : Known) × Kept t record { words = set s.words i n; homes = s.homes; views = set s.views id w } × then (w, me.1) × (words_of w.seen ≡ set s.words i n)
+Can t s id me i n tells = (w : Known) × Kept t record { words = set s.words i n; homes = s.homes; views = set s.views id w } × tells (w, me.1) × (words_of w.seen ≡ set s.words i n)
 
 -- the words stay apart where one of them changes
 apart_set : (table words : List ℕ) (i x : ℕ) → i < length words → HasApart table words → HasApart (set table (8 * i) x) (set words i x)
@@ -210,10 +212,10 @@ kept_count t s k =
     ap (λ (ws : List ℕ). length ws) k.words ∙ (let l = law.cells in omega arith)
 
 -- what `Allows` asks of several workers, of the word at this place
-pub several : (t : Terms) (slots id : ℕ) (me : M) (i : ℕ) (f : ℕ → ℕ) (then : ℕ → M → Type 0) → 1 < t.workers → i < cell_count t + 1
-    → ((s : St) → Kept t s → get_elem? s.views id ≡ some me.0 → Can t s id me i (f (get_or s.words i 0)) (then (get_or s.words i 0)))
-    → Allows (Holds t) slots id me (8 * i) f then
-several t slots id me i f then more inside can s h _ at small =
+pub several : (t : Terms) (slots id : ℕ) (me : M) (i : ℕ) (f : ℕ → ℕ) (tells : ℕ → M → Type 0) → 1 < t.workers → i < cell_count t + 1
+    → ((s : St) → Kept t s → get_elem? s.views id ≡ some me.0 → Can t s id me i (f (get_or s.words i 0)) (tells (get_or s.words i 0)))
+    → Allows (Holds t) slots id me (8 * i) f tells
+several t slots id me i f tells more inside can s h _ at small =
     let a = h.several more in
     let ws : List ℕ = a.0 in
     let here : St = record { words = ws; homes = s.homes; views = s.views } in
@@ -223,15 +225,15 @@ several t slots id me i f then more inside can s h _ at small =
     let x : ℕ = f (get_or ws i 0) in
     let y : ℕ = f (get_or s.words (8 * i) 0) in
     let now : x ≡ y = ap f same in
-    let P : ℕ → Type 0 = λ z. then z (r.0, me.1) in
+    let P : ℕ → Type 0 = λ z. tells z (r.0, me.1) in
     let apart : HasApart (set s.words (8 * i) y) (set ws i x) = subst (λ (z : ℕ). HasApart (set s.words (8 * i) z) (set ws i x)) now (apart_set s.words ws i x long a.1) in
     (r.0, keeps, tt, record { one = λ is. absurd (omega arith); several = λ _. (set ws i x, apart, r.1) }, subst P same r.2)
 
-pub claims_of : (t : Terms) (slots id : ℕ) (me : M) (s : St) (k : Kept t s) → get_elem? s.views id ≡ some me.0 → me.0.view.terms ≡ t → (hs : List Hand) → me.0.view.hands ≡ hs → MayClaim t hs
-    → Can t s id me 0 ((get_or s.words 0 0 + 1) % 18446744073709551616) (Claimed (step slots 0 1 0 none) me (get_or s.words 0 0))
-claims_of t slots id me s k at same [] is may = absurd may
-claims_of t slots id me s k at same (h ∷ i ∷ hs) is may = absurd may
-claims_of t slots id me s k at same (h ∷ []) is may =
+pub claims_of : (t : Terms) (id : ℕ) (me : M) (s : St) (k : Kept t s) → get_elem? s.views id ≡ some me.0 → me.0.view.terms ≡ t → (hs : List Hand) → me.0.view.hands ≡ hs → MayClaim t hs
+    → Can t s id me 0 ((get_or s.words 0 0 + 1) % 18446744073709551616) (HasClaimed me (get_or s.words 0 0))
+claims_of t id me s k at same [] is may = absurd may
+claims_of t id me s k at same (h ∷ i ∷ hs) is may = absurd may
+claims_of t id me s k at same (h ∷ []) is may =
     let old : core.State = after_schedule t (start t) k.events in
     let v = me.0 in
     let x : ℕ = get_or s.words 0 0 in
@@ -249,8 +251,8 @@ claims_of t slots id me s k at same (h ∷ []) is may =
       sym words,
     )
 
-pub claims : (t : Terms) (slots id : ℕ) (me : M) → 1 < t.workers → me.0.view.terms ≡ t → MayClaim t me.0.view.hands → Allows (Holds t) slots id me 0 (λ n. (n + 1) % 2 ^ 64) (Claimed (step slots 0 1 0 none) me)
-claims t slots id me more same may = several t slots id me 0 (λ n. (n + 1) % 2 ^ 64) (Claimed (step slots 0 1 0 none) me) more (omega arith) (λ s k at. claims_of t slots id me s k at same me.0.view.hands refl may)
+pub claims : (t : Terms) (slots id : ℕ) (me : M) → 1 < t.workers → me.0.view.terms ≡ t → MayClaim t me.0.view.hands → Allows (Holds t) slots id me 0 (λ n. (n + 1) % 2 ^ 64) (HasClaimed me)
+claims t slots id me more same may = several t slots id me 0 (λ n. (n + 1) % 2 ^ 64) (HasClaimed me) more (omega arith) (λ s k at. claims_of t id me s k at same me.0.view.hands refl may)
 
 -- the read
 
@@ -271,11 +273,11 @@ read_moves t s c found h f inside is may =
     reading [] l = absurd l
     reading (e ∷ es) l = (let a = l.0 in let b = l.1 in omega arith, l.2)
 
-pub reads_of : (t : Terms) (slots id c : ℕ) (me : M) (s : St) (k : Kept t s) → get_elem? s.views id ≡ some me.0 → me.0.view.terms ≡ t → (hs : List Hand) → me.0.view.hands ≡ hs → MayRead t c hs
-    → Can t s id me (c + 1) (get_or s.words (c + 1) 0) (HasRead (step slots (c + 1) 0 0 none) me (get_or s.words (c + 1) 0))
-reads_of t slots id c me s k at same [] is may = absurd may
-reads_of t slots id c me s k at same (h ∷ i ∷ hs) is may = absurd may
-reads_of t slots id c me s k at same (h ∷ []) is may =
+pub reads_of : (t : Terms) (id c : ℕ) (me : M) (s : St) (k : Kept t s) → get_elem? s.views id ≡ some me.0 → me.0.view.terms ≡ t → (hs : List Hand) → me.0.view.hands ≡ hs → MayRead t c hs
+    → Can t s id me (c + 1) (get_or s.words (c + 1) 0) (HasRead c me (get_or s.words (c + 1) 0))
+reads_of t id c me s k at same [] is may = absurd may
+reads_of t id c me s k at same (h ∷ i ∷ hs) is may = absurd may
+reads_of t id c me s k at same (h ∷ []) is may =
     let old : core.State = after_schedule t (start t) k.events in
     let v = me.0 in
     let x : ℕ = get_or s.words (c + 1) 0 in
@@ -289,8 +291,28 @@ reads_of t slots id c me s k at same (h ∷ []) is may =
       sym (set-get_or s.words (c + 1) 0 ∙ k.words),
     )
 
-pub reads : (t : Terms) (slots id c : ℕ) (me : M) → 1 < t.workers → me.0.view.terms ≡ t → MayRead t c me.0.view.hands → Allows (Holds t) slots id me (8 * (c + 1)) (λ n. n) (HasReadAt c (step slots (8 * (c + 1)) 0 0 none) me)
-reads t slots id c me more same may = several t slots id me (c + 1) (λ n. n) (HasRead (step slots (c + 1) 0 0 none) me) more (let few = read_inside t c me.0.view.hands may in omega arith) (λ s k at. reads_of t slots id c me s k at same me.0.view.hands refl may)
+pub reads : (t : Terms) (slots id c : ℕ) (me : M) → 1 < t.workers → me.0.view.terms ≡ t → MayRead t c me.0.view.hands → Allows (Holds t) slots id me (8 * (c + 1)) (λ n. n) (HasRead c me)
+reads t slots id c me more same may = several t slots id me (c + 1) (λ n. n) (HasRead c me) more (let few = read_inside t c me.0.view.hands may in omega arith) (λ s k at. reads_of t id c me s k at same me.0.view.hands refl may)
+
+-- what a step of one worker leaves in its hand
+
+fits-moved : (t : Terms) (s : core.State) (e : Event) (h : Hand) (u : Worker) → Moves t s e h.number u → h.number < length s.workers → AllFit (after_event t s e) (hand h.number u ∷ [])
+fits-moved t s e h u m inside = (
+  (
+    subst (λ (n : ℕ). h.number < n) (sym (ap length m.workers ∙ length-set s.workers h.number u)) inside,
+    ap (λ (us : List Worker). get_or us h.number idle) m.workers ∙ get_or-set_same s.workers h.number u idle inside,
+  ),
+  tt,
+)
+
+pub read_fits : (t : Terms) (c x : ℕ) (hs : List Hand) (seen now : core.State) → IsStep t hs seen now read (c + 1) x → MayRead t c hs → AllFit now (first_works (has_read x) hs)
+read_fits t c x [] seen now s may = absurd may
+read_fits t c x (h ∷ i ∷ hs) seen now s may = absurd may
+read_fits t c x (h ∷ []) seen now s may =
+    let old : core.State = s.before in
+    let found : get_or old.loads c 0 ≡ x = subst (λ (n : ℕ). get_or (old.claims ∷ old.loads) n 0 ≡ x) (add-one c) s.found_there in
+    let m = read_moves t old c x h (sym found) s.works.0.0 s.works.0.1 may in
+    subst (λ (y : core.State). AllFit y (first_works (has_read x) (h ∷ []))) (sym s.now_is) (fits-moved t old (read h.number) h (has_read x h.work) m s.works.0.0)
 
 -- the add
 
@@ -301,11 +323,20 @@ add_moves t s k c found h f inside is may = record {
   workers = λ i. set s.workers h.number (has_added k c (sym f i) (is i));
 }
 
-pub adds_of : (t : Terms) (slots id n c a : ℕ) (me : M) (s : St) (k : Kept t s) → get_elem? s.views id ≡ some me.0 → me.0.view.terms ≡ t → (hs : List Hand) → me.0.view.hands ≡ hs → MayAdd t n c hs → a ≡ amount_of t n
-    → Can t s id me (c + 1) ((get_or s.words (c + 1) 0 + a) % 18446744073709551616) (Added n (step slots (c + 1) a 0 none) me (get_or s.words (c + 1) 0))
-adds_of t slots id n c a me s k at same [] is may amount = absurd may
-adds_of t slots id n c a me s k at same (h ∷ i ∷ hs) is may amount = absurd may
-adds_of t slots id n c a me s k at same (h ∷ []) is may amount =
+pub add_fits : (t : Terms) (k c x : ℕ) (hs : List Hand) (seen now : core.State) → IsStep t hs seen now (λ n. add n k c) (c + 1) x → MayAdd t k c hs → AllFit now (first_works (has_added k c x) hs)
+add_fits t k c x [] seen now s may = absurd may
+add_fits t k c x (h ∷ i ∷ hs) seen now s may = absurd may
+add_fits t k c x (h ∷ []) seen now s may =
+    let old : core.State = s.before in
+    let found : get_or old.loads c 0 ≡ x = subst (λ (n : ℕ). get_or (old.claims ∷ old.loads) n 0 ≡ x) (add-one c) s.found_there in
+    let m = add_moves t old k c x h (sym found) s.works.0.0 s.works.0.1 may in
+    subst (λ (y : core.State). AllFit y (first_works (has_added k c x) (h ∷ []))) (sym s.now_is) (fits-moved t old (add h.number k c) h (has_added k c x h.work) m s.works.0.0)
+
+pub adds_of : (t : Terms) (id n c a : ℕ) (me : M) (s : St) (k : Kept t s) → get_elem? s.views id ≡ some me.0 → me.0.view.terms ≡ t → (hs : List Hand) → me.0.view.hands ≡ hs → MayAdd t n c hs → a ≡ amount_of t n
+    → Can t s id me (c + 1) ((get_or s.words (c + 1) 0 + a) % 18446744073709551616) (HasAdded n c me (get_or s.words (c + 1) 0))
+adds_of t id n c a me s k at same [] is may amount = absurd may
+adds_of t id n c a me s k at same (h ∷ i ∷ hs) is may amount = absurd may
+adds_of t id n c a me s k at same (h ∷ []) is may amount =
     let old : core.State = after_schedule t (start t) k.events in
     let v = me.0 in
     let x : ℕ = get_or s.words (c + 1) 0 in
@@ -322,18 +353,15 @@ adds_of t slots id n c a me s k at same (h ∷ []) is may amount =
     let here : get_or (after_event t old e).loads c 0 ≡ sum = get_or-set_same old.loads c sum 0 (let l = before.cells in let inside = may.0 in omega arith) in
     let small : (x + a) % 18446744073709551616 ≡ sum = omega arith in
     let words : set s.words (c + 1) ((x + a) % 18446744073709551616) ≡ old.claims ∷ (after_event t old e).loads =
-    ap (λ (m : ℕ). set s.words (c + 1) m) small ∙ (ap (λ (ws : List ℕ). set ws (c + 1) sum) k.words ∙ ap (λ (m : ℕ). set (old.claims ∷ old.loads) m sum) (add-one c)) in
-    let cell : c ≡ (c + 1) - 1 = omega arith in
-    let by : ℕ → ℕ → Event = λ d w. add w n d in
-    let P : ℕ → Type 0 = λ d. IsStep v.view.terms v.view.hands v.seen (after_event t old e) (by d) (c + 1) x in (
+    ap (λ (m : ℕ). set s.words (c + 1) m) small ∙ (ap (λ (ws : List ℕ). set ws (c + 1) sum) k.words ∙ ap (λ (m : ℕ). set (old.claims ∷ old.loads) m sum) (add-one c)) in (
       known (with_work f v.view) (after_event t old e),
       moved t s k id v h f e (set s.words (c + 1) ((x + a) % 18446744073709551616)) at is same fit.0.0 m words,
-      record { view_is = ap (λ (m : ℕ). with_work (has_added n m x) v.view) cell; rest_is = refl; step = subst P cell (stepped_so t s k id v h (by c) (c + 1) at is same m.legal) },
+      record { view_is = refl; rest_is = refl; step = stepped_so t s k id v h (λ w. add w n c) (c + 1) at is same m.legal },
       sym words,
     )
 
-pub adds : (t : Terms) (slots id n c a : ℕ) (me : M) → 1 < t.workers → me.0.view.terms ≡ t → MayAdd t n c me.0.view.hands → a ≡ amount_of t n → Allows (Holds t) slots id me (8 * (c + 1)) (λ m. (m + a) % 2 ^ 64) (AddedAt n c (step slots (8 * (c + 1)) a 0 none) me)
-adds t slots id n c a me more same may amount = several t slots id me (c + 1) (λ m. (m + a) % 2 ^ 64) (AddedAt n c (step slots (8 * (c + 1)) a 0 none) me) more (let few = add_inside t n c me.0.view.hands may in omega (arith, few.0)) (λ s k at. adds_of t slots id n c a me s k at same me.0.view.hands refl may amount)
+pub adds : (t : Terms) (slots id n c a : ℕ) (me : M) → 1 < t.workers → me.0.view.terms ≡ t → MayAdd t n c me.0.view.hands → a ≡ amount_of t n → Allows (Holds t) slots id me (8 * (c + 1)) (λ m. (m + a) % 2 ^ 64) (HasAdded n c me)
+adds t slots id n c a me more same may amount = several t slots id me (c + 1) (λ m. (m + a) % 2 ^ 64) (HasAdded n c me) more (let few = add_inside t n c me.0.view.hands may in omega (arith, few.0)) (λ s k at. adds_of t id n c a me s k at same me.0.view.hands refl may amount)
 
 -- the split
 
@@ -585,10 +613,19 @@ closes t id v ws xs loads may same f long each =
 pub amount_is : (t : Terms) (n a : ℕ) → n < commodity_count t → a ≡ get_or (amounts t) n a → a ≡ amount_of t n
 amount_is t n a few is = is ∙ get_or_default (amounts t) n a 0 (let m = length-map t.net.commodities (λ (k : Commodity). k.amount) in omega arith)
 
-pub begins_at : (t t' : Terms) (ws : List ℕ) → t' ≡ t → HasApart ws (0 ∷ t.base) → IsStart t → Holds t' (opening ws [] (first_known t'))
+abbrev pub shared_bases : List ℕ → ℕ → List ℕ
+shared_bases base workers = if workers == 1 then [] else base
+
+pub bases_of_several : (base : List ℕ) (workers : ℕ) → 1 < workers → shared_bases base workers ≡ base
+bases_of_several base workers more = ap (λ (b : Bool). if b then [] else base) (ne_eqb workers 1 (λ e. omega arith))
+
+pub cells_of_several : (t : Terms) → 1 < t.workers → shared_cells t ≡ cell_count t
+cells_of_several t more = ap (λ (b : Bool). if b then 0 else cell_count t) (ne_eqb t.workers 1 (λ e. omega arith))
+
+pub begins_at : (t t' : Terms) (ws : List ℕ) → t' ≡ t → HasApart ws (0 ∷ shared_bases t.base t.workers) → IsStart t → Holds t' (opening ws [] (first_known t'))
 begins_at t t' ws same apart h =
     let P : Terms → Type 0 = λ x. Holds x (opening ws [] (first_known x)) in
-    subst P (sym same) record { one = λ _. (first_known t, refl, begins t h); several = λ _. (0 ∷ t.base, apart, begins t h) }
+    subst P (sym same) record { one = λ _. (first_known t, refl, begins t h); several = λ more. (0 ∷ t.base, subst (λ (xs : List ℕ). HasApart ws (0 ∷ xs)) (bases_of_several t.base t.workers more) apart, begins t h) }
 
 -- several workers end as their rule says, and one alone on the words that it has seen
 pub ends_several : (t : Terms) (id : ℕ) (v : Known) (ws : List ℕ) (xs : List (Unit {0})) → 1 < t.workers → Final (Seen (Holds t) id v) ws xs

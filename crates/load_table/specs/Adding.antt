@@ -1,5 +1,5 @@
 -- How the one worker of a pass adds a commodity's amount along a path.
-use Rattle.std.specs.Prelude.{◌≡◌, ℕ, ◌+◌, ◌%◌, ◌^◌, ◌<◌, List, [], ◌∷◌, ◌++◌, All, length, map, slice_index, slice_set}
+use Rattle.std.specs.Prelude.{◌≡◌, ◌≢◌, ℕ, ◌+◌, ◌%◌, ◌^◌, ◌<◌, List, [], ◌∷◌, ◌++◌, All, length, map, slice_index}
 use Rattle.flow_core.specs.declared.state.Entry.{Entry}
 use Rattle.flow_core.specs.declared.state.Worker.{Worker}
 use Rattle.flow_core.specs.Core.{Terms, entry, worker, cell_count, commodity_count, group_of}
@@ -19,15 +19,16 @@ more_adds adds (e ∷ es) = entry e.ticket e.reads (e.adds ++ adds) ∷ es
 abbrev pub adds_all : List (ℕ × ℕ) → List ℕ → Worker → Worker
 adds_all adds found u = worker (more_adds adds u.log) u.stopped u.ticket (u.found ++ found)
 
--- the view after these adds, whatever words they found
+-- the view after these adds, whatever words they found, one each
 abbrev pub HasAddedAll : List (ℕ × ℕ) → View → View → Type 0
-HasAddedAll adds old new = (found : List ℕ) × (new ≡ with_work (adds_all adds found) old)
+HasAddedAll adds old new = (found : List ℕ) × (length found ≡ length adds) × (new ≡ with_work (adds_all adds found) old)
 
 -- the adds of a path
 abbrev pub adds_along : ℕ → List ℕ → List (ℕ × ℕ)
 adds_along k path = map (λ (c : ℕ). (k, c)) path
 
--- the words, of which the first is that of claims, after this amount was added to each cell of a path
-abbrev pub words_along : ℕ → List ℕ → List ℕ → List ℕ
-words_along amount [] words = words
-words_along amount (c ∷ cs) words = words_along amount cs (slice_set words (c + 1) ((slice_index words (c + 1) + amount) % 2 ^ 64))
+-- the words, of which the first is that of claims: this amount more than before where the cell is on the path, and elsewhere as before
+pub record AreMoreAlong (amount : ℕ) (path old new : List ℕ) : Type 0 where
+  pub count : length new ≡ length old
+  pub on : All (λ c. slice_index new (c + 1) ≡ (slice_index old (c + 1) + amount) % 2 ^ 64) path
+  pub off : (i : ℕ) → All (λ c. c + 1 ≢ i) path → slice_index new i ≡ slice_index old i

@@ -1,8 +1,8 @@
 -- The rule of the shared words, and what its steps tell.
-use Rattle.std.specs.Prelude.{◌≡◌, ℕ, ◌+◌, ◌-◌, ◌*◌, ◌%◌, ◌^◌, ◌<◌, ◌≤◌, ◌==◌, nat_lt, false, List, [], ◌∷◌, length, slice_index, slice_set, All}
-use mathlib.Core.Option.{none, some}
+use Rattle.std.specs.Prelude.{◌≡◌, ℕ, ◌+◌, ◌*◌, ◌%◌, ◌^◌, ◌<◌, ◌≤◌, ◌==◌, nat_lt, false, List, [], ◌∷◌, length, slice_index, slice_set, All}
+use mathlib.Core.Option.{some}
 use lib.ListN.{get_elem?}
-use Rattle.atomic_table.specs.Table.{State, Me, Step, step}
+use Rattle.atomic_table.specs.Table.{State, Me}
 use Rattle.flow_core.specs.declared.state.Entry.{Entry}
 use Rattle.flow_core.specs.Core as core
 use Rattle.flow_core.specs.Core.{Terms, Event, claim, read, add, IsLegal, AreLegal, Leads, start, after_event, after_schedule, worker_at, idle, IsStart, amount_of, total, cell_count, ticket_count, LastIsComplete, LastMayAdd, claimed, has_read, has_added}
@@ -12,7 +12,7 @@ use Rattle.load_table.specs.declared.view.Hand.{Hand}
 use Rattle.load_table.specs.declared.view.View.{View}
 use Rattle.load_table.specs.declared.view.Known.{Known}
 use Rattle.load_table.specs.Reading.{reads_all}
-use Rattle.load_table.specs.Adding.{HasAddedAll, adds_along, words_along}
+use Rattle.load_table.specs.Adding.{HasAddedAll, adds_along, AreMoreAlong}
 use Rattle.load_table.specs.Views.{with_work, times_in, hands_of, made_of, splits_of}
 
 -- each hand has what the core has of its worker
@@ -56,7 +56,7 @@ words_of s = s.claims ∷ s.loads
 abbrev pub KeptAlone : Terms → State (Unit {0}) Known → Type 0
 KeptAlone t s = (v : Known) × (s.views ≡ v ∷ []) × Kept t record { words = words_of v.seen; homes = s.homes; views = v ∷ [] }
 
--- the rule: of several workers, some schedule leads to the table's words; of one, to those that it has seen
+-- the rule: of several workers, some schedule leads to the words that the table has apart; of one, to those that it has seen
 pub record Holds (t : Terms) (s : State (Unit {0}) Known) : Type 0 where
   pub one : t.workers ≡ 1 → KeptAlone t s
   pub several : 1 < t.workers → KeptApart t s
@@ -86,35 +86,34 @@ pub record Steps (v : M) (view : View) (event : ℕ → Event) (word found : ℕ
   pub rest_is : w.1 ≡ v.1
   pub step : IsStep v.0.view.terms v.0.view.hands v.0.seen w.0.seen event word found
 
-abbrev pub Claimed : Step (Unit {0}) → M → ℕ → M → Type 0
-Claimed s v found w = Steps v (with_work (claimed (ticket_count v.0.view.terms) found) v.0.view) claim s.word found w
-
-abbrev pub HasRead : Step (Unit {0}) → M → ℕ → M → Type 0
-HasRead s v found w = Steps v (with_work (has_read found) v.0.view) read s.word found w
-
-abbrev pub Added : ℕ → Step (Unit {0}) → M → ℕ → M → Type 0
-Added k s v found w = Steps v (with_work (has_added k (s.word - 1) found) v.0.view) (λ n. add n k (s.word - 1)) s.word found w
+-- a claim
+abbrev pub HasClaimed : M → ℕ → M → Type 0
+HasClaimed v found w = Steps v (with_work (claimed (ticket_count v.0.view.terms) found) v.0.view) claim 0 found w
 
 -- a read at this cell, wherever its word lies
-abbrev pub HasReadAt : ℕ → Step (Unit {0}) → M → ℕ → M → Type 0
-HasReadAt c s v found w = HasRead (step s.slots (c + 1) 0 0 none) v found w
+abbrev pub HasRead : ℕ → M → ℕ → M → Type 0
+HasRead c v found w = Steps v (with_work (has_read found) v.0.view) read (c + 1) found w
 
--- an add for this commodity at this cell
-abbrev pub AddedAt : ℕ → ℕ → Step (Unit {0}) → M → ℕ → M → Type 0
-AddedAt k c s v found w = Added k (step s.slots (c + 1) (amount_of v.0.view.terms k) 0 none) v found w
+-- an add for this commodity at this cell, wherever its word lies
+abbrev pub HasAdded : ℕ → ℕ → M → ℕ → M → Type 0
+HasAdded k c v found w = Steps v (with_work (has_added k c found) v.0.view) (λ n. add n k c) (c + 1) found w
 
 -- a step of one worker alone found the word that it had seen, and left this one in its place
 abbrev pub HasFoundAndPut : ℕ → (ℕ → ℕ) → (ℕ → M → Type 0) → M → M → Type 0
 HasFoundAndPut word f tells v w = tells (slice_index (words_of v.0.seen) word) w × (words_of w.0.seen ≡ slice_set (words_of v.0.seen) word (f (slice_index (words_of v.0.seen) word)))
 
-abbrev pub ClaimedAlone : Step (Unit {0}) → M → ℕ → M → Type 0
-ClaimedAlone s v _ w = HasFoundAndPut 0 (λ n. (n + 1) % 2 ^ 64) (Claimed (step s.slots 0 1 0 none) v) v w
+abbrev pub HasClaimedAlone : M → M → Type 0
+HasClaimedAlone v w = HasFoundAndPut 0 (λ n. (n + 1) % 2 ^ 64) (HasClaimed v) v w
 
-abbrev pub HasReadAlone : ℕ → Step (Unit {0}) → M → ℕ → M → Type 0
-HasReadAlone c s v _ w = HasFoundAndPut (c + 1) (λ n. n) (HasRead (step s.slots (c + 1) 0 0 none) v) v w
+abbrev pub HasReadAlone : ℕ → M → M → Type 0
+HasReadAlone c v w = HasFoundAndPut (c + 1) (λ n. n) (HasRead c v) v w
 
-abbrev pub AddedAlone : ℕ → ℕ → Step (Unit {0}) → M → ℕ → M → Type 0
-AddedAlone k c s v _ w = let a = amount_of v.0.view.terms k in HasFoundAndPut (c + 1) (λ n. (n + a) % 2 ^ 64) (Added k (step s.slots (c + 1) a 0 none) v) v w
+abbrev pub HasAddedAlone : ℕ → ℕ → M → M → Type 0
+HasAddedAlone k c v w = HasFoundAndPut (c + 1) (λ n. (n + amount_of v.0.view.terms k) % 2 ^ 64) (HasAdded k c v) v w
+
+-- hands that had what the pass had seen of their workers have so still
+abbrev pub KeepsWorks : core.State → List Hand → core.State → List Hand → Type 0
+KeepsWorks seen hands seen_now hands_now = AllFit seen hands → AllFit seen_now hands_now
 
 -- one worker alone has read all cells, within their limit, by some schedule from what it saw, and the words are as before
 pub record HasReadAll (v w : M) : Type 0 where
@@ -122,6 +121,7 @@ pub record HasReadAll (v w : M) : Type 0 where
   pub rest_is : w.1 ≡ v.1
   pub small : All (λ x. x ≤ MAX_LENGTH) v.0.seen.loads
   pub since : Leads v.0.view.terms v.0.seen w.0.seen
+  pub works : KeepsWorks v.0.seen v.0.view.hands w.0.seen w.0.view.hands
   pub words : words_of w.0.seen ≡ words_of v.0.seen
 
 -- one worker alone has added a commodity's amount along a path, by some schedule from what it saw, and so to its words
@@ -129,7 +129,8 @@ pub record HasAddedAlong (k : ℕ) (path : List ℕ) (v w : M) : Type 0 where
   pub view_is : HasAddedAll (adds_along k path) v.0.view w.0.view
   pub rest_is : w.1 ≡ v.1
   pub since : Leads v.0.view.terms v.0.seen w.0.seen
-  pub words : words_of w.0.seen ≡ words_along (amount_of v.0.view.terms k) path (words_of v.0.seen)
+  pub works : KeepsWorks v.0.seen v.0.view.hands w.0.seen w.0.view.hands
+  pub words : AreMoreAlong (amount_of v.0.view.terms k) path (words_of v.0.seen) (words_of w.0.seen)
 
 -- the tickets of the hands are below this one, and ascend
 abbrev pub AllFallBelow : ℕ → List Hand → Type 0

@@ -1,15 +1,15 @@
 //! The words that workers share, and the passes by which they step: one word of claims, and one a cell. One worker alone has the
 //! words to itself.
 
-ghost use Rattle.std.specs.Prelude.{◌≡◌, ◌+◌, ◌-◌, ◌*◌, ◌<◌, ◌≤◌, [], ◌∷◌, map, length, slice_index, All, IfOk};
+ghost use Rattle.std.specs.Prelude.{◌≡◌, ◌+◌, ◌-◌, ◌*◌, ◌<◌, ◌≤◌, ◌==◌, [], ◌∷◌, map, length, slice_index, All, IfOk, if◌then◌else◌};
 ghost use Rattle.flow_core.specs.Core.{IsStart, Leads, start, claim, read, add, claimed, has_read, has_added};
 ghost use Rattle.flow_model.specs.Groups.{group_count};
 ghost use Rattle.load_table.specs.Seen.{IsPassOf, HasStepped};
 ghost use Rattle.load_table.specs.Views.{first_view, with_work, cut, cut_off, joined};
 ghost use Rattle.load_table.specs.Reading.{OneWhere, IsFresh, reads_all};
-ghost use Rattle.load_table.specs.Adding.{IsReadyFor, HasAddedAll, adds_along, words_along};
+ghost use Rattle.load_table.specs.Adding.{IsReadyFor, HasAddedAll, adds_along, AreMoreAlong};
 ghost use Rattle.flow_model.specs.Least.{AreDifferent};
-ghost use Rattle.load_table.specs.Rule.{MayClaim, MayRead, MayAdd, MayClose, AllFallBelow, Closes, HasApart};
+ghost use Rattle.load_table.specs.Rule.{MayClaim, MayRead, MayAdd, MayClose, AllFallBelow, Closes, HasApart, KeepsWorks};
 
 use crate::rule::{
     Adds, AddsAlone, AddsAlong, Claims, ClaimsAlone, Cuts, LoadRule, OfCell, OfCommodity, OfPath,
@@ -23,13 +23,15 @@ use std::alloc::{AllocError, Global};
 use std::marker::{Brand, Model};
 use std::snapshot::Snapshot;
 
-/// The shared words, whose steps are single atomic ones. Where there is one worker, no other thread sees the words: its pass has them,
-/// and steps on them plainly. Contracts see the table, and what the phase starts from: the network, whose groups these are, the setting, the base and the number of workers.
+/// The shared words, whose steps are single atomic ones. Where there is one worker, no other thread sees the words: its pass has
+/// them, and steps on them plainly. Contracts see the table, and what the phase starts from: the network, whose groups these are,
+/// the setting, the base and the number of workers.
 #[derive(Drop)]
 pub struct Loads {
     table: Table<(), Known, Origin, LoadRule, Global>,
     amounts: Vec<u64>,
     groups: u16,
+    cells: u16,
     alone: bool,
     alloc: Global,
 }
@@ -41,10 +43,11 @@ impl Model for Loads {
 
     ghost view = { λ l. record { table = l.table.shared.table_id; terms = l.table.shared.key } };
 
-    ghost invariant = { λ l. IsLoads l.table.shared.table_id l.table.shared.key l.amounts.items l.groups l.alone };
+    ghost invariant = { λ l. IsLoads l.table.shared.table_id l.table.shared.key l.amounts.items l.groups l.cells l.alone };
 }
 
-/// What some workers have done. Contracts see the table, and what the pass knows: its workers with their entries and stops, and its splits left and made.
+/// What some workers have done. Contracts see the table, and what the pass knows: its workers with their entries and stops, and
+/// its splits left and made.
 #[derive(Drop)]
 pub struct Pass {
     seat: Seat<(), Known>,
@@ -69,9 +72,16 @@ fn amounts_of(alloc: Global, commodities: &[Commodity]) -> Result<Vec<u64>, Allo
     commodities.iter().map(|k| k.amount).collect(alloc)
 }
 
-/// Words of the table lie so many apart, so that none shares a line of memory with another: processors pass lines on whole, and one that
-/// adds to a word has to wait for its line.
+/// Words of the table lie so many apart, so that none shares a line of memory with another: processors pass lines on whole, and
+/// one that adds to a word has to wait for its line.
 const APART: usize = 8;
+
+/// The bases that have a word in the table: where there is one worker, which has the words in its pass, none.
+fn shared_bases(base: &[u64], workers: u16) -> &[u64]
+    ensures { result.now ≡ if workers == 1 then [] else base.now }
+{
+    if workers == 1 { &base[..0] } else { base }
+}
 
 /// The words of the table: 0, and each base, apart.
 fn words_apart(alloc: Global, base: &[u64]) -> Result<Vec<u64>, AllocError>
@@ -115,8 +125,9 @@ fn own_words(alloc: Global, words: Vec<u64>, workers: u16) -> Vec<u64>
 
 /// Adds the amount to the word of each cell of a path.
 fn put_along(own: &mut [u64], path: &[u16], amount: u64)
-    requires { All (λ c. c + 1 < length own.old) path.now }
-    ensures { own.new ≡ words_along amount path.now own.old }
+    requires inside { All (λ c. c + 1 < length own.old) path.now }
+    requires different { AreDifferent path.now }
+    ensures { AreMoreAlong amount path.now own.old own.new }
 {
     for cell in path {
         let word = *cell as usize + 1;
@@ -125,7 +136,8 @@ fn put_along(own: &mut [u64], path: &[u16], amount: u64)
 }
 
 impl Loads {
-    /// Word 0 is 0, and each cell's word is its base. The pass is that of worker 0, with a split for each other worker. `Err` is for want of memory.
+    /// Word 0 is 0, and each cell's word is its base. The pass is that of worker 0, with a split for each other worker. `Err` is for
+    /// want of memory.
     pub fn new(
         alloc: Global,
         net: &Net,
@@ -149,14 +161,14 @@ impl Loads {
             words: Snapshot::of(&words),
             workers,
         };
-        let apart = words_apart(alloc, base)?;
+        let apart = words_apart(alloc, shared_bases(base, workers))?;
         let (table, seat) = Table::of_words(alloc, apart.as_slice(), &origin)?;
-        let groups = groups.count();
         Ok((
             Loads {
                 table,
                 amounts,
-                groups,
+                groups: groups.count(),
+                cells: base.len() as u16,
                 alone: workers == 1,
                 alloc,
             },
@@ -178,7 +190,7 @@ impl Loads {
     pub fn cell_count(&self) -> u16
         ensures { result ≡ length self.now.terms.net.cells }
     {
-        (self.table.word_count() / APART) as u16
+        self.cells
     }
 
     /// A pass for the next worker, which has done nothing.
@@ -223,7 +235,8 @@ impl Loads {
         found
     }
 
-    /// Takes a ticket by one `fetch_add` on word 0, or plainly where there is one worker. One below the number of groups is the group to route, any other says that all have been claimed.
+    /// Takes a ticket by one `fetch_add` on word 0, or plainly where there is one worker. One below the number of groups is the
+    /// group to route, any other says that all have been claimed.
     pub fn claim(&self, pass: &mut Pass) -> u64
         requires of { IsPassOf self.now pass.old }
         requires may { MayClaim self.now.terms pass.old.view.hands }
@@ -294,6 +307,7 @@ impl Loads {
         ensures of { IsPassOf self.now pass.new }
         ensures view { pass.new.view ≡ with_work (reads_all reads.new) pass.old.view }
         ensures since { Leads self.now.terms pass.old.seen pass.new.seen }
+        ensures works { KeepsWorks pass.old.seen pass.old.view.hands pass.new.seen pass.new.view.hands }
         ensures small { All (λ x. x ≤ MAX_LENGTH) reads.new }
     {
         for cell in 0..self.cell_count() {
@@ -309,6 +323,7 @@ impl Loads {
         ensures of { IsPassOf self.now pass.new }
         ensures view { pass.new.view ≡ with_work (reads_all reads.new) pass.old.view }
         ensures since { Leads self.now.terms pass.old.seen pass.new.seen }
+        ensures works { KeepsWorks pass.old.seen pass.old.view.hands pass.new.seen pass.new.view.hands }
         ensures small { All (λ x. x ≤ MAX_LENGTH) reads.new }
     {
         self.table.shared.load::<ReadsAll>(&mut pass.seat, 0);
@@ -323,6 +338,7 @@ impl Loads {
         ensures of { IsPassOf self.now pass.new }
         ensures view { pass.new.view ≡ with_work (reads_all reads.new) pass.old.view }
         ensures since { Leads self.now.terms pass.old.seen pass.new.seen }
+        ensures works { KeepsWorks pass.old.seen pass.old.view.hands pass.new.seen pass.new.view.hands }
         ensures small { All (λ x. x ≤ MAX_LENGTH) reads.new }
     {
         if self.alone {
@@ -368,7 +384,8 @@ impl Loads {
         found
     }
 
-    /// Adds a commodity's amount to a cell by one `fetch_add`, or plainly where there is one worker, and answers the word before it.
+    /// Adds a commodity's amount to a cell by one `fetch_add`, or plainly where there is one worker, and answers the word before
+    /// it.
     pub fn add_cell(&self, pass: &mut Pass, k: u32, cell: u16) -> u64
         requires of { IsPassOf self.now pass.old }
         requires may { MayAdd self.now.terms k cell pass.old.view.hands }
@@ -392,6 +409,7 @@ impl Loads {
         ensures of { IsPassOf self.now pass.new }
         ensures view { HasAddedAll (adds_along k path.now) pass.old.view pass.new.view }
         ensures since { Leads self.now.terms pass.old.seen pass.new.seen }
+        ensures works { KeepsWorks pass.old.seen pass.old.view.hands pass.new.seen pass.new.view.hands }
     {
         for cell in path {
             self.add_for::<Brand, Brand>(pass, k, *cell);
@@ -410,13 +428,15 @@ impl Loads {
         ensures of { IsPassOf self.now pass.new }
         ensures view { HasAddedAll (adds_along k path.now) pass.old.view pass.new.view }
         ensures since { Leads self.now.terms pass.old.seen pass.new.seen }
+        ensures works { KeepsWorks pass.old.seen pass.old.view.hands pass.new.seen pass.new.view.hands }
     {
         let amount = self.amounts[k as usize];
         self.table.shared.load::<AddsAlong<J, L>>(&mut pass.seat, 0);
         put_along(&mut pass.own, path, amount);
     }
 
-    /// Adds a commodity's amount to each cell of a path, in order, by one `fetch_add` each, or plainly where there is one worker.
+    /// Adds a commodity's amount to each cell of a path, in order, by one `fetch_add` each, or plainly where there is one worker:
+    /// all adds of the commodity, after all those of commodities below it.
     pub fn add_path(&self, pass: &mut Pass, k: u32, path: &[u16])
         requires of { IsPassOf self.now pass.old }
         requires ready { OneWhere (IsReadyFor self.now.terms k) pass.old.view.hands }
@@ -425,6 +445,7 @@ impl Loads {
         ensures of { IsPassOf self.now pass.new }
         ensures view { HasAddedAll (adds_along k path.now) pass.old.view pass.new.view }
         ensures since { Leads self.now.terms pass.old.seen pass.new.seen }
+        ensures works { KeepsWorks pass.old.seen pass.old.view.hands pass.new.seen pass.new.view.hands }
     {
         if self.alone {
             self.add_along::<Brand, Brand>(pass, k, path)
@@ -473,7 +494,8 @@ impl Loads {
         into.copy_from_slice(&own[1..]);
     }
 
-    /// Puts the load of each cell in its place: the base and all adds. Some schedule leads there with the entries and stops of the pass and no others.
+    /// Puts the load of each cell in its place: the base and all adds. Some schedule leads there with the entries and stops of the
+    /// pass and no others.
     pub fn close(self, pass: Pass, into: &mut [u64])
         requires of { IsPassOf self pass }
         requires whole { MayClose self.terms pass.view }

@@ -2,14 +2,14 @@
 
 ghost use Rattle.std.specs.Prelude.{ℕ, List, []};
 ghost use Rattle.load_table.specs.Views.{first_known, keeps_known, cuts_known, joins_known, spent_known};
-ghost use Rattle.load_table.specs.Rule.{Holds, Claimed, HasReadAt, AddedAt, ClaimedAlone, HasReadAlone, AddedAlone, HasReadAll, HasAddedAlong};
+ghost use Rattle.load_table.specs.Rule.{Holds, HasClaimed, HasRead, HasAdded, HasClaimedAlone, HasReadAlone, HasAddedAlone, HasReadAll, HasAddedAlong};
 
 use crate::view::{Known, Origin};
 use atomic_table::{Join, Play, Split, TableRule};
 use std::marker::{Brand, PhantomData};
 
-/// Some schedule of the core leads to the words and to what the passes know. The words are those of the table, or, where there is one
-/// worker, its pass's own.
+/// Some schedule of the core leads to the words and to what the passes know. The words are those that the table has apart, or, where
+/// there is one worker, its pass's own.
 pub(crate) struct LoadRule;
 
 impl TableRule<(), Known, Origin> for LoadRule {
@@ -21,7 +21,7 @@ impl TableRule<(), Known, Origin> for LoadRule {
 pub(crate) struct Claims;
 
 impl Play<(), Known> for Claims {
-    ghost then = { Claimed };
+    ghost then = { λ _. HasClaimed };
 }
 
 /// Which commodity an add is for.
@@ -56,7 +56,7 @@ pub(crate) struct Reads<L> {
 }
 
 impl<L: OfCell> Play<(), Known> for Reads<L> {
-    ghost then = { HasReadAt L.cell };
+    ghost then = { λ _. HasRead L.cell };
 }
 
 pub(crate) struct Adds<J, L> {
@@ -65,14 +65,14 @@ pub(crate) struct Adds<J, L> {
 }
 
 impl<J: OfCommodity, L: OfCell> Play<(), Known> for Adds<J, L> {
-    ghost then = { AddedAt J.commodity L.cell };
+    ghost then = { λ _. HasAdded J.commodity L.cell };
 }
 
 /// A claim on a pass's own words: the step on the table is a load, for the proof alone. So are those of the other four.
 pub(crate) struct ClaimsAlone;
 
 impl Play<(), Known> for ClaimsAlone {
-    ghost then = { ClaimedAlone };
+    ghost then = { λ _ v _ w. HasClaimedAlone v w };
 }
 
 pub(crate) struct ReadsAlone<L> {
@@ -80,7 +80,7 @@ pub(crate) struct ReadsAlone<L> {
 }
 
 impl<L: OfCell> Play<(), Known> for ReadsAlone<L> {
-    ghost then = { HasReadAlone L.cell };
+    ghost then = { λ _ v _ w. HasReadAlone L.cell v w };
 }
 
 pub(crate) struct AddsAlone<J, L> {
@@ -89,7 +89,7 @@ pub(crate) struct AddsAlone<J, L> {
 }
 
 impl<J: OfCommodity, L: OfCell> Play<(), Known> for AddsAlone<J, L> {
-    ghost then = { AddedAlone J.commodity L.cell };
+    ghost then = { λ _ v _ w. HasAddedAlone J.commodity L.cell v w };
 }
 
 pub(crate) struct ReadsAll;

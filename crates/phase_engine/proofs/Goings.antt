@@ -62,7 +62,7 @@ goes_on t net n count ticket routes routes' new reads adds v w x same g is l don
     let e = entry ticket reads adds in
     record {
       work = worker (e ∷ g.work.log) g.work.stopped ticket (g.work.found ++ done.0);
-      hands_are = hands_after (finishes reads adds done.0) n w x (worker (entry ticket [] [] ∷ g.work.log) g.work.stopped ticket g.work.found) done.1 mid;
+      hands_are = hands_after (finishes reads adds done.0) n w x (worker (entry ticket [] [] ∷ g.work.log) g.work.stopped ticket g.work.found) done.2 mid;
       complete = (complete, g.complete);
       going = g.going;
       routes_are = more ∙ ((λ i. g.routes_are i ++ (are ∙ ap (λ (m : Network). routes_in m e) (sym same)) i) ∙ sym (routes_more t.net g.work.log e));
@@ -101,7 +101,7 @@ pub next_after : (t : Terms) (n count ticket : ℕ) (routes : List Route) (reads
 next_after t n count ticket routes reads adds v w x g is l done =
     let mid : w.hands ≡ hand n (worker (entry ticket [] [] ∷ g.work.log) g.work.stopped ticket g.work.found) ∷ [] =
     hands_after (claimed count ticket) n v w g.work is g.hands_are ∙ ap (λ (u : Worker). hand n u ∷ []) (claims_one count ticket g.work l) in
-    ap next_ticket (hands_after (finishes reads adds done.0) n w x (worker (entry ticket [] [] ∷ g.work.log) g.work.stopped ticket g.work.found) done.1 mid)
+    ap next_ticket (hands_after (finishes reads adds done.0) n w x (worker (entry ticket [] [] ∷ g.work.log) g.work.stopped ticket g.work.found) done.2 mid)
 
 pub room_for : (count most nodes room : ℕ) → count ≤ most → most * nodes ≤ room → count * nodes ≤ room
 room_for count most nodes room l h =

@@ -1,5 +1,5 @@
 -- How the one worker of a view gets on.
-use Rattle.std.proofs.Common.{◌≡◌, ℕ, zero, suc, ◌+◌, ◌-◌, ◌*◌, ◌<◌, ◌≤◌, List, [], ◌∷◌, ◌++◌, take, length, get_or, refl, sym, ap, ◌∙◌, subst, arith, add-one, append_assoc, append-nil}
+use Rattle.std.proofs.Common.{◌≡◌, ℕ, zero, suc, ◌+◌, ◌-◌, ◌*◌, ◌<◌, ◌≤◌, List, [], ◌∷◌, ◌++◌, take, length, get_or, refl, sym, ap, ◌∙◌, subst, arith, add-one, append_assoc, append-nil, length-append}
 use Rattle.std.proofs.Math.Nat.{suc-mul}
 use Rattle.std.specs.Prelude.{All}
 use Rattle.std.specs.List.Sorted.{IsStrictlyIncreasing}
@@ -34,7 +34,8 @@ pub adds_two : (ps qs : List (ℕ × ℕ)) (v w x : View) → HasAddedAll ps v w
 adds_two ps qs v w x h g =
     let xs = h.0 in
     let ys = g.0 in
-    (xs ++ ys, g.1 ∙ (ap (with_work (adds_all qs ys)) h.1 ∙ with-with (adds_all qs ys) (adds_all ps xs) (adds_all (ps ++ qs) (xs ++ ys)) (adds-twice ps qs xs ys) v))
+    let count : length (xs ++ ys) ≡ length (ps ++ qs) = (let a = length-append xs ys in let b = length-append ps qs in let c = h.1 in let d = g.1 in omega arith) in
+    (xs ++ ys, count, g.2 ∙ (ap (with_work (adds_all qs ys)) h.2 ∙ with-with (adds_all qs ys) (adds_all ps xs) (adds_all (ps ++ qs) (xs ++ ys)) (adds-twice ps qs xs ys) v))
 
 -- routes
 
@@ -86,7 +87,7 @@ before-below ms i l up = λ j d inside.
 
 pub ready_next : (t : Terms) (net : Network) (s : Searched) (ms : List ℕ) (i : ℕ) (v w : View) → i < length ms → IsStrictlyIncreasing ms → OneWhere (IsReadyForAll t ms) v.hands
     → HasAddedAll (adds_of (routes_to net s (take i ms))) v w → OneWhere (IsReadyFor t (get_or ms i 0)) w.hands
-ready_next t net s ms i v w l up one is = subst (λ (x : View). OneWhere (IsReadyFor t (get_or ms i 0)) x.hands) (sym is.1) (hands v.hands one)
+ready_next t net s ms i v w l up one is = subst (λ (x : View). OneWhere (IsReadyFor t (get_or ms i 0)) x.hands) (sym is.2) (hands v.hands one)
   where
     log : (es : List Entry) → LastWhere (IsReadyForAll t ms) es → LastWhere (IsReadyFor t (get_or ms i 0)) (more_adds (adds_of (routes_to net s (take i ms))) es)
     log [] h = absurd h

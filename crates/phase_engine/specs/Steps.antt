@@ -17,9 +17,9 @@ IsReadyForAll t members e = (length e.reads ≡ cell_count t) × (e.adds ≡ [])
 abbrev pub finishes : List ℕ → List (ℕ × ℕ) → List ℕ → Worker → Worker
 finishes reads adds found u = worker (more_adds adds (put_reads reads u.log)) u.stopped u.ticket (u.found ++ found)
 
--- the view after these reads and adds, whatever words the adds found
+-- the view after these reads and adds, whatever words the adds found, one each
 abbrev pub HasFinished : List ℕ → List (ℕ × ℕ) → View → View → Type 0
-HasFinished reads adds old new = (found : List ℕ) × (new ≡ with_work (finishes reads adds found) old)
+HasFinished reads adds old new = (found : List ℕ) × (length found ≡ length adds) × (new ≡ with_work (finishes reads adds found) old)
 
 -- the adds of routes, one after the other
 abbrev pub adds_of : List Route → List (ℕ × ℕ)

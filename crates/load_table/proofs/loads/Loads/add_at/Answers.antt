@@ -1,13 +1,11 @@
 use Rattle.std.proofs.Common.{ℕ, ◌≡◌, ◌+◌, ◌%◌, ap, ◌∙◌, sym, subst, rules, arith, get_or, List, set, slice_index_or}
-use mathlib.Core.Option.{none}
-use Rattle.atomic_table.specs.Table.{step}
 use Rattle.flow_core.specs.Core.{amount_of, has_added, add}
-use Rattle.load_table.specs.Rule.{MayAdd, Steps, words_of, AddedAlone}
+use Rattle.load_table.specs.Rule.{MayAdd, words_of, HasAdded, HasAddedAlone}
 use Rattle.load_table.specs.Seen.{PassView, AreWordsOf}
 use Rattle.load_table.specs.declared.view.View.{View}
 use Rattle.load_table.specs.Views.{with_work}
 use Rattle.load_table.proofs.Keeps.{add_inside, amount_is}
-use Rattle.load_table.proofs.Alone.{adds_alone, one_inside, own_count, word_at, own_after, added_so, outside}
+use Rattle.load_table.proofs.Alone.{adds_alone, one_inside, own_count, word_at, own_after, outside}
 use Rattle.load_table.proofs.loads.Loads.add_at.Goals as goal
 
 pub load-requires : goal.load-requires
@@ -40,8 +38,8 @@ invariant_of-pass g c =
     let inside = add_inside c.args.self.now.terms c.args.k c.args.cell c.args.pass.now.view.hands c.requires.may in
     let count = own_count c.args.self.now c.args.pass.now _ v.0 xs c.pass.view_is c.requires.of own in
     let found : x ≡ get_or (words_of v.0.seen) (c.args.cell + 1) 0 = word_at v.0 xs (c.args.cell + 1) x own (omega arith) c.index-found.ensures in
-    let told : AddedAlone k c.args.cell (step c.self.inside.table.shared.table_id.slots 0 0 0 none) v c.load.result w = subst (λ (d : ℕ). AddedAlone k d (step c.self.inside.table.shared.table_id.slots 0 0 0 none) v c.load.result w) (sym c.requires.placed) c.load.ensures.2 in
-    let s : Steps v (with_work (has_added k c.args.cell x) v.0.view) (λ n. add n k c.args.cell) (c.args.cell + 1) x w = added_so c.self.inside.table.shared.table_id.slots k c.args.cell (amount_of v.0.view.terms k) x v w found told.0 in
+    let told : HasAddedAlone k c.args.cell v w = subst (λ (d : ℕ). HasAddedAlone k d v w) (sym c.requires.placed) c.load.ensures.2 in
+    let s : HasAdded k c.args.cell v x w = subst (λ (y : ℕ). HasAdded k c.args.cell v y w) (sym found) told.0 in
     let t = c.self.inside.table.shared.key in
     let same : v.0.view.terms ≡ t = search rules in
     let may : MayAdd t c.args.k c.args.cell v.0.view.hands = search rules in
@@ -64,8 +62,8 @@ returns-clause-view g c =
     let inside = add_inside c.args.self.now.terms c.args.k c.args.cell c.args.pass.now.view.hands c.requires.may in
     let count = own_count c.args.self.now c.args.pass.now _ v.0 xs c.pass.view_is c.requires.of own in
     let found : x ≡ get_or (words_of v.0.seen) (c.args.cell + 1) 0 = word_at v.0 xs (c.args.cell + 1) x own (omega arith) c.index-found.ensures in
-    let told : AddedAlone k c.args.cell (step c.self.inside.table.shared.table_id.slots 0 0 0 none) v c.load.result w = subst (λ (d : ℕ). AddedAlone k d (step c.self.inside.table.shared.table_id.slots 0 0 0 none) v c.load.result w) (sym c.requires.placed) c.load.ensures.2 in
-    let s : Steps v (with_work (has_added k c.args.cell x) v.0.view) (λ n. add n k c.args.cell) (c.args.cell + 1) x w = added_so c.self.inside.table.shared.table_id.slots k c.args.cell (amount_of v.0.view.terms k) x v w found told.0 in
+    let told : HasAddedAlone k c.args.cell v w = subst (λ (d : ℕ). HasAddedAlone k d v w) (sym c.requires.placed) c.load.ensures.2 in
+    let s : HasAdded k c.args.cell v x w = subst (λ (y : ℕ). HasAdded k c.args.cell v y w) (sym found) told.0 in
     s.view_is ∙ ap (λ (p : PassView). with_work (has_added k c.args.cell x) p.view) c.pass.view_is
 
 pub returns-clause-step : goal.returns-clause-step
@@ -79,6 +77,6 @@ returns-clause-step g c =
     let inside = add_inside c.args.self.now.terms c.args.k c.args.cell c.args.pass.now.view.hands c.requires.may in
     let count = own_count c.args.self.now c.args.pass.now _ v.0 xs c.pass.view_is c.requires.of own in
     let found : x ≡ get_or (words_of v.0.seen) (c.args.cell + 1) 0 = word_at v.0 xs (c.args.cell + 1) x own (omega arith) c.index-found.ensures in
-    let told : AddedAlone k c.args.cell (step c.self.inside.table.shared.table_id.slots 0 0 0 none) v c.load.result w = subst (λ (d : ℕ). AddedAlone k d (step c.self.inside.table.shared.table_id.slots 0 0 0 none) v c.load.result w) (sym c.requires.placed) c.load.ensures.2 in
-    let s : Steps v (with_work (has_added k c.args.cell x) v.0.view) (λ n. add n k c.args.cell) (c.args.cell + 1) x w = added_so c.self.inside.table.shared.table_id.slots k c.args.cell (amount_of v.0.view.terms k) x v w found told.0 in
+    let told : HasAddedAlone k c.args.cell v w = subst (λ (d : ℕ). HasAddedAlone k d v w) (sym c.requires.placed) c.load.ensures.2 in
+    let s : HasAdded k c.args.cell v x w = subst (λ (y : ℕ). HasAdded k c.args.cell v y w) (sym found) told.0 in
     outside c.args.self.now c.args.pass.now _ v.0 w.0.seen (λ n. add n k c.args.cell) (c.args.cell + 1) x c.pass.view_is c.requires.of s.step

@@ -1,9 +1,8 @@
 use Rattle.std.proofs.Common.{rules, arith, ℕ, List, ◌+◌, ◌*◌, ◌%◌, ◌^◌, ◌<◌, ◌≡◌, ap, sym, subst, ◌∙◌, slice_index_or}
 use Rattle.flow_core.specs.Core.{cell_count, amounts}
-use mathlib.Core.Option.{none}
-use Rattle.atomic_table.specs.Table.{Allows, step}
-use Rattle.load_table.specs.Rule.{MayAdd, Holds, AddedAt}
-use Rattle.load_table.proofs.Keeps.{adds, add_inside, amount_is}
+use Rattle.atomic_table.specs.Table.{Allows}
+use Rattle.load_table.specs.Rule.{MayAdd, Holds, HasAdded}
+use Rattle.load_table.proofs.Keeps.{adds, add_inside, amount_is, cells_of_several}
 use Rattle.load_table.proofs.loads.Loads.add_for.Goals as goal
 
 pub fetch_add-requires : goal.fetch_add-requires
@@ -17,6 +16,7 @@ fetch_add-requires g c =
     let inside = add_inside t c.args.k c.args.cell me.hands may in
     let few : c.args.cell < cell_count t = inside.0 in
     let wide = c.self.invariant.words in
+    let all_cells = cells_of_several t (search rules) in
     let amount = amount_is t c.args.k c.index-amount.result.now inside.1 (c.index-amount.ensures ∙ ap (λ (xs : List ℕ). slice_index_or xs c.args.k c.index-amount.result.now) c.self.invariant.sizes_are) in
     let k = g.J.OfCommodity.commodity in
     let cell = g.L.OfCell.cell in
@@ -25,5 +25,5 @@ fetch_add-requires g c =
     let id = c.pass.inside.seat.id in
     let seat = c.pass.inside.seat.me in
     let size : a ≡ slice_index_or (amounts t) k 0 = subst (λ (n : ℕ). a ≡ slice_index_or (amounts t) n 0) c.requires.named amount in
-    let all : Allows (Holds t) slots id seat (8 * (cell + 1)) (λ m. (m + a) % 2 ^ 64) (AddedAt k cell (step slots (8 * (cell + 1)) a 0 none) seat) = adds t slots id k cell a seat (search rules) same may' size in
-    (search rules, omega arith, subst (λ (n : ℕ). Allows (Holds t) slots id seat (8 * (n + 1)) (λ m. (m + a) % 2 ^ 64) (AddedAt k cell (step slots (8 * (n + 1)) a 0 none) seat)) (sym c.requires.placed) all)
+    let all : Allows (Holds t) slots id seat (8 * (cell + 1)) (λ m. (m + a) % 2 ^ 64) (HasAdded k cell seat) = adds t slots id k cell a seat (search rules) same may' size in
+    (search rules, omega arith, subst (λ (n : ℕ). Allows (Holds t) slots id seat (8 * (n + 1)) (λ m. (m + a) % 2 ^ 64) (HasAdded k cell seat)) (sym c.requires.placed) all)

@@ -8,4 +8,5 @@ pub of_words-requires : goal.of_words-requires
 of_words-requires c =
     let t : Terms = record { net = c.args.net.now; setting = c.args.setting; base = c.args.base.now; workers = c.args.workers } in
     let base : drop 1 c.of-2.result.value.items ≡ c.args.base.now = ap (λ v. drop 1 v.items) c.of-2.ensures ∙ ap (drop 1) c.in_ok-words.ensures in
-    begins_at t _ _ (λ i. record { net = c.of.ensures i; setting = c.args.setting; base = base i; workers = c.args.workers }) (subst (λ (ws : List ℕ). HasApart ws (0 ∷ c.args.base.now)) (sym c.as_slice.ensures.value) c.in_ok-apart.ensures.apart) c.requires.start
+    let P : List ℕ × List ℕ → Type 0 = λ z. HasApart z.0 (0 ∷ z.1) in
+    begins_at t _ _ (λ i. record { net = c.of.ensures i; setting = c.args.setting; base = base i; workers = c.args.workers }) (subst P (λ i. (sym c.as_slice.ensures.value i, c.shared_bases.ensures i)) c.in_ok-apart.ensures.apart) c.requires.start

@@ -1,12 +1,11 @@
 use Rattle.std.proofs.Common.{rules, arith, ◌+◌, ◌*◌, ◌<◌, ap, sym, subst, ℕ}
 use Rattle.flow_core.specs.Core.{cell_count}
-use mathlib.Core.Option.{none}
-use Rattle.atomic_table.specs.Table.{Allows, step}
-use Rattle.load_table.specs.Rule.{MayRead, Holds, HasReadAt}
+use Rattle.atomic_table.specs.Table.{Allows}
+use Rattle.load_table.specs.Rule.{MayRead, Holds, HasRead}
 use Rattle.load_table.specs.Rule.{IsStep}
 use Rattle.load_table.specs.Seen.{LoadsView}
 use Rattle.flow_core.specs.Core.{IsStart, read}
-use Rattle.load_table.proofs.Keeps.{reads, read_inside, word_within}
+use Rattle.load_table.proofs.Keeps.{reads, read_inside, word_within, cells_of_several}
 use Rattle.load_table.proofs.loads.Loads.read_shared.Goals as goal
 
 pub load-requires : goal.load-requires
@@ -16,13 +15,14 @@ load-requires g c =
     let may : MayRead t c.args.cell hands = search rules in
     let few : c.args.cell < cell_count t = read_inside t c.args.cell hands may in
     let wide = c.self.invariant.words in
+    let all_cells = cells_of_several t (search rules) in
     let cell = g.L.OfCell.cell in
     let slots = c.self.inside.table.shared.table_id.slots in
     let id = c.pass.inside.seat.id in
     let me = c.pass.inside.seat.me in
     let may' : MayRead t cell hands = subst (λ (n : ℕ). MayRead t n hands) c.requires.placed may in
-    let all : Allows (Holds t) slots id me (8 * (cell + 1)) (λ n. n) (HasReadAt cell (step slots (8 * (cell + 1)) 0 0 none) me) = reads t slots id cell me (search rules) (search rules) may' in
-    (search rules, omega arith, subst (λ (n : ℕ). Allows (Holds t) slots id me (8 * (n + 1)) (λ m. m) (HasReadAt cell (step slots (8 * (n + 1)) 0 0 none) me)) (sym c.requires.placed) all)
+    let all : Allows (Holds t) slots id me (8 * (cell + 1)) (λ n. n) (HasRead cell me) = reads t slots id cell me (search rules) (search rules) may' in
+    (search rules, omega arith, subst (λ (n : ℕ). Allows (Holds t) slots id me (8 * (n + 1)) (λ m. m) (HasRead cell me)) (sym c.requires.placed) all)
 
 pub returns-clause-within : goal.returns-clause-within
 returns-clause-within g c =
