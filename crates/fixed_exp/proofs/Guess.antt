@@ -1,6 +1,15 @@
 -- A quotient by a rate: the guess is the quotient or one less.
-use Rattle.std.proofs.Common.{◌≡◌, ℕ, ◌+◌, ◌-◌, ◌*◌, ◌/◌, ◌^◌, ◌<◌, ◌≤◌, arith, sym, subst}
-use Rattle.std.proofs.Math.Nat.{mul-le-mul_left, mul-le-mul_right, mul_assoc, div-mul-le_self, lt-div-mul-add, div-eq_of_lt-le, div-le_of_le-mul}
+use Rattle.std.proofs.Common.{◌≡◌, ℕ, ◌+◌, ◌-◌, ◌*◌, ◌/◌, ◌^◌, ◌<◌, ◌≤◌, Bool, true, false, arith, refl, sym, ap, ◌∙◌, subst}
+use Rattle.std.specs.Prelude.{◌==◌, if◌then◌else◌}
+use Rattle.std.proofs.lemmas.Bool.Decides.{nat_tests}
+use Rattle.std.proofs.Math.Nat.{mul-le-mul_left, mul-le-mul_right, mul_assoc, div-mul-le_self, lt-div-mul-add, div-eq_of_lt-le, div-le_of_le-mul, zero-div}
+use mir.Val.{bool_byte}
+use lib.Dec.{leb}
+use Rattle.flow_model.specs.declared.net.Cell.{Cell}
+use Rattle.flow_model.specs.declared.setting.Setting.{Setting}
+use Rattle.flow_model.specs.Lengths.{exponent}
+use Rattle.fixed_exp.specs.Kept.{HasExponentRate, factor_of}
+use Rattle.fixed_exp.specs.declared.rates.Rate.{Rate}
 
 -- no guess is above the quotient
 pub guess_low : (w least cap rate guess : ℕ) → rate ≡ 2 ^ 52 * least / cap → guess ≡ w * rate / 2 ^ 40 → guess * cap ≤ w * 4096 * least
@@ -28,8 +37,90 @@ quotient_same above cap guess low less = div-eq_of_lt-le cap low (grind (arith, 
 pub quotient_more : (above cap guess : ℕ) → above < guess * cap + 2 * cap → cap ≤ above - guess * cap → above / cap ≡ guess + 1
 quotient_more above cap guess high more = div-eq_of_lt-le cap (grind (arith, more)) (grind (arith, high))
 
+pub byte_small : (b : Bool) → bool_byte b ≤ 1
+byte_small true = omega arith
+byte_small false = omega arith
+
+pub told_by_rest : (above below guess : ℕ) → guess * below ≤ above → above < guess * below + 2 * below → guess + bool_byte (leb below (above - guess * below)) ≡ above / below
+told_by_rest above below guess low high = by_test (leb below (above - guess * below)) refl
+  where
+    by_test : (b : Bool) → leb below (above - guess * below) ≡ b → guess + bool_byte b ≡ above / below
+    by_test true e = sym (quotient_more above below guess high (grind (arith, nat_tests)))
+    by_test false e = let n : guess + 0 ≡ guess = omega arith in n ∙ sym (quotient_same above below guess low (grind (arith, nat_tests)))
+
 pub rate_small : (least cap rate : ℕ) → least ≤ cap → rate ≡ 2 ^ 52 * least / cap → rate ≤ 2 ^ 52
 rate_small least cap rate h r = subst (λ (x : ℕ). x ≤ 2 ^ 52) (sym r) (div-le_of_le-mul cap (omega (arith, h)))
 
 pub guess_small : (w rate guess : ℕ) → w ≤ 2 ^ 40 → guess ≡ w * rate / 2 ^ 40 → guess ≤ rate
 guess_small w rate guess small g = let m : w * rate ≤ 2 ^ 40 * rate = mul-le-mul_right rate small in omega (arith, m, g)
+
+-- the product of a load and its rate, whole and in part, is the quotient or one less
+
+record Split (load over below whole part guess : ℕ) : Type 0 where
+  whole_low : whole * below ≤ over
+  part_low : part * below ≤ (over - whole * below) * 2 ^ 64
+  part_high : 1 ≤ below → (over - whole * below) * 2 ^ 64 < part * below + below
+  guess_is : guess ≡ load * whole + load * part / 2 ^ 64
+
+split : (load over below whole part guess : ℕ) → whole ≡ over / below → part ≡ (over - whole * below) * 2 ^ 64 / below → guess ≡ load * whole + load * part / 2 ^ 64 → Split load over below whole part guess
+split load over below whole part guess w p g =
+    let rest = (over - whole * below) * 2 ^ 64 in
+    record {
+      whole_low = subst (λ (x : ℕ). x * below ≤ over) (sym w) (div-mul-le_self over below);
+      part_low = subst (λ (x : ℕ). x * below ≤ rest) (sym p) (div-mul-le_self rest below);
+      part_high = λ some. subst (λ (x : ℕ). rest < x * below + below) (sym p) (lt-div-mul-add {a = rest} some);
+      guess_is = g;
+    }
+
+-- what was read of a rate is so too
+pub rate_read : (s : Setting) (cell : Cell) (rate : Rate) (over whole part below : ℕ) → HasExponentRate s cell rate → 1 ≤ rate.below → over ≡ factor_of s → whole ≡ rate.whole → part ≡ rate.part → below ≡ rate.below
+    → (whole ≡ over / below) × (part ≡ (over - whole * below) * 2 ^ 64 / below)
+rate_read s cell rate over whole part below has some o w p b =
+    let r = has some in
+    (w ∙ (r.whole ∙ (λ i. sym o i / sym b i)), p ∙ (r.part ∙ (λ i. (sym o i - sym w i * sym b i) * 2 ^ 64 / sym b i)))
+
+pub rate_low : (load over below whole part guess : ℕ) → whole ≡ over / below → part ≡ (over - whole * below) * 2 ^ 64 / below → guess ≡ load * whole + load * part / 2 ^ 64 → guess * below ≤ load * over
+rate_low load over below whole part guess w p g =
+    let s = split load over below whole part guess w p g in
+    let r : ℕ = over - whole * below in
+    let h : ℕ = load * part / 2 ^ 64 in
+    let all : over ≡ whole * below + r = omega (arith, s.whole_low) in
+    let b : h * 2 ^ 64 ≤ load * part = omega arith in
+    let b' : h * 2 ^ 64 * below ≤ load * part * below = mul-le-mul_right below b in
+    let a' : load * (part * below) ≤ load * (r * 2 ^ 64) = mul-le-mul_left load s.part_low in
+    let c : h * below ≤ load * r = grind (arith, a', b', mul_assoc load part below) in
+    let e : load * over ≡ load * (whole * below + r) = ap (λ (n : ℕ). load * n) all in
+    let f : guess * below ≡ (load * whole + h) * below = ap (λ (n : ℕ). n * below) g in
+    grind (arith, c, e, f, mul_assoc load whole below)
+
+pub rate_high : (load over below whole part guess : ℕ) → whole ≡ over / below → part ≡ (over - whole * below) * 2 ^ 64 / below → guess ≡ load * whole + load * part / 2 ^ 64 → 1 ≤ below → load ≤ 2 ^ 64
+    → load * over < guess * below + 2 * below
+rate_high load over below whole part guess w p g some small =
+    let s = split load over below whole part guess w p g in
+    let r : ℕ = over - whole * below in
+    let h : ℕ = load * part / 2 ^ 64 in
+    let all : over ≡ whole * below + r = omega (arith, s.whole_low) in
+    let b : load * part + 1 ≤ h * 2 ^ 64 + 2 ^ 64 = omega arith in
+    let b' : (load * part + 1) * below ≤ (h * 2 ^ 64 + 2 ^ 64) * below = mul-le-mul_right below b in
+    let top : r * 2 ^ 64 ≤ part * below + below = omega (arith, s.part_high some) in
+    let a' : load * (r * 2 ^ 64) ≤ load * (part * below + below) = mul-le-mul_left load top in
+    let d : load * below ≤ 2 ^ 64 * below = mul-le-mul_right below small in
+    let c : load * r < h * below + 2 * below = grind (arith, a', b', d, some, mul_assoc load part below) in
+    let e : load * over ≡ load * (whole * below + r) = ap (λ (n : ℕ). load * n) all in
+    let f : guess * below ≡ (load * whole + h) * below = ap (λ (n : ℕ). n * below) g in
+    grind (arith, c, e, f, mul_assoc load whole below)
+
+-- the exponent as a quotient
+pub exponent_is : (s : Setting) (cell : Cell) (load below : ℕ) → below ≡ cell.cap * s.ref_load → 1 ≤ below → exponent s cell load ≡ load * factor_of s / below
+exponent_is s cell load below is some = capacity (cell.cap == 0) refl
+  where
+    no_load : load * 0 / below ≡ 0
+    no_load = ap (λ (n : ℕ). n / below) (omega arith) ∙ zero-div below
+
+    setting : (b : Bool) → (if b then 0 else load * s.ref_cap * s.step / (cell.cap * s.ref_load)) ≡ load * (if b then 0 else s.ref_cap * s.step) / below
+    setting true = sym no_load
+    setting false = λ i. mul_assoc load s.ref_cap s.step i / sym is i
+
+    capacity : (b : Bool) → (cell.cap == 0) ≡ b → (if b then 0 else (if s.first then 0 else load * s.ref_cap * s.step / (cell.cap * s.ref_load))) ≡ load * factor_of s / below
+    capacity true e = absurd (let z : cell.cap ≡ 0 = grind (arith, nat_tests) in let n : below ≡ 0 * s.ref_load = is ∙ ap (λ (x : ℕ). x * s.ref_load) z in omega arith)
+    capacity false e = setting s.first

@@ -109,11 +109,11 @@ near_more top least cells kept into i x l e h =
     (λ k b. let ne : k ≢ i = omega arith in rw get_or-set_other (h k b))
     (rw get_or-set_same e)
 
-pub rates_more : (cells : List Cell) (least : ℕ) (into : List Rate) (i : ℕ) (x : Rate) → i < length into → x.length ≡ 2 ^ 52 * least / (cell_at cells i).cap
-    → ((k : ℕ) → k < i → (get_or into k no_rate).length ≡ 2 ^ 52 * least / (cell_at cells k).cap)
-    → (k : ℕ) → k < i + 1 → (get_or (set into i x) k no_rate).length ≡ 2 ^ 52 * least / (cell_at cells k).cap
-rates_more cells least into i x l e h =
-    below_more (λ (k : ℕ). (get_or (set into i x) k no_rate).length ≡ 2 ^ 52 * least / (cell_at cells k).cap) i
+-- a fact of each cell and its rate
+pub rates_more : (P : ℕ → Rate → Type 0) (into : List Rate) (i : ℕ) (x : Rate) → i < length into → P i x → ((k : ℕ) → k < i → P k (get_or into k no_rate))
+    → (k : ℕ) → k < i + 1 → P k (get_or (set into i x) k no_rate)
+rates_more P into i x l e h =
+    below_more (λ (k : ℕ). P k (get_or (set into i x) k no_rate)) i
     (λ k b. let ne : k ≢ i = omega arith in rw get_or-set_other (h k b))
     (rw get_or-set_same e)
 

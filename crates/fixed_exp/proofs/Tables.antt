@@ -27,7 +27,7 @@ top-kept net s loads kept ready top least rates places t = greatest_kept s net.c
 -- the table of other loads
 pub table-of : (net : Network) (s : Setting) (loads kept ready : List ℕ) (top least : ℕ) (rates : List Rate) (places : ℕ) → IsNetwork net → IsSetting s → length loads ≡ length net.cells → All (λ x. x ≤ MAX_LENGTH) loads
     → least ≡ least_capacity net.cells → top ≡ greatest_exponent s net.cells loads → length kept ≡ length net.cells → ((k : ℕ) → k < length net.cells → KeepsExponent s net.cells loads kept k)
-    → ready ≡ lengths_at s top least net.cells loads → AreRates net.cells least rates → places ≡ length net.cells → IsLengthTable net s loads kept ready top least rates places
+    → ready ≡ lengths_at s top least net.cells loads → AreRates s net.cells least rates → places ≡ length net.cells → IsLengthTable net s loads kept ready top least rates places
 table-of net s loads kept ready top least rates places fits setting count small p q size each e rated room =
     let is : ready ≡ lengths_of net s loads = e ∙ (ap (λ (n : ℕ). lengths_at s n least net.cells loads) q ∙ ap (λ (n : ℕ). lengths_at s (greatest_exponent s net.cells loads) n net.cells loads) p) in
     record {
@@ -55,8 +55,8 @@ pub greatest-above : (s : Setting) (cells : List Cell) (loads : List ℕ) (top :
 greatest-above s cells loads top count e k l = subst (λ (n : ℕ). exponent s (cell_at cells k) (get_or loads k 0) ≤ n) (sym e) (greatest_bounds s cells loads k count l)
 
 -- cells of a network with their rates and their least capacity
-pub are-rated : (net : Network) (least : ℕ) (rates : List Rate) → IsNetwork net → AreRates net.cells least rates → least ≡ least_capacity net.cells → AreRated net.cells least rates
-are-rated net least rates fits rated e = record {
+pub are-rated : (net : Network) (s : Setting) (least : ℕ) (rates : List Rate) → IsNetwork net → AreRates s net.cells least rates → least ≡ least_capacity net.cells → AreRated s net.cells least rates
+are-rated net s least rates fits rated e = record {
   caps = λ k d l. (fits.cells k d l).cap;
   rated = rated;
   below = least-below net.cells least e;

@@ -27,5 +27,5 @@ pub record IsLengthTable (net : Network) (s : Setting) (loads kept ready : List 
   pub lengths : ready ≡ lengths_of net s loads
   pub long : AreLengths net.cells ready
   pub empty : EmptyAreFar net.cells ready
-  pub rated : AreRates net.cells smallest rates
+  pub rated : AreRates s net.cells smallest rates
   pub room : places ≡ length net.cells

@@ -27,6 +27,7 @@ fn falls_too(falls: bool, old: u64, new: u64) -> bool
 
 /// Puts the exponents of the cells at the changed places in their place, as far as they fit, and gives the greatest of
 /// all, where the greatest was this one and none fell.
+#[inline(never)]
 fn put_exponents(
     rated: &Rated<'_>,
     loads: &[u64],
@@ -34,7 +35,7 @@ fn put_exponents(
     kept: &mut [u64],
     before: u64,
 ) -> Option<u64>
-    requires rated { AreRated rated.now.cells.now rated.now.least rated.now.rates.now }
+    requires rated { AreRated rated.now.scale.now.setting rated.now.cells.now rated.now.least rated.now.rates.now }
     requires loads { length loads.now ≡ length rated.now.cells.now }
     requires small { All (λ x. x ≤ MAX_LENGTH) loads.now }
     requires exponents { length kept.old ≡ length rated.now.cells.now }
@@ -54,7 +55,7 @@ fn put_exponents(
         let i = changed.places[j] as usize;
         let exponent = rated
             .scale
-            .exponent_by_rate(&rated.cells[i], loads[i], rated.rates[i].exponent)
+            .exponent_by_rate(&rated.cells[i], loads[i], &rated.rates[i])
             .min(u128::from(u64::MAX)) as u64;
         falls = falls_too(falls, kept[i], exponent);
         top = exponent.max(top);
@@ -94,7 +95,7 @@ fn follow_exponents(
     changed: &Changed<'_>,
     kept: &mut [u64],
 ) -> u128
-    requires rated { AreRated rated.now.cells.now rated.now.least rated.now.rates.now }
+    requires rated { AreRated rated.now.scale.now.setting rated.now.cells.now rated.now.least rated.now.rates.now }
     requires loads { length loads.now ≡ length rated.now.cells.now }
     requires small { All (λ x. x ≤ MAX_LENGTH) loads.now }
     requires exponents { length kept.old ≡ length rated.now.cells.now }
@@ -129,7 +130,7 @@ impl Powers {
         kept: &[u64],
         into: &mut [u64],
     )
-        requires rated { AreRated rated.now.cells.now rated.now.least rated.now.rates.now }
+        requires rated { AreRated rated.now.scale.now.setting rated.now.cells.now rated.now.least rated.now.rates.now }
         requires loads { length loads.now ≡ length rated.now.cells.now }
         requires small { All (λ x. x ≤ MAX_LENGTH) loads.now }
         requires exponents { length kept.now ≡ length rated.now.cells.now }
@@ -154,8 +155,9 @@ impl Powers {
     }
 
     /// Puts the length of each cell in its place, where every exponent was kept whole.
+    #[inline(never)]
     fn put_near_lengths(&self, rated: &Rated<'_>, top: u64, kept: &[u64], into: &mut [u64])
-        requires rated { AreRated rated.now.cells.now rated.now.least rated.now.rates.now }
+        requires rated { AreRated rated.now.scale.now.setting rated.now.cells.now rated.now.least rated.now.rates.now }
         requires exponents { length kept.now ≡ length rated.now.cells.now }
         requires into { length into.old ≡ length rated.now.cells.now }
         requires top { (k : ℕ) → k < length rated.now.cells.now → slice_index kept.now k ≤ top }
@@ -182,7 +184,7 @@ impl Powers {
         kept: &[u64],
         into: &mut [u64],
     )
-        requires rated { AreRated rated.now.cells.now rated.now.least rated.now.rates.now }
+        requires rated { AreRated rated.now.scale.now.setting rated.now.cells.now rated.now.least rated.now.rates.now }
         requires loads { length loads.now ≡ length rated.now.cells.now }
         requires small { All (λ x. x ≤ MAX_LENGTH) loads.now }
         requires exponents { length kept.now ≡ length rated.now.cells.now }
@@ -208,7 +210,7 @@ impl Powers {
         kept: &[u64],
         into: &mut [u64],
     )
-        requires rated { AreRated rated.now.cells.now rated.now.least rated.now.rates.now }
+        requires rated { AreRated rated.now.scale.now.setting rated.now.cells.now rated.now.least rated.now.rates.now }
         requires loads { length loads.now ≡ length rated.now.cells.now }
         requires small { All (λ x. x ≤ MAX_LENGTH) loads.now }
         requires exponents { length kept.now ≡ length rated.now.cells.now }
@@ -239,7 +241,7 @@ impl Powers {
         kept: &mut [u64],
         into: &mut [u64],
     ) -> u128
-        requires rated { AreRated rated.now.cells.now rated.now.least rated.now.rates.now }
+        requires rated { AreRated rated.now.scale.now.setting rated.now.cells.now rated.now.least rated.now.rates.now }
         requires loads { length loads.now ≡ length rated.now.cells.now }
         requires small { All (λ x. x ≤ MAX_LENGTH) loads.now }
         requires exponents { length kept.old ≡ length rated.now.cells.now }

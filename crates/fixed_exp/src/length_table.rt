@@ -52,7 +52,7 @@ fn put_rates(scale: &Scale, cells: &[Cell], least: u64, into: &mut [Rate])
     requires least { (k : ℕ) → k < length cells.now → 1 ≤ (cell_at cells.now k).cap
         → least ≤ (cell_at cells.now k).cap }
     requires into { length into.old ≡ length cells.now }
-    ensures { AreRates cells.now least into.new }
+    ensures { AreRates scale.now.setting cells.now least into.new }
 {
     for (i, slot) in into.iter_mut().enumerate() {
         *slot = scale.rate(&cells[i], least);

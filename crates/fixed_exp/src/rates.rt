@@ -1,4 +1,4 @@
-//! Divisions by numbers that stay the same, by guesses.
+//! Divisions by numbers that stay the same, by products.
 
 ghost use Rattle.std.specs.Prelude.{◌≡◌, ◌-◌, ◌*◌, ◌/◌, ◌^◌, ◌<◌, ◌≤◌, max, min, length};
 ghost use Rattle.flow_model.specs.Lengths.{exponent, length_at};
@@ -10,11 +10,14 @@ use crate::scale::Scale;
 use flow_model::Cell;
 use mcf_limits::{MAX_LENGTH, MAX_UNITS};
 
-/// What a unit of load adds to a cell's exponent, for guesses of quotients on which no answer depends; and what a unit
-/// of weight adds to its length, with 40 binary places, rounded down.
+/// What a load is divided by in a cell's exponent, if that is at most 2^63, or else 0; what a unit of load adds to the exponent, the
+/// whole and the part of it with 64 binary places, rounded down; and what a unit of weight adds to its length, with 40 binary
+/// places, rounded down.
 #[derive(Clone, Copy)]
 pub struct Rate {
-    pub exponent: u64,
+    pub below: u64,
+    pub whole: u64,
+    pub part: u64,
     pub length: u64,
 }
 
@@ -29,30 +32,11 @@ pub struct Rated<'a> {
 
 /// The rate of a cell without capacity.
 pub const NO_RATE: Rate = Rate {
-    exponent: 0,
+    below: 0,
+    whole: 0,
+    part: 0,
     length: 0,
 };
-
-/// The quotient, rounded down. It is quick where the guess is it, or one less: then multiplications stand in the place of
-/// a division, which takes up to five times as long.
-#[inline(always)]
-pub fn quotient(above: u128, below: u128, guess: u64) -> u128
-    requires positive { 0 < below }
-    requires fits { guess * below < 2 ^ 128 }
-    ensures { result ≡ above / below }
-{
-    let taken = u128::from(guess) * below;
-    if taken <= above {
-        let rest = above - taken;
-        if rest < below {
-            return u128::from(guess);
-        }
-        if rest - below < below {
-            return u128::from(guess) + 1;
-        }
-    }
-    above / below
-}
 
 impl Powers {
     /// The length of a positive cell, without a division: the guess by the rate is the length, or one less.
@@ -104,7 +88,7 @@ impl Powers {
         load: u64,
         kept: u64,
     ) -> u64
-        requires rated { AreRated rated.now.cells.now rated.now.least rated.now.rates.now }
+        requires rated { AreRated rated.now.scale.now.setting rated.now.cells.now rated.now.least rated.now.rates.now }
         requires inside { i < length rated.now.cells.now }
         requires load { load ≤ MAX_LENGTH }
         requires top { exponent rated.now.scale.now.setting (cell_at rated.now.cells.now i) load ≤ top }

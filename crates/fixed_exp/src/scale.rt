@@ -2,16 +2,16 @@
 
 ghost use Rattle.std.specs.Prelude.{◌≡◌, ◌*◌, ◌/◌, ◌^◌, ◌<◌, ◌≤◌, if◌then◌else◌};
 ghost use Rattle.flow_model.specs.Lengths.{IsSetting, exponent};
+ghost use Rattle.fixed_exp.specs.Kept.{HasExponentRate};
 
-use crate::rates::{NO_RATE, Rate, quotient};
+use crate::rates::{NO_RATE, Rate};
 use flow_model::{Cell, Setting};
 use mcf_limits::{MAX_LENGTH, MAX_UNITS};
 
-/// From here on a divisor is too great for a guess of 32 bits.
-const WIDE: u128 = 1 << 96;
+/// The greatest divisor of an exponent at which its rest tells the quotient in 64 bits.
+const MOST_BELOW: u128 = 1 << 63;
 
-/// What a load is multiplied by and divided by, with the greatest load and capacity at which both products fit 64 bits,
-/// and how many binary places the rates of cells have.
+/// What a load is multiplied by and divided by, with the greatest load and capacity at which both products fit 64 bits.
 #[derive(Clone, Copy)]
 pub struct Scale {
     setting: Setting,
@@ -19,28 +19,12 @@ pub struct Scale {
     under: u64,
     most_load: u64,
     most_cap: u64,
-    places: u32,
     ghost over_is: { over ≡ (if setting.first then 0 else setting.ref_cap * setting.step) },
     ghost under_is: { under ≡ setting.ref_load },
     ghost over_fits: { most_load * over < 2 ^ 64 },
     ghost under_fits: { most_cap * under < 2 ^ 64 },
     ghost small: { over ≤ 2 ^ 64 },
     ghost positive: { 1 ≤ under },
-    ghost few_places: { places ≤ 62 },
-}
-
-/// How many binary places rates have: as many as fit 64 bits, or fewer where they still tell loads below 2^40 apart and
-/// the division that makes a rate is then one of 64 bits.
-fn places_for(over: u128, under: u64) -> u32
-    requires { 1 ≤ under }
-    ensures { result ≤ 62 }
-{
-    let few = over.leading_zeros().saturating_sub(64);
-    if few >= 40 {
-        return few.min(62);
-    }
-    let added = over / u128::from(under);
-    added.leading_zeros().saturating_sub(64).min(62)
 }
 
 impl Scale {
@@ -64,7 +48,6 @@ impl Scale {
             under: setting.ref_load,
             most_load,
             most_cap: u64::MAX / setting.ref_load,
-            places: places_for(over, setting.ref_load),
         }
     }
 
@@ -72,34 +55,45 @@ impl Scale {
     pub fn rate(&self, cell: &Cell, least: u64) -> Rate
         requires cap { cell.now.cap ≤ MAX_UNITS }
         requires least { 1 ≤ cell.now.cap → least ≤ cell.now.cap }
-        ensures { result.length ≡ 2 ^ 52 * least / cell.now.cap }
+        ensures length { result.length ≡ 2 ^ 52 * least / cell.now.cap }
+        ensures exponent { HasExponentRate self.now.setting cell.now result }
     {
         if cell.cap == 0 {
             return NO_RATE;
         }
+        let length = (u128::from(least) * (1 << 52) / u128::from(cell.cap)) as u64;
         let below = u128::from(cell.cap) * u128::from(self.under);
-        let exponent = (self.over << self.places) / below;
-        let length = u128::from(least) * (1 << 52) / u128::from(cell.cap);
+        if below > MOST_BELOW || self.over > u128::from(u64::MAX) {
+            return Rate { length, ..NO_RATE };
+        }
+        let over = self.over as u64;
+        let below = below as u64;
+        let whole = over / below;
+        let part = (u128::from(over - whole * below) << 64) / u128::from(below);
         Rate {
-            exponent: exponent.min(u128::from(u64::MAX)) as u64,
-            length: length as u64,
+            below,
+            whole,
+            part: part as u64,
+            length,
         }
     }
 
-    /// How far a cell's load stands in the exponent. The rate makes it quick, and has no part in the value.
+    /// How far a cell's load stands in the exponent. Its rate makes it quick, where it has a divisor: then the product is the quotient,
+    /// or one less, which the rest tells.
     #[inline(always)]
-    pub fn exponent_by_rate(&self, cell: &Cell, load: u64, rate: u64) -> u128
+    pub fn exponent_by_rate(&self, cell: &Cell, load: u64, rate: &Rate) -> u128
         requires cap { cell.now.cap ≤ MAX_UNITS }
         requires load { load ≤ MAX_LENGTH }
+        requires rate { HasExponentRate self.now.setting cell.now rate.now }
         ensures { result ≡ exponent self.now.setting cell.now load }
     {
-        let above = u128::from(load) * self.over;
-        let below = u128::from(cell.cap) * u128::from(self.under);
-        let guess = (u128::from(load) * u128::from(rate)) >> self.places;
-        if guess <= u128::from(u32::MAX) && cell.cap != 0 && below < WIDE {
-            return quotient(above, below, guess as u64);
+        if rate.below == 0 {
+            return self.exponent(cell, load);
         }
-        self.exponent(cell, load)
+        let load = u128::from(load);
+        let guess = load * u128::from(rate.whole) + ((load * u128::from(rate.part)) >> 64);
+        let rest = load * self.over - guess * u128::from(rate.below);
+        guess + u128::from(rest as u64 >= rate.below)
     }
 
     /// How far a cell's load stands in the exponent.

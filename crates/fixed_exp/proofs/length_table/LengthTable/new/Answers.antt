@@ -24,9 +24,10 @@ put_all_lengths-requires-clause-rated c =
     let size : length rates ≡ c.in_ok-rates.rates.len = omega arith in
     let seen : c.deref.result.now ≡ rates = c.deref.ensures.value ∙ with_items_is c.in_ok-rates.rates rates size in
     let is : cells ≡ c.args.net.now.cells = c.cells-cells.ensures.value in
-    let of : AreRates c.args.net.now.cells least rates = subst (λ (xs : List Cell). AreRates xs least rates) is c.put_rates.ensures in
-    subst (λ (rs : List Rate). AreRated cells least rs) (sym seen) (subst (λ (xs : List Cell). AreRated xs least rates) (sym is)
-    (are-rated c.args.net.now least rates c.cells-cells.ensures.net of (c.least_of-least.ensures.value ∙ ap least_capacity is)))
+    let s = c.new-scale.result.setting in
+    let of : AreRates s c.args.net.now.cells least rates = subst (λ (xs : List Cell). AreRates s xs least rates) is c.put_rates.ensures in
+    subst (λ (rs : List Rate). AreRated s cells least rs) (sym seen) (subst (λ (xs : List Cell). AreRated s xs least rates) (sym is)
+    (are-rated c.args.net.now s least rates c.cells-cells.ensures.net of (c.least_of-least.ensures.value ∙ ap least_capacity is)))
 
 pub put_all_lengths-requires-clause-kept : goal.put_all_lengths-requires-clause-kept
 put_all_lengths-requires-clause-kept c = λ k l.
@@ -66,7 +67,7 @@ invariant_of-result c =
     let setting : IsSetting s = subst (λ (x : Setting). IsSetting x) (sym c.new-scale.ensures) c.requires in
     let w1 : length into ≡ c.in_ok-lengths.lengths.len = omega arith in
     let w2 : length c.put_rates.new.into ≡ c.in_ok-rates.rates.len = omega arith in
-    let rated : AreRates net.cells least c.put_rates.new.into = subst (λ (xs : List Cell). AreRates xs least c.put_rates.new.into) same c.put_rates.ensures in
+    let rated : AreRates s net.cells least c.put_rates.new.into = subst (λ (xs : List Cell). AreRates s xs least c.put_rates.new.into) same c.put_rates.ensures in
     let room : length c.in_ok-places.places.items ≡ length net.cells = omega (arith, many, c.in_ok-places.ensures.len) in
     rw (with_items_is c.in_ok-lengths.lengths into w1, with_items_is c.in_ok-rates.rates c.put_rates.new.into w2)
     (table-of net s loads kept into 0 least c.put_rates.new.into (length c.in_ok-places.places.items) fits setting count small p q size each e rated room)

@@ -16,8 +16,8 @@ follow-top-requires-clause-rated c =
     let cells = c.cells.result.now in
     let same : i.net.value.cells ≡ cells = ap (λ (n : LoadedNetwork). n.net.cells) c.self.view_is ∙ (ap (λ (n : Network). n.cells) (sym c.requires.net) ∙ sym c.cells.ensures.value) in
     let t = c.self.invariant in
-    subst (λ (rs : List Rate). AreRated cells i.least rs) (sym c.deref.ensures.value) (subst (λ (xs : List Cell). AreRated xs i.least i.rates.items) same
-    (are-rated i.net.value i.least i.rates.items t.fits t.rated t.least))
+    subst (λ (rs : List Rate). AreRated i.scale.setting cells i.least rs) (sym c.deref.ensures.value) (subst (λ (xs : List Cell). AreRated i.scale.setting xs i.least i.rates.items) same
+    (are-rated i.net.value i.scale.setting i.least i.rates.items t.fits t.rated t.least))
 
 pub follow-top-requires-clause-kept : goal.follow-top-requires-clause-kept
 follow-top-requires-clause-kept c = λ k l none.
