@@ -1,5 +1,6 @@
 -- The dual of given lengths, and that of a cut.
 use Rattle.std.specs.Prelude.{◌≡◌, ◌⊎◌, ℕ, ◌+◌, ◌<◌, ◌≤◌, ◌==◌, count_by, if◌then◌else◌, List, [], ◌∷◌, All, Option, length, map, slice_index}
+use Rattle.std.specs.Option.{option_map_or}
 use Rattle.flow_model.specs.declared.net.Cell.{Cell}
 use Rattle.flow_model.specs.Network.{Network}
 use Rattle.flow_model.specs.Groups.{group_sources}
@@ -7,7 +8,9 @@ use Rattle.flow_model.specs.Least.{IsJoined, IsCutOff, IsLeast, far_or}
 use Rattle.flow_model.specs.declared.net.Commodity.{Commodity}
 use Rattle.flow_model.specs.Bound.{weighted_distance}
 use Rattle.flow_paths.specs.DualRows.{Length, Potential, DualRows}
-use Rattle.flow_paths.specs.Certificate.{CellsHaveLengths, SourcesHaveRows, RowsArePotentials, DistanceDivides, IsPotentialOf, distances_in, lengths_in}
+use Rattle.flow_paths.specs.Certificate.{CellsHaveLengths, SourcesHaveRows, RowsArePotentials, DistanceDivides, IsPotentialOf, distances_in, lengths_in, upper_of}
+use Rattle.flow_paths.specs.Evaluation.{fraction_le}
+use Rattle.dual_bound.specs.declared.bounds.Bounded.{Bounded}
 use Rattle.mcf_limits.specs.declared.TheConstants.{MAX_LENGTH}
 
 -- a row for each length, the cells numbered from c on
@@ -66,3 +69,15 @@ pub record CanDivide (net : Network) (given : List ℕ) (dual : DualRows) : Type
   pub sources : All (λ (k : Commodity). count_by (λ r. r.node == k.from) dual.potentials ≡ 1) net.commodities
   pub wide : All (λ r. length r.values ≡ net.nodes) dual.potentials
   pub positive : 1 ≤ weighted_distance net.commodities (distances_in net dual)
+
+-- the bound of these lengths, with its value
+abbrev pub IsBounded : Network → List ℕ → Bounded → Type 0
+IsBounded net lengths b = IsBoundOf net lengths b.dual × ShowsBound net lengths b.dual × (b.value ≡ upper_of net b.dual)
+
+-- of two bounds the earlier, where there is one and the later is not less
+abbrev pub lesser : Option Bounded → Bounded → Bounded
+lesser earlier later = option_map_or (λ e. if fraction_le e.value later.value then e else later) earlier later
+
+-- the lesser of an earlier bound, if there is one, and that of these lengths
+abbrev pub IsLesser : Network → List ℕ → Option Bounded → Bounded → Type 0
+IsLesser net lengths earlier b = (later : Bounded) × IsBounded net lengths later × (b ≡ lesser earlier later)

@@ -3,7 +3,9 @@ use Rattle.std.specs.Prelude.{◌≡◌, ℕ, ◌<◌, ◌≤◌, List, Bool, fa
 use Rattle.flow_model.specs.Network.{Network}
 use Rattle.flow_model.specs.Groups.{group_sources}
 use Rattle.flow_paths.specs.DualRows.{Potential, DualRows}
+use Rattle.flow_paths.specs.Certificate.{upper_of}
 use Rattle.mcf_limits.specs.declared.TheConstants.{MAX_LENGTH}
+use Rattle.dual_bound.specs.declared.bounds.Bounded.{Bounded}
 use Rattle.dual_bound.specs.declared.rows.Row.{Row}
 use Rattle.dual_bound.specs.Bounds.{length_rows, IsDistance}
 
@@ -20,6 +22,10 @@ potentials_of rows = map potential_of rows
 -- the dual of these lengths and rows
 abbrev pub dual_of : List ℕ → List Row → DualRows
 dual_of lengths rows = record { lengths = length_rows 0 lengths; potentials = potentials_of rows }
+
+-- and its value
+abbrev pub bounded_of : Network → List ℕ → List Row → Bounded
+bounded_of net lengths rows = record { dual = dual_of lengths rows; value = upper_of net (dual_of lengths rows) }
 
 abbrev pub sources_of : List Row → List ℕ
 sources_of rows = map (λ (r : Row). r.source) rows

@@ -5,8 +5,8 @@ ghost use Rattle.flow_model.specs.Lengths.{AreLengths};
 ghost use Rattle.fixed_exp.specs.Far.{EmptyAreFar};
 ghost use Rattle.dijkstra_paths.specs.Reach.{IsFirstCut};
 ghost use Rattle.flow_paths.specs.Certificate.{upper_of};
-ghost use Rattle.dual_bound.specs.Bounds.{CanDivide, IsBoundOf, IsCutDual, IsCutPotential, ShowsBound, cut_lengths};
-ghost use Rattle.dual_bound.specs.Rows.{AreRoom, HasDistances, IsFilledWith, IsRoom, dual_of, sources_of};
+ghost use Rattle.dual_bound.specs.Bounds.{CanDivide, IsBounded, IsCutDual, IsCutPotential, IsLesser, ShowsBound, cut_lengths, lesser};
+ghost use Rattle.dual_bound.specs.Rows.{AreRoom, HasDistances, IsFilledWith, IsRoom, bounded_of, dual_of, sources_of};
 ghost use Rattle.flow_model.specs.Groups.{group_sources};
 
 use crate::dual::{are_filled, assembled};
@@ -18,6 +18,7 @@ use flow_paths::Dual;
 use gap_fraction::Frac;
 use mcf_limits::{MAX_LENGTH, MAX_WORKERS};
 use std::alloc::{AllocError, Global};
+use std::cmp::Ordering;
 use std::thread::Threads;
 
 /// A dual, and the bound that it gives: volume over weighted distance.
@@ -36,8 +37,32 @@ fn finished(alloc: Global, net: &Net, lengths: &[u64], rows: &[Row]) -> Result<B
     ensures value { IfOk result (λ b. b.value ≡ upper_of net.now b.dual) }
 {
     let _cells = net.cells();
+    let value = upper(alloc, net, lengths, rows)?;
     let dual = assembled(alloc, lengths, rows)?;
-    let value = upper(alloc, net, lengths, &dual)?;
+    Ok(Bounded { dual, value })
+}
+
+/// The lesser of an earlier bound, if there is one, and that of these lengths and filled rows, whose dual is made only where it is the
+/// lesser.
+fn lesser(
+    alloc: Global,
+    net: &Net,
+    lengths: &[u64],
+    rows: &[Row],
+    earlier: Option<Bounded>,
+) -> Result<Bounded, AllocError>
+    requires rows { All (λ row. All (λ n. n ≤ MAX_LENGTH) row.values.items) rows.now }
+    requires divides { CanDivide net.now lengths.now (dual_of lengths.now rows.now) }
+    ensures { IfOk result (λ b. b ≡ lesser earlier (bounded_of net.now lengths.now rows.now)) }
+{
+    let _cells = net.cells();
+    let value = upper(alloc, net, lengths, rows)?;
+    if let Some(earlier) = earlier {
+        if earlier.value.cmp(&value) != Ordering::Greater {
+            return Ok(earlier);
+        }
+    }
+    let dual = assembled(alloc, lengths, rows)?;
     Ok(Bounded { dual, value })
 }
 
@@ -72,26 +97,25 @@ pub fn refill_rows(alloc: Global, graph: &Graph, lengths: &[u64], rows: &mut [Ro
     fill_rows(alloc, graph, lengths, rows);
 }
 
-/// The bound of these lengths, of rows that were filled with distances. `Err` is for want of memory, which a row that is not filled
-/// stands for.
-pub fn bound_of_rows(
+/// The bound of these lengths, of rows that were filled with distances, or an earlier one that is not greater. `Err` is for want of
+/// memory, which a row that is not filled stands for.
+pub fn lesser_of_rows(
     alloc: Global,
     net: &Net,
     lengths: &[u64],
     rows: &[Row],
+    earlier: Option<Bounded>,
 ) -> Result<Bounded, AllocError>
     requires lengths { AreLengths net.now.cells lengths.now }
     requires empty { EmptyAreFar net.now.cells lengths.now }
     requires sources { sources_of rows.now ≡ group_sources net.now }
     requires distances { All (HasDistances net.now lengths.now) rows.now }
     ensures rows { OnOk result (AreRoom net.now rows.now) }
-    ensures dual { IfOk result (λ b. IsBoundOf net.now lengths.now b.dual) }
-    ensures shows { IfOk result (λ b. ShowsBound net.now lengths.now b.dual) }
-    ensures value { IfOk result (λ b. b.value ≡ upper_of net.now b.dual) }
+    ensures lesser { IfOk result (IsLesser net.now lengths.now earlier) }
 {
     let _cells = net.cells();
     if are_filled(rows) {
-        finished(alloc, net, lengths, rows)
+        lesser(alloc, net, lengths, rows, earlier)
     } else {
         Err(AllocError)
     }
@@ -121,17 +145,17 @@ pub fn bound<R: Threads + Sync>(
     requires graph { graph.now ≡ net.now }
     requires lengths { AreLengths net.now.cells lengths.now }
     requires empty { EmptyAreFar net.now.cells lengths.now }
-    ensures dual { IfOk result (λ b. IsBoundOf net.now lengths.now b.dual) }
-    ensures shows { IfOk result (λ b. ShowsBound net.now lengths.now b.dual) }
-    ensures value { IfOk result (λ b. b.value ≡ upper_of net.now b.dual) }
+    ensures { IfOk result (IsBounded net.now lengths.now) }
 {
     let mut rows = source_rows(alloc, net)?;
-    bound_in(rt, alloc, net, graph, lengths, &mut rows, MAX_WORKERS)
+    let rows = &mut rows;
+    lesser_in(rt, alloc, net, graph, lengths, rows, MAX_WORKERS, None)
 }
 
-/// As `bound`, in rows that are kept from one bound to the next, and in at most so many threads, its caller's among them: in 1
-/// (and 0 stands for 1) it starts none of its own. After an `Err` the rows are of no more use.
-pub fn bound_in<R: Threads + Sync>(
+/// As `bound`, or an earlier bound that is not greater, in rows that are kept from one bound to the next, and in at most so many
+/// threads, its caller's among them: in 1 (and 0 stands for 1) it starts none of its own. After an `Err` the rows are of no more
+/// use.
+pub fn lesser_in<R: Threads + Sync>(
     rt: &R,
     alloc: Global,
     net: &Net,
@@ -139,18 +163,17 @@ pub fn bound_in<R: Threads + Sync>(
     lengths: &[u64],
     rows: &mut [Row],
     threads: u16,
+    earlier: Option<Bounded>,
 ) -> Result<Bounded, AllocError>
     requires graph { graph.now ≡ net.now }
     requires lengths { AreLengths net.now.cells lengths.now }
     requires empty { EmptyAreFar net.now.cells lengths.now }
     requires rows { AreRoom net.now rows.old }
     ensures rows { OnOk result (AreRoom net.now rows.new) }
-    ensures dual { IfOk result (λ b. IsBoundOf net.now lengths.now b.dual) }
-    ensures shows { IfOk result (λ b. ShowsBound net.now lengths.now b.dual) }
-    ensures value { IfOk result (λ b. b.value ≡ upper_of net.now b.dual) }
+    ensures lesser { IfOk result (IsLesser net.now lengths.now earlier) }
 {
     refill(rt, alloc, graph, lengths, rows, threads);
-    bound_of_rows(alloc, net, lengths, rows)
+    lesser_of_rows(alloc, net, lengths, rows, earlier)
 }
 
 /// The bound of a network with a first cut, 0: a cell without capacity has length 1 and every other 0; a node that a source

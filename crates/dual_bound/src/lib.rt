@@ -6,6 +6,6 @@ mod dual;
 mod rows;
 mod value;
 
-pub use bounds::{Bounded, bound, bound_in, bound_of_rows, cut_bound, refill_rows};
+pub use bounds::{Bounded, bound, cut_bound, lesser_in, lesser_of_rows, refill_rows};
 pub use dual::{are_filled, assembled};
 pub use rows::{Row, blank_row, fill_rows, mark_all, source_rows};

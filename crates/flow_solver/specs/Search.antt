@@ -1,5 +1,5 @@
 -- What a solve keeps from phase to phase.
-use Rattle.std.specs.Prelude.{◌≡◌, ℕ, ◌*◌, ◌<◌, ◌≤◌, List, [], ◌∷◌, ◌++◌, All, None, length, slice_index, slice_index_or}
+use Rattle.std.specs.Prelude.{◌≡◌, ℕ, ◌*◌, ◌<◌, ◌≤◌, List, [], ◌∷◌, ◌++◌, All, Option, None, length, slice_index, slice_index_or}
 use Rattle.flow_model.specs.declared.setting.Setting.{Setting}
 use Rattle.flow_model.specs.Network.{Network}
 use Rattle.flow_core.specs.Phase.{Routed, IsPhase}
@@ -10,9 +10,8 @@ use Rattle.flow_solver.specs.Rows.{phases_kept, AreRowsFor}
 use Rattle.solver_run.specs.History.{loads_after}
 use Rattle.mcf_limits.specs.declared.TheConstants.{MAX_LENGTH, MAX_TOTAL, MAX_WORKERS}
 use Rattle.flow_model.specs.Lengths.{IsSetting, lengths_of}
-use Rattle.flow_paths.specs.Certificate.{upper_of}
 use Rattle.dual_bound.specs.declared.bounds.Bounded.{Bounded}
-use Rattle.dual_bound.specs.Bounds.{IsBoundOf, ShowsBound}
+use Rattle.dual_bound.specs.Bounds.{IsLesser}
 use Rattle.dual_bound.specs.Rows.{AreRoom}
 use Rattle.flow_solver.specs.declared.search.Search.{Search}
 use Rattle.flow_solver.specs.declared.search.BoundRoom.{BoundRoom}
@@ -73,7 +72,6 @@ pub record HasRouted (net : Network) (setting : Setting) (old new : Search) : Ty
 abbrev pub CanBeBounded : Network → Setting → List ℕ → BoundRoom → Type 0
 CanBeBounded net setting loads room = IsSetting setting × (length loads ≡ length net.cells) × All (λ (x : ℕ). x ≤ MAX_LENGTH) loads × IsBoundRoom net room
 
--- it is the bound of the lengths under these loads, with its value
-abbrev pub IsBoundUnder : Network → Setting → List ℕ → Bounded → Type 0
-IsBoundUnder net setting loads b =
-    IsBoundOf net (lengths_of net setting loads) b.dual × ShowsBound net (lengths_of net setting loads) b.dual × (b.value ≡ upper_of net b.dual)
+-- the lesser of an earlier bound, if there is one, and that of the lengths under these loads
+abbrev pub IsLesserUnder : Network → Setting → List ℕ → Option Bounded → Bounded → Type 0
+IsLesserUnder net setting loads earlier b = IsLesser net (lengths_of net setting loads) earlier b

@@ -7,7 +7,7 @@ ghost use Rattle.flow_core.specs.Phase.{Routed};
 ghost use Rattle.flow_solver.specs.Routes.{HaveRouted, IsRoutedOnce};
 ghost use Rattle.flow_solver.specs.Rows.{AreRowsFor, phases_kept};
 ghost use Rattle.flow_solver.specs.Adding.{CanBeNoted, IsNoted};
-ghost use Rattle.flow_solver.specs.Search.{CanBeBounded, HasRouted, IsBoundRoom, IsBoundUnder, IsSearch, phase_count};
+ghost use Rattle.flow_solver.specs.Search.{CanBeBounded, HasRouted, IsBoundRoom, IsLesserUnder, IsSearch, phase_count};
 
 use crate::filling::bound_beside;
 use crate::places::places_of;
@@ -15,7 +15,7 @@ use crate::prepared::{Prepared, Run, Task};
 use crate::search::{BoundRoom, Search, route, route_with};
 use crate::share::Share;
 use claimed_calls::Crew;
-use dual_bound::{Bounded, bound_in};
+use dual_bound::{Bounded, lesser_in};
 use flow_model::Setting;
 use mcf_base::Gate;
 use mcf_limits::{MAX_PHASES, MAX_WORK, MAX_WORKERS};
@@ -29,7 +29,7 @@ const PATHS_OF_A_THREAD: usize = 4_096;
 /// for them in each phase, which can take longer than their start.
 const WORK_OF_SEVERAL: usize = 1_000_000;
 
-/// The bound of the lengths of these loads, in at most so many threads.
+/// The lesser of an earlier bound, if there is one, and that of the lengths of these loads, in at most so many threads.
 fn bound_of<R: Threads + Sync>(
     rt: &R,
     alloc: Global,
@@ -38,14 +38,17 @@ fn bound_of<R: Threads + Sync>(
     loads: &[u64],
     room: &mut BoundRoom,
     threads: u16,
+    earlier: Option<Bounded>,
 ) -> Result<Bounded, AllocError>
     requires can { CanBeBounded on.now.net.now setting.now loads.now room.old }
     ensures room { OnOk result (IsBoundRoom on.now.net.now room.new) }
-    ensures bound { IfOk result (IsBoundUnder on.now.net.now setting.now loads.now) }
+    ensures bound { IfOk result (IsLesserUnder on.now.net.now setting.now loads.now earlier) }
 {
     let BoundRoom { lengths, rows } = room;
     on.powers.lengths(on.net, setting, loads, lengths);
-    bound_in(rt, alloc, on.net, on.graph, lengths, rows, threads)
+    lesser_in(
+        rt, alloc, on.net, on.graph, lengths, rows, threads, earlier,
+    )
 }
 
 /// In how many threads rows are noted and a bound is made, of at most so many, where so many workers have routed: in one, where one
@@ -72,9 +75,9 @@ fn threads_beside(paths: usize, threads: u16) -> u16
     threads.saturating_sub(1)
 }
 
-/// Notes the rows of the phase that the hands have routed, and makes the bound of the loads of all phases, in at most so many threads.
-/// Where that pays, and there may be several, one of them notes the rows meanwhile. `Err` is for want of memory, and then the search
-/// can't go on.
+/// Notes the rows of the phase that the hands have routed, and gives the lesser of an earlier bound, if there is one, and that of the
+/// loads of all phases, in at most so many threads. Where that pays, and there may be several, one of them notes the rows meanwhile.
+/// `Err` is for want of memory, and then the search can't go on.
 pub(crate) fn note_and_bound<R: Threads + Sync>(
     rt: &R,
     alloc: Global,
@@ -82,6 +85,7 @@ pub(crate) fn note_and_bound<R: Threads + Sync>(
     setting: &Setting,
     search: &mut Search,
     threads: u16,
+    earlier: Option<Bounded>,
 ) -> Result<Bounded, AllocError>
     requires rows { AreRowsFor on.now.net.now search.old.history.history search.old.history.rows }
     requires commodities { search.old.history.commodities ≡ length on.now.net.now.commodities }
@@ -98,7 +102,7 @@ pub(crate) fn note_and_bound<R: Threads + Sync>(
         → IsRoutedOnce on.now.net.now search.old.hands.items entries
         → phases_kept search.new.history ≡ phases_kept search.old.history ++ entries ∷ []) }
     ensures room { OnOk result (IsBoundRoom on.now.net.now search.new.room) }
-    ensures bound { IfOk result (IsBoundUnder on.now.net.now setting.now search.old.loads.items) }
+    ensures bound { IfOk result (IsLesserUnder on.now.net.now setting.now search.old.loads.items earlier) }
 {
     let net = on.net;
     let places = places_of(alloc, net, &search.hands)?;
@@ -112,8 +116,10 @@ pub(crate) fn note_and_bound<R: Threads + Sync>(
     let in_turn = beside == 0;
     if in_turn {
         history.note_phase(alloc, net, places, sought)?;
-        return bound_of(rt, alloc, on, setting, loads, room, threads);
+        return bound_of(rt, alloc, on, setting, loads, room, threads, earlier);
     }
+    let mut earlier = earlier;
+    let earlier = &mut earlier;
     let mut note = || -> Result<(), AllocError>
         requires { CanBeNoted net.now history.now places.now }
         ensures { (history.exit.now.commodities ≡ history.entry.now.commodities)
@@ -122,8 +128,8 @@ pub(crate) fn note_and_bound<R: Threads + Sync>(
     let mut bound = || -> Result<Bounded, AllocError>
         requires { CanBeBounded on.now.net.now setting.now loads.now room.now }
         ensures { OnOk result (IsBoundRoom on.entry.now.net.now room.exit.now)
-            × IfOk result (IsBoundUnder on.entry.now.net.now setting.entry.now loads.entry.now) }
-    { bound_of(rt, alloc, on, setting, loads, room, beside) };
+            × IfOk result (IsLesserUnder on.entry.now.net.now setting.entry.now loads.entry.now earlier.entry.now) }
+    { bound_of(rt, alloc, on, setting, loads, room, beside, earlier.take()) };
     let (noted, bounded) = join_mut(rt, &mut note, &mut bound);
     noted?;
     bounded
@@ -136,6 +142,7 @@ fn note_and_bound_with<'a, G: Gate>(
     crew: &mut Crew<'_, Share<'a, G>>,
     parts: u16,
     search: &mut Search,
+    earlier: Option<Bounded>,
 ) -> Result<Bounded, AllocError>
     requires rows { AreRowsFor task.now.on.now.net.now search.old.history.history search.old.history.rows }
     requires commodities { search.old.history.commodities ≡ length task.now.on.now.net.now.commodities }
@@ -152,7 +159,7 @@ fn note_and_bound_with<'a, G: Gate>(
         → IsRoutedOnce task.now.on.now.net.now search.old.hands.items entries
         → phases_kept search.new.history ≡ phases_kept search.old.history ++ entries ∷ []) }
     ensures room { OnOk result (IsBoundRoom task.now.on.now.net.now search.new.room) }
-    ensures bound { IfOk result (IsBoundUnder task.now.on.now.net.now task.now.setting search.old.loads.items) }
+    ensures bound { IfOk result (IsLesserUnder task.now.on.now.net.now task.now.setting search.old.loads.items earlier) }
 {
     let alloc = task.alloc;
     let net = task.on.net;
@@ -166,17 +173,19 @@ fn note_and_bound_with<'a, G: Gate>(
         ensures { (history.exit.now.commodities ≡ history.entry.now.commodities)
             × OnOk result (IsNoted net.entry.now places.entry.now history.entry.now history.exit.now) }
     { history.note_phase(alloc, net, places, sought) };
-    let (noted, bounded) = bound_beside(task, loads, &mut search.room, crew, parts, &mut note);
+    let room = &mut search.room;
+    let (noted, bounded) = bound_beside(task, loads, room, crew, parts, earlier, &mut note);
     noted?;
     bounded
 }
 
-/// One phase more, and the bound of the loads after it, under the same setting. `Err` is for want of memory, and then the search can't go
-/// on.
+/// One phase more, and the lesser of an earlier bound, if there is one, and that of the loads after it, under the same setting. `Err`
+/// is for want of memory, and then the search can't go on.
 fn phase_alone<G: Gate, R: Threads + Sync>(
     run: &Run<'_, G, R>,
     task: &Task<'_, G>,
     search: &mut Search,
+    earlier: Option<Bounded>,
 ) -> Result<Bounded, AllocError>
     requires no_cut { HasNoCut task.now.on.now.net.now }
     requires setting { IsSetting task.now.setting }
@@ -185,7 +194,7 @@ fn phase_alone<G: Gate, R: Threads + Sync>(
     requires work { length task.now.on.now.net.now.commodities * (phase_count search.old + 1) ≤ MAX_WORK }
     ensures search { OnOk result (IsSearch task.now.on.now.net.now search.new) }
     ensures routed { OnOk result (HasRouted task.now.on.now.net.now task.now.setting search.old search.new) }
-    ensures bound { IfOk result (IsBoundUnder task.now.on.now.net.now task.now.setting search.new.loads.items) }
+    ensures bound { IfOk result (IsLesserUnder task.now.on.now.net.now task.now.setting search.new.loads.items earlier) }
 {
     let _cells = task.on.net.cells();
     route(run.rt, task, search)?;
@@ -196,6 +205,7 @@ fn phase_alone<G: Gate, R: Threads + Sync>(
         &task.setting,
         search,
         run.threads,
+        earlier,
     )
 }
 
@@ -206,6 +216,7 @@ fn phase_by_crew<'a, G: Gate, R: Threads + Sync>(
     task: &Task<'a, G>,
     crew: &mut Crew<'_, Share<'a, G>>,
     search: &mut Search,
+    earlier: Option<Bounded>,
 ) -> Result<Bounded, AllocError>
     requires no_cut { HasNoCut task.now.on.now.net.now }
     requires setting { IsSetting task.now.setting }
@@ -214,20 +225,21 @@ fn phase_by_crew<'a, G: Gate, R: Threads + Sync>(
     requires work { length task.now.on.now.net.now.commodities * (phase_count search.old + 1) ≤ MAX_WORK }
     ensures search { OnOk result (IsSearch task.now.on.now.net.now search.new) }
     ensures routed { OnOk result (HasRouted task.now.on.now.net.now task.now.setting search.old search.new) }
-    ensures bound { IfOk result (IsBoundUnder task.now.on.now.net.now task.now.setting search.new.loads.items) }
+    ensures bound { IfOk result (IsLesserUnder task.now.on.now.net.now task.now.setting search.new.loads.items earlier) }
 {
     let _cells = task.on.net.cells();
     route_with(run.rt, task, crew, search)?;
-    note_and_bound_with(task, crew, run.others(), search)
+    note_and_bound_with(task, crew, run.others(), search, earlier)
 }
 
-/// One phase more, by a crew where there is one, and the bound of the loads after it, under the same setting. `Err` is for want of memory,
-/// or where the crew gave up; and then the search can't go on.
+/// One phase more, by a crew where there is one, and the lesser of an earlier bound, if there is one, and that of the loads after it,
+/// under the same setting. `Err` is for want of memory, or where the crew gave up; and then the search can't go on.
 pub(crate) fn one_phase<'a, G: Gate, R: Threads + Sync>(
     run: &Run<'a, G, R>,
     task: &Task<'a, G>,
     crew: Option<&mut Crew<'_, Share<'a, G>>>,
     search: &mut Search,
+    earlier: Option<Bounded>,
 ) -> Result<Bounded, AllocError>
     requires no_cut { HasNoCut task.now.on.now.net.now }
     requires setting { IsSetting task.now.setting }
@@ -236,10 +248,10 @@ pub(crate) fn one_phase<'a, G: Gate, R: Threads + Sync>(
     requires work { length task.now.on.now.net.now.commodities * (phase_count search.old + 1) ≤ MAX_WORK }
     ensures search { OnOk result (IsSearch task.now.on.now.net.now search.new) }
     ensures routed { OnOk result (HasRouted task.now.on.now.net.now task.now.setting search.old search.new) }
-    ensures bound { IfOk result (IsBoundUnder task.now.on.now.net.now task.now.setting search.new.loads.items) }
+    ensures bound { IfOk result (IsLesserUnder task.now.on.now.net.now task.now.setting search.new.loads.items earlier) }
 {
     match crew {
-        Some(crew) => phase_by_crew(run, task, crew, search),
-        None => phase_alone(run, task, search),
+        Some(crew) => phase_by_crew(run, task, crew, search, earlier),
+        None => phase_alone(run, task, search, earlier),
     }
 }

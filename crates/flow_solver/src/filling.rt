@@ -5,19 +5,19 @@ ghost use Rattle.std.specs.Arc.{arc_value};
 ghost use Rattle.claimed_calls.specs.Jobs.{IsWorked, Waits};
 ghost use Rattle.flow_model.specs.Lengths.{AreLengths};
 ghost use Rattle.flow_model.specs.Groups.{group_sources};
-ghost use Rattle.flow_paths.specs.Certificate.{upper_of};
+
 ghost use Rattle.fixed_exp.specs.Far.{EmptyAreFar};
-ghost use Rattle.dual_bound.specs.Bounds.{IsBoundOf, ShowsBound};
+ghost use Rattle.dual_bound.specs.Bounds.{IsLesser};
 ghost use Rattle.dual_bound.specs.Rows.{HasDistances, IsRoom, sources_of};
 ghost use Rattle.flow_solver.specs.Shares.{CanBeDone, IsDoneOf};
-ghost use Rattle.flow_solver.specs.Search.{CanBeBounded, IsBoundRoom, IsBoundUnder};
+ghost use Rattle.flow_solver.specs.Search.{CanBeBounded, IsBoundRoom, IsLesserUnder};
 
 use crate::parts::{append_parts, parts_of};
 use crate::prepared::Task;
 use crate::search::BoundRoom;
 use crate::share::Share;
 use claimed_calls::Crew;
-use dual_bound::{Bounded, Row, bound_of_rows, refill_rows};
+use dual_bound::{Bounded, Row, lesser_of_rows, refill_rows};
 use flow_model::Net;
 use mcf_base::Gate;
 use std::alloc::{AllocError, Global};
@@ -104,24 +104,23 @@ fn fill_beside<'a, G: Gate, T, F: FnMut() -> T>(
     (made, append_parts(rows, shares))
 }
 
-/// The bound of rows that were filled under these lengths, which go back to their room. `Err` is for want of memory, or where a part shares
-/// the lengths still, which no run does.
+/// The lesser of an earlier bound, if there is one, and that of rows that were filled under these lengths, which go back to their room.
+/// `Err` is for want of memory, or where a part shares the lengths still, which no run does.
 fn bound_after(
     alloc: Global,
     net: &Net,
     lengths: Arc<Vec<u64>, Global>,
     room: &mut BoundRoom,
+    earlier: Option<Bounded>,
 ) -> Result<Bounded, AllocError>
     requires lengths { AreLengths net.now.cells (arc_value lengths).items }
     requires empty { EmptyAreFar net.now.cells (arc_value lengths).items }
     requires sources { sources_of room.old.rows.items ≡ group_sources net.now }
     requires distances { All (HasDistances net.now (arc_value lengths).items) room.old.rows.items }
     ensures room { OnOk result (IsBoundRoom net.now room.new) }
-    ensures dual { IfOk result (λ b. IsBoundOf net.now (arc_value lengths).items b.dual) }
-    ensures shows { IfOk result (λ b. ShowsBound net.now (arc_value lengths).items b.dual) }
-    ensures value { IfOk result (λ b. b.value ≡ upper_of net.now b.dual) }
+    ensures lesser { IfOk result (IsLesser net.now (arc_value lengths).items earlier) }
 {
-    let bounded = bound_of_rows(alloc, net, &lengths, &room.rows)?;
+    let bounded = lesser_of_rows(alloc, net, &lengths, &room.rows, earlier)?;
     match Arc::try_unwrap(lengths) {
         Ok(lengths) => room.lengths = lengths,
         Err(_) => return Err(AllocError),
@@ -137,13 +136,14 @@ pub(crate) fn bound_beside<'a, G: Gate, T, F: FnMut() -> T>(
     room: &mut BoundRoom,
     crew: &mut Crew<'_, Share<'a, G>>,
     parts: u16,
+    earlier: Option<Bounded>,
     lead: &mut F,
 ) -> (T, Result<Bounded, AllocError>)
     requires can { CanBeBounded task.now.on.now.net.now task.now.setting loads.now room.old }
     requires lead { F.pre lead.old }
     ensures lead { F.step lead.old result.0 lead.new }
     ensures room { OnOk result.1 (IsBoundRoom task.now.on.now.net.now room.new) }
-    ensures bound { IfOk result.1 (IsBoundUnder task.now.on.now.net.now task.now.setting loads.now) }
+    ensures bound { IfOk result.1 (IsLesserUnder task.now.on.now.net.now task.now.setting loads.now earlier) }
 {
     let alloc = task.alloc;
     let on = task.on;
@@ -156,7 +156,7 @@ pub(crate) fn bound_beside<'a, G: Gate, T, F: FnMut() -> T>(
     };
     let (made, filled) = fill_beside(task, &lengths, &mut room.rows, crew, parts, lead);
     match filled {
-        Ok(()) => (made, bound_after(alloc, on.net, lengths, room)),
+        Ok(()) => (made, bound_after(alloc, on.net, lengths, room, earlier)),
         Err(error) => (made, Err(error)),
     }
 }

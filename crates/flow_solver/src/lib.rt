@@ -7,7 +7,6 @@ mod entries;
 mod filling;
 mod hands;
 mod history;
-mod kept;
 mod leading;
 mod noted;
 mod parts;

@@ -10,7 +10,6 @@ ghost use Rattle.flow_solver.specs.Reached.{IsMet, IsReached};
 ghost use Rattle.flow_solver.specs.Search.{phase_count};
 
 use crate::bounding::{note_and_bound, one_phase};
-use crate::kept::lesser;
 use crate::prepared::{Run, Task};
 use crate::search::{Search, new_search, route};
 use crate::share::Share;
@@ -65,7 +64,15 @@ pub(crate) fn first<G: Gate, R: Threads + Sync>(run: &Run<'_, G, R>) -> Result<R
     route(run.rt, &task, &mut search)?;
     let fill = measured(on.net, &search.loads);
     let later = setting_after_first(fill, run.options.step);
-    let kept = note_and_bound(run.rt, run.alloc, on, &later, &mut search, run.threads)?;
+    let kept = note_and_bound(
+        run.rt,
+        run.alloc,
+        on,
+        &later,
+        &mut search,
+        run.threads,
+        None,
+    )?;
     Ok(Reached {
         search,
         reference: fill,
@@ -100,13 +107,13 @@ pub(crate) fn next<'a, G: Gate, R: Threads + Sync>(
         setting,
         gate: run.gate,
     };
-    let later = one_phase(run, &task, crew, &mut search)?;
+    let kept = one_phase(run, &task, crew, &mut search, Some(kept))?;
     let fill = measured(net, &search.loads);
     Ok(Reached {
         search,
         reference,
         fill,
-        kept: lesser(kept, later),
+        kept,
     })
 }
 

@@ -2,7 +2,7 @@ use Rattle.std.proofs.Common.{◌≡◌, ℕ, ◌+◌, ◌≤◌, List, length, 
 use Rattle.std.proofs.Math.Nat.{mul-le-mul_left}
 use Rattle.flow_model.specs.declared.setting.Setting.{Setting}
 use Rattle.flow_model.specs.Lengths.{lengths_of}
-use Rattle.dual_bound.specs.Bounds.{IsBoundOf}
+use Rattle.dual_bound.specs.Bounds.{IsBoundOf, IsBounded}
 use Rattle.flow_solver.specs.Rows.{HistoryView, AreRowsFor}
 use Rattle.flow_solver.specs.Search.{phase_count, IsRouted}
 use Rattle.flow_solver.proofs.Routing.{noted-phase}
@@ -36,6 +36,8 @@ returns-clause-reached g c =
     let new = c.note_and_bound.new.search in
     let f = c.measured-fill.result in
     let kept = c.in_ok-kept.kept in
+    let made = c.in_ok-kept.ensures.bound in
+    let is : IsBounded net (lengths_of net c.setting_after_first-later.result mid.loads.items) kept = subst (IsBounded net (lengths_of net c.setting_after_first-later.result mid.loads.items)) (sym made.2) made.1 in
     let setting : Setting = record { first = true; ref_cap = 0; ref_load = 1; step = o.step } in
     let later : Setting = record { first = false; ref_cap = f.cap; ref_load = f.load; step = o.step } in
     let routed : IsRouted net setting old mid = subst (λ (x : Setting). IsRouted net x old mid) c.setting_at_first-setting.ensures c.in_ok-route.ensures.routed in
@@ -44,7 +46,7 @@ returns-clause-reached g c =
     let loads : mid.loads.items ≡ new.loads.items = ap (λ (xs : _). xs.items) (sym c.note_and_bound.ensures.loads) in
     let bound : IsBoundOf net (lengths_of net later new.loads.items) kept.dual =
     subst (λ (xs : List ℕ). IsBoundOf net (lengths_of net later xs) kept.dual) loads
-    (subst (λ (x : Setting). IsBoundOf net (lengths_of net x mid.loads.items) kept.dual) c.setting_after_first-later.ensures c.in_ok-kept.ensures.bound.0) in
+    (subst (λ (x : Setting). IsBoundOf net (lengths_of net x mid.loads.items) kept.dual) c.setting_after_first-later.ensures is.0) in
     first-reached net o old new f kept c.in_ok-search.ensures.search c.in_ok-search.ensures.nothing c.in_ok-search.ensures.hands next.0 next.1
     (fill-after net new f c.deref.result.now next.0 (c.deref.ensures.value ∙ loads) c.measured-fill.ensures.value) c.measured-fill.ensures.fits bound
-    (lengths_of net c.setting_after_first-later.result mid.loads.items, c.in_ok-kept.ensures.bound.1) c.in_ok-kept.ensures.bound.2
+    (lengths_of net c.setting_after_first-later.result mid.loads.items, is.1) is.2

@@ -17,14 +17,14 @@ one_phase-requires-clause-work g c κs within =
     omega (arith, times, c.requires.options.work)
 
 pub measured-fill-requires-clause-count : goal.measured-fill-requires-clause-count
-measured-fill-requires-clause-count g c = ap (λ (xs : List ℕ). length xs) c.deref.ensures.value ∙ loads-size c.args.run.now.on.now.net.now c.one_phase.new.search c.in_ok-later.ensures.search
+measured-fill-requires-clause-count g c = ap (λ (xs : List ℕ). length xs) c.deref.ensures.value ∙ loads-size c.args.run.now.on.now.net.now c.one_phase.new.search c.in_ok-kept.ensures.search
 
 pub measured-fill-requires-clause-small : goal.measured-fill-requires-clause-small
 measured-fill-requires-clause-small g c k d l =
     let new = c.one_phase.new.search in
     let size = ap (λ (xs : List ℕ). length xs) c.deref.ensures.value in
-    let more = count-more c.args.run.now.on.now.net.now c.setting_after_first-setting.result c.args.reached.search new c.in_ok-later.ensures.routed in
-    let small : get_or new.loads.items k d ≤ phase_count new * MAX_TOTAL = c.in_ok-later.ensures.search.small k d (omega (arith, size)) in
+    let more = count-more c.args.run.now.on.now.net.now c.setting_after_first-setting.result c.args.reached.search new c.in_ok-kept.ensures.routed in
+    let small : get_or new.loads.items k d ≤ phase_count new * MAX_TOTAL = c.in_ok-kept.ensures.search.small k d (omega (arith, size)) in
     subst (λ (xs : List ℕ). get_or xs k d ≤ MAX_LENGTH) (sym c.deref.ensures.value) (omega (arith, small, more, c.requires.budget, c.requires.options.phases))
 
 pub returns-clause-reached : goal.returns-clause-reached
@@ -33,15 +33,16 @@ returns-clause-reached g c =
     let o = c.args.run.now.options.now in
     let r = c.args.reached in
     let new = c.one_phase.new.search in
-    let e = c.in_ok-later.ensures in
-    let later = c.in_ok-later.later in
+    let e = c.in_ok-kept.ensures in
+    let later = e.bound.0 in
+    let made = e.bound.1 in
     let setting : Setting = record { first = false; ref_cap = r.reference.cap; ref_load = r.reference.load; step = o.step } in
     let is = c.setting_after_first-setting.ensures in
     let routed : HasRouted net setting r.search new = subst (λ (x : Setting). HasRouted net x r.search new) is e.routed in
-    let bound : IsBoundOf net (lengths_of net setting new.loads.items) later.dual = subst (λ (x : Setting). IsBoundOf net (lengths_of net x new.loads.items) later.dual) is e.bound.0 in
-    next-reached net o r new c.measured-fill.result later c.lesser.result c.requires.reached c.requires.unmet e.search routed
+    let bound : IsBoundOf net (lengths_of net setting new.loads.items) later.dual = subst (λ (x : Setting). IsBoundOf net (lengths_of net x new.loads.items) later.dual) is made.0 in
+    next-reached net o r new c.measured-fill.result later c.in_ok-kept.kept c.requires.reached c.requires.unmet e.search routed
     (fill-after net new c.measured-fill.result c.deref.result.now e.search c.deref.ensures.value c.measured-fill.ensures.value) c.measured-fill.ensures.fits bound
-    (lengths_of net c.setting_after_first-setting.result new.loads.items, e.bound.1) e.bound.2 c.lesser.ensures
+    (lengths_of net c.setting_after_first-setting.result new.loads.items, made.1) made.2 e.bound.2
 
 pub returns-clause-count : goal.returns-clause-count
-returns-clause-count g c = count-more c.args.run.now.on.now.net.now c.setting_after_first-setting.result c.args.reached.search c.one_phase.new.search c.in_ok-later.ensures.routed
+returns-clause-count g c = count-more c.args.run.now.on.now.net.now c.setting_after_first-setting.result c.args.reached.search c.one_phase.new.search c.in_ok-kept.ensures.routed
