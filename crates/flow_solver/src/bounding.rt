@@ -46,9 +46,7 @@ fn bound_of<R: Threads + Sync>(
 {
     let BoundRoom { lengths, rows } = room;
     on.powers.lengths(on.net, setting, loads, lengths);
-    lesser_in(
-        rt, alloc, on.net, on.graph, lengths, rows, threads, earlier,
-    )
+    lesser_in(rt, alloc, on.net, on.graph, lengths, rows, threads, earlier)
 }
 
 /// In how many threads rows are noted and a bound is made, of at most so many, where so many workers have routed: in one, where one

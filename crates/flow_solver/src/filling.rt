@@ -5,7 +5,6 @@ ghost use Rattle.std.specs.Arc.{arc_value};
 ghost use Rattle.claimed_calls.specs.Jobs.{IsWorked, Waits};
 ghost use Rattle.flow_model.specs.Lengths.{AreLengths};
 ghost use Rattle.flow_model.specs.Groups.{group_sources};
-
 ghost use Rattle.fixed_exp.specs.Far.{EmptyAreFar};
 ghost use Rattle.dual_bound.specs.Bounds.{IsLesser};
 ghost use Rattle.dual_bound.specs.Rows.{HasDistances, IsRoom, sources_of};
