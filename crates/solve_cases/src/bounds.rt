@@ -6,9 +6,11 @@ ghost use Rattle.fixed_exp.specs.Far.{EmptyAreFar};
 
 use crate::{cell, demand, network};
 use dijkstra_paths::Graph;
-use dual_bound::{bound, bound_in, cut_bound, source_rows};
+use dual_bound::{Bounded, bound, cut_bound, lesser_in, source_rows};
 use fixed_exp::{LengthTable, Powers};
 use flow_model::{Net, Setting};
+use flow_paths::Dual;
+use gap_fraction::Frac;
 use std::alloc::Global;
 use std::process::Abort;
 use std::test::Fail;
@@ -22,7 +24,7 @@ const LATER: Setting = Setting {
     step: 65536,
 };
 
-/// The bound under a load of 10, made twice in the same rows.
+/// The bound under a load of 10, made twice in the same rows; and then a third time, where the earlier one stays, since it is no greater.
 fn bound_in_kept_rows<R: Abort + Threads + Sync>(
     rt: &R,
     alloc: Global,
@@ -36,12 +38,43 @@ fn bound_in_kept_rows<R: Abort + Threads + Sync>(
     requires empty { EmptyAreFar net.now.cells lengths.now }
 {
     let mut rows = source_rows(alloc, net)?;
-    let first = bound_in(rt, alloc, net, graph, lengths, &mut rows, threads)?;
+    let rows = &mut rows;
+    let first = lesser_in(rt, alloc, net, graph, lengths, rows, threads, None)?;
     assert_eq!(rt; first.value.num(), 20266198323167226);
-    let again = bound_in(rt, alloc, net, graph, lengths, &mut rows, threads)?;
+    let again = lesser_in(rt, alloc, net, graph, lengths, rows, threads, None)?;
     assert_eq!(rt; again.value.num(), 20266198323167226);
     assert_eq!(rt; again.dual.rows(), 1);
     assert_eq!(rt; again.dual.row(0), [0, 1930114126015926].as_slice());
+    let earlier = Bounded {
+        dual: Dual::new(alloc),
+        value: Frac::new(20266198323167226, 19301141260159260),
+    };
+    let kept = lesser_in(
+        rt,
+        alloc,
+        net,
+        graph,
+        lengths,
+        rows,
+        threads,
+        Some(earlier),
+    )?;
+    assert_eq!(rt; kept.dual.rows(), 0);
+    let greater = Bounded {
+        dual: Dual::new(alloc),
+        value: Frac::new(20266198323167227, 19301141260159260),
+    };
+    let less = lesser_in(
+        rt,
+        alloc,
+        net,
+        graph,
+        lengths,
+        rows,
+        threads,
+        Some(greater),
+    )?;
+    assert_eq!(rt; less.dual.rows(), 1);
     Ok(())
 }
 

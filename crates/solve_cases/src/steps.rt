@@ -33,6 +33,13 @@ const LINK: Cell = Cell {
     cap: 10,
 };
 
+const NEXT: Cell = Cell {
+    tail: 1,
+    head: 2,
+    both: false,
+    cap: 10,
+};
+
 const UNDIRECTED: Cell = Cell {
     tail: 0,
     head: 1,
@@ -57,6 +64,12 @@ const SEVEN: Cell = Cell {
 const OF_FOUR: Commodity = Commodity {
     from: 0,
     to: 1,
+    amount: 4,
+};
+
+const OVER_BOTH: Commodity = Commodity {
+    from: 0,
+    to: 2,
     amount: 4,
 };
 
@@ -110,6 +123,15 @@ fn two_links(alloc: Global) -> Result<Net, AllocError>
     let cells = vec![in alloc; THREE, SEVEN]?;
     let commodities = vec![in alloc; OF_TEN]?;
     Ok(Net::new(2, cells, commodities))
+}
+
+/// Two links of 10 in a row, and a demand of 4 over both.
+fn in_a_row(alloc: Global) -> Result<Net, AllocError>
+    ensures { IfOk result (λ n. n ≡ record { nodes = 3; cells = LINK ∷ NEXT ∷ []; commodities = OVER_BOTH ∷ [] }) }
+{
+    let cells = vec![in alloc; LINK, NEXT]?;
+    let commodities = vec![in alloc; OVER_BOTH]?;
+    Ok(Net::new(3, cells, commodities))
 }
 
 /// A link of 3 one way and one of 10 both ways, and 5 each way.
@@ -278,6 +300,46 @@ fn the_second_worker_reads_what_the_first_added(rt: HostRuntime) -> Result<(), F
     let mut into = [0, 0];
     loads.close(first, &mut into);
     assert_eq!(rt; into, [0, 20]);
+    Ok(())
+}
+
+#[tactic(auto, unfolding(flow_model::specs::Groups::group_in, flow_model::specs::Groups::group_count))]
+#[test]
+fn one_worker_adds_along_a_path(rt: HostRuntime) -> Result<(), Fail> {
+    let alloc = rt.alloc();
+    let net = in_a_row(alloc)?;
+    let groups = Groups::new(alloc, &net)?;
+    let (loads, mut pass) = Loads::new(alloc, &net, &groups, LATER, &[2, 10], 1)?;
+    let ticket = loads.claim(&mut pass);
+    assert_eq!(rt; ticket, 0);
+    let mut reads = [0, 0];
+    loads.read_all(&mut pass, &mut reads);
+    assert_eq!(rt; reads, [2, 10]);
+    loads.add_path(&mut pass, 0, &[0, 1]);
+    let mut into = [0, 0];
+    loads.close(pass, &mut into);
+    assert_eq!(rt; into, [6, 14]);
+    Ok(())
+}
+
+#[tactic(auto, unfolding(flow_model::specs::Groups::group_in, flow_model::specs::Groups::group_count))]
+#[test]
+fn one_of_two_workers_adds_along_a_path(rt: HostRuntime) -> Result<(), Fail> {
+    let alloc = rt.alloc();
+    let net = in_a_row(alloc)?;
+    let groups = Groups::new(alloc, &net)?;
+    let (loads, mut first) = Loads::new(alloc, &net, &groups, LATER, &[2, 10], 2)?;
+    let second = loads.split(&mut first);
+    let ticket = loads.claim(&mut first);
+    assert_eq!(rt; ticket, 0);
+    let mut reads = [0, 0];
+    loads.read_all(&mut first, &mut reads);
+    assert_eq!(rt; reads, [2, 10]);
+    loads.add_path(&mut first, 0, &[0, 1]);
+    loads.join(&mut first, second);
+    let mut into = [0, 0];
+    loads.close(first, &mut into);
+    assert_eq!(rt; into, [6, 14]);
     Ok(())
 }
 
