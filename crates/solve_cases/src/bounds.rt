@@ -11,7 +11,7 @@ use fixed_exp::{LengthTable, Powers};
 use flow_model::{Net, Setting};
 use flow_paths::Dual;
 use gap_fraction::Frac;
-use std::alloc::Global;
+use std::alloc::{AllocError, Global};
 use std::process::Abort;
 use std::test::Fail;
 use std::thread::Threads;
@@ -24,7 +24,7 @@ const LATER: Setting = Setting {
     step: 65536,
 };
 
-/// The bound under a load of 10, made twice in the same rows; and then a third time, where the earlier one stays, since it is no greater.
+/// The bound under a load of 10, made twice in the same rows.
 fn bound_in_kept_rows<R: Abort + Threads + Sync>(
     rt: &R,
     alloc: Global,
@@ -45,37 +45,30 @@ fn bound_in_kept_rows<R: Abort + Threads + Sync>(
     assert_eq!(rt; again.value.num(), 20266198323167226);
     assert_eq!(rt; again.dual.rows(), 1);
     assert_eq!(rt; again.dual.row(0), [0, 1930114126015926].as_slice());
+    Ok(())
+}
+
+/// How many rows the lesser of an earlier bound without rows, of this numerator, and the bound under a load of 10 has.
+fn rows_of_the_lesser<R: Threads + Sync>(
+    rt: &R,
+    alloc: Global,
+    net: &Net,
+    graph: &Graph,
+    lengths: &[u64],
+    num: u64,
+) -> Result<usize, AllocError>
+    requires graph { graph.now ≡ net.now }
+    requires lengths { AreLengths net.now.cells lengths.now }
+    requires empty { EmptyAreFar net.now.cells lengths.now }
+{
+    let mut rows = source_rows(alloc, net)?;
     let earlier = Bounded {
         dual: Dual::new(alloc),
-        value: Frac::new(20266198323167226, 19301141260159260),
+        value: Frac::new(u128::from(num), 19301141260159260),
     };
-    let kept = lesser_in(
-        rt,
-        alloc,
-        net,
-        graph,
-        lengths,
-        rows,
-        threads,
-        Some(earlier),
-    )?;
-    assert_eq!(rt; kept.dual.rows(), 0);
-    let greater = Bounded {
-        dual: Dual::new(alloc),
-        value: Frac::new(20266198323167227, 19301141260159260),
-    };
-    let less = lesser_in(
-        rt,
-        alloc,
-        net,
-        graph,
-        lengths,
-        rows,
-        threads,
-        Some(greater),
-    )?;
-    assert_eq!(rt; less.dual.rows(), 1);
-    Ok(())
+    let rows = &mut rows;
+    let kept = lesser_in(rt, alloc, net, graph, lengths, rows, 1, Some(earlier))?;
+    Ok(kept.dual.rows())
 }
 
 #[test]
@@ -96,6 +89,10 @@ fn bound_of_two_links_under_a_load(rt: HostRuntime) -> Result<(), Fail> {
     assert_eq!(rt; bounded.dual.rows(), 1);
     assert_eq!(rt; bounded.dual.row_node(0), 0);
     assert_eq!(rt; bounded.dual.row(0), [0, 1930114126015926].as_slice());
+    let rows = rows_of_the_lesser(&rt, alloc, &net, &graph, table.lengths(), 20266198323167226)?;
+    assert_eq!(rt; rows, 0);
+    let rows = rows_of_the_lesser(&rt, alloc, &net, &graph, table.lengths(), 20266198323167227)?;
+    assert_eq!(rt; rows, 1);
     for threads in [0u16, 1, 16] {
         bound_in_kept_rows(&rt, alloc, &net, &graph, table.lengths(), threads)?;
     }
