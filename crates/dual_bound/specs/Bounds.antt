@@ -74,7 +74,7 @@ pub record CanDivide (net : Network) (given : List ℕ) (dual : DualRows) : Type
 abbrev pub IsBounded : Network → List ℕ → Bounded → Type 0
 IsBounded net lengths b = IsBoundOf net lengths b.dual × ShowsBound net lengths b.dual × (b.value ≡ upper_of net b.dual)
 
--- of two bounds the earlier, where there is one and the later is not less
+-- the earlier bound, where there is one and the later is not less; else the later
 abbrev pub lesser : Option Bounded → Bounded → Bounded
 lesser earlier later = option_map_or (λ e. if fraction_le e.value later.value then e else later) earlier later
 

@@ -23,7 +23,7 @@ potentials_of rows = map potential_of rows
 abbrev pub dual_of : List ℕ → List Row → DualRows
 dual_of lengths rows = record { lengths = length_rows 0 lengths; potentials = potentials_of rows }
 
--- and its value
+-- that dual with its value, volume over weighted distance
 abbrev pub bounded_of : Network → List ℕ → List Row → Bounded
 bounded_of net lengths rows = record { dual = dual_of lengths rows; value = upper_of net (dual_of lengths rows) }
 

@@ -11,6 +11,7 @@ ghost use Rattle.flow_model.specs.Groups.{group_sources};
 
 use crate::dual::{are_filled, assembled};
 use crate::rows::{Row, blank_all, fill_all, fill_rows, mark_all, source_rows};
+use crate::team::Team;
 use crate::value::upper;
 use dijkstra_paths::Graph;
 use flow_model::{Cell, Net};
@@ -66,15 +67,13 @@ fn lesser(
     Ok(Bounded { dual, value })
 }
 
-/// Fills rows anew with distances, in at most so many threads, each search from the tree of the one before. A row for which no
-/// memory was left is not filled.
+/// Fills rows anew with distances, each search from the tree of the one before. A row for which no memory was left is not filled.
 fn refill<R: Threads + Sync>(
-    rt: &R,
+    team: &Team<'_, R>,
     alloc: Global,
     graph: &Graph,
     lengths: &[u64],
     rows: &mut [Row],
-    threads: u16,
 )
     requires lengths { AreLengths graph.now.cells lengths.now }
     requires rows { All (IsRoom graph.now.nodes) rows.old }
@@ -82,7 +81,7 @@ fn refill<R: Threads + Sync>(
     ensures distances { All (HasDistances graph.now lengths.now) rows.new }
 {
     blank_all(rows);
-    fill_all(rt, alloc, graph, lengths, rows, threads);
+    fill_all(team, alloc, graph, lengths, rows);
 }
 
 /// Fills rows anew with distances, in the caller's thread; they may be those of some sources alone. Each search begins at the tree of the
@@ -148,21 +147,22 @@ pub fn bound<R: Threads + Sync>(
     ensures { IfOk result (IsBounded net.now lengths.now) }
 {
     let mut rows = source_rows(alloc, net)?;
-    let rows = &mut rows;
-    lesser_in(rt, alloc, net, graph, lengths, rows, MAX_WORKERS, None)
+    let team = Team {
+        rt,
+        threads: MAX_WORKERS,
+    };
+    lesser_in(&team, alloc, net, graph, lengths, &mut rows, None)
 }
 
-/// As `bound`, or an earlier bound that is not greater, in rows that are kept from one bound to the next, and in at most so many
-/// threads, its caller's among them: in 1 (and 0 stands for 1) it starts none of its own. After an `Err` the rows are of no more
-/// use.
+/// As `bound`, or an earlier bound that is not greater, in rows that are kept from one bound to the next. After an `Err` the rows are
+/// of no more use, and the earlier bound is gone too.
 pub fn lesser_in<R: Threads + Sync>(
-    rt: &R,
+    team: &Team<'_, R>,
     alloc: Global,
     net: &Net,
     graph: &Graph,
     lengths: &[u64],
     rows: &mut [Row],
-    threads: u16,
     earlier: Option<Bounded>,
 ) -> Result<Bounded, AllocError>
     requires graph { graph.now ≡ net.now }
@@ -172,7 +172,7 @@ pub fn lesser_in<R: Threads + Sync>(
     ensures rows { OnOk result (AreRoom net.now rows.new) }
     ensures lesser { IfOk result (IsLesser net.now lengths.now earlier) }
 {
-    refill(rt, alloc, graph, lengths, rows, threads);
+    refill(team, alloc, graph, lengths, rows);
     lesser_of_rows(alloc, net, lengths, rows, earlier)
 }
 

@@ -8,6 +8,7 @@ ghost use Rattle.flow_model.specs.Least.{far_or};
 ghost use Rattle.dual_bound.specs.Rows.{Fills, IsBlank, IsFilledWith, IsMadeBlank, mark_at, sources_of};
 ghost use Rattle.dual_bound.specs.Bounds.{IsCutPotential};
 
+use crate::team::Team;
 use dijkstra_paths::{Graph, Scratch, Tree};
 use flow_model::{Commodity, Net};
 use mcf_limits::{MAX_LENGTH, MAX_NODES};
@@ -164,22 +165,22 @@ fn thread_count(rt: &impl Threads, cells: usize, rows: usize, most: u16) -> usiz
     mcf_base::thread_count(rt, most)
 }
 
-/// Fills each row with the distances from its source, in several threads where that pays, but in at most so many, its
-/// caller's among them. Rows for which no memory was left stay blank.
+/// Fills each row with the distances from its source, in several threads where that pays. Rows for which no memory was left stay
+/// blank.
 pub fn fill_all<R: Threads + Sync>(
-    rt: &R,
+    team: &Team<'_, R>,
     alloc: Global,
     graph: &Graph,
     lengths: &[u64],
     rows: &mut [Row],
-    threads: u16,
 )
     requires lengths { AreLengths graph.now.cells lengths.now }
     requires rows { (k : ℕ) (d : _) → k < length rows.old → IsBlank graph.now.nodes (slice_index_or rows.old k d) }
     ensures { (k : ℕ) (d : _) → k < length rows.old
         → Fills graph.now lengths.now (slice_index_or rows.old k d) (slice_index_or rows.new k d) }
 {
-    let threads = thread_count(rt, lengths.len(), rows.len(), threads);
+    let rt = team.rt;
+    let threads = thread_count(rt, lengths.len(), rows.len(), team.threads);
     if threads == 1 || rows.is_empty() {
         fill_rows(alloc, graph, lengths, rows);
         return;

@@ -54,61 +54,43 @@ rate_small least cap rate h r = subst (λ (x : ℕ). x ≤ 2 ^ 52) (sym r) (div-
 pub guess_small : (w rate guess : ℕ) → w ≤ 2 ^ 40 → guess ≡ w * rate / 2 ^ 40 → guess ≤ rate
 guess_small w rate guess small g = let m : w * rate ≤ 2 ^ 40 * rate = mul-le-mul_right rate small in omega (arith, m, g)
 
--- the product of a load and its rate, whole and in part, is the quotient or one less
-
-record Split (load over below whole part guess : ℕ) : Type 0 where
-  whole_low : whole * below ≤ over
-  part_low : part * below ≤ (over - whole * below) * 2 ^ 64
-  part_high : 1 ≤ below → (over - whole * below) * 2 ^ 64 < part * below + below
-  guess_is : guess ≡ load * whole + load * part / 2 ^ 64
-
-split : (load over below whole part guess : ℕ) → whole ≡ over / below → part ≡ (over - whole * below) * 2 ^ 64 / below → guess ≡ load * whole + load * part / 2 ^ 64 → Split load over below whole part guess
-split load over below whole part guess w p g =
-    let rest = (over - whole * below) * 2 ^ 64 in
-    record {
-      whole_low = subst (λ (x : ℕ). x * below ≤ over) (sym w) (div-mul-le_self over below);
-      part_low = subst (λ (x : ℕ). x * below ≤ rest) (sym p) (div-mul-le_self rest below);
-      part_high = λ some. subst (λ (x : ℕ). rest < x * below + below) (sym p) (lt-div-mul-add {a = rest} some);
-      guess_is = g;
-    }
+-- the whole and the part of a rate
+pub rate_made : (over below whole part : ℕ) → 1 ≤ below → whole ≡ over / below → part ≡ (over - whole * below) * 2 ^ 64 / below → whole * 2 ^ 64 + part ≡ over * 2 ^ 64 / below
+rate_made over below whole part some w p =
+    let rest : ℕ = over - whole * below in
+    let whole_low : whole * below ≤ over = subst (λ (x : ℕ). x * below ≤ over) (sym w) (div-mul-le_self over below) in
+    let all : over ≡ whole * below + rest = omega (arith, whole_low) in
+    let part_low : part * below ≤ rest * 2 ^ 64 = subst (λ (x : ℕ). x * below ≤ rest * 2 ^ 64) (sym p) (div-mul-le_self (rest * 2 ^ 64) below) in
+    let part_high : rest * 2 ^ 64 < part * below + below = subst (λ (x : ℕ). rest * 2 ^ 64 < x * below + below) (sym p) (lt-div-mul-add {a = rest * 2 ^ 64} some) in
+    sym (div-eq_of_lt-le below (grind (arith, all, part_low)) (grind (arith, all, part_high)))
 
 -- what was read of a rate is so too
 pub rate_read : (s : Setting) (cell : Cell) (rate : Rate) (over whole part below : ℕ) → HasExponentRate s cell rate → 1 ≤ rate.below → over ≡ factor_of s → whole ≡ rate.whole → part ≡ rate.part → below ≡ rate.below
-    → (whole ≡ over / below) × (part ≡ (over - whole * below) * 2 ^ 64 / below)
-rate_read s cell rate over whole part below has some o w p b =
-    let r = has some in
-    (w ∙ (r.whole ∙ (λ i. sym o i / sym b i)), p ∙ (r.part ∙ (λ i. (sym o i - sym w i * sym b i) * 2 ^ 64 / sym b i)))
+    → whole * 2 ^ 64 + part ≡ over * 2 ^ 64 / below
+rate_read s cell rate over whole part below has some o w p b = (λ i. w i * 2 ^ 64 + p i) ∙ ((has some).value ∙ (λ i. sym o i * 2 ^ 64 / sym b i))
 
-pub rate_low : (load over below whole part guess : ℕ) → whole ≡ over / below → part ≡ (over - whole * below) * 2 ^ 64 / below → guess ≡ load * whole + load * part / 2 ^ 64 → guess * below ≤ load * over
-rate_low load over below whole part guess w p g =
-    let s = split load over below whole part guess w p g in
-    let r : ℕ = over - whole * below in
-    let h : ℕ = load * part / 2 ^ 64 in
-    let all : over ≡ whole * below + r = omega (arith, s.whole_low) in
-    let b : h * 2 ^ 64 ≤ load * part = omega arith in
-    let b' : h * 2 ^ 64 * below ≤ load * part * below = mul-le-mul_right below b in
-    let a' : load * (part * below) ≤ load * (r * 2 ^ 64) = mul-le-mul_left load s.part_low in
-    let c : h * below ≤ load * r = grind (arith, a', b', mul_assoc load part below) in
-    let e : load * over ≡ load * (whole * below + r) = ap (λ (n : ℕ). load * n) all in
-    let f : guess * below ≡ (load * whole + h) * below = ap (λ (n : ℕ). n * below) g in
-    grind (arith, c, e, f, mul_assoc load whole below)
+-- the product of a load and its rate, whole and in part, is the quotient or one less
+pub rate_low : (load over below whole part guess : ℕ) → whole * 2 ^ 64 + part ≡ over * 2 ^ 64 / below → guess ≡ load * whole + load * part / 2 ^ 64 → guess * below ≤ load * over
+rate_low load over below whole part guess v g =
+    let rate : ℕ = whole * 2 ^ 64 + part in
+    let low : rate * below ≤ over * 2 ^ 64 = subst (λ (x : ℕ). x * below ≤ over * 2 ^ 64) (sym v) (div-mul-le_self (over * 2 ^ 64) below) in
+    let m : load * rate ≡ load * whole * 2 ^ 64 + load * part = grind arith in
+    let b : guess * 2 ^ 64 ≤ load * rate = omega (arith, m, g) in
+    let b' : guess * 2 ^ 64 * below ≤ load * rate * below = mul-le-mul_right below b in
+    let a' : load * (rate * below) ≤ load * (over * 2 ^ 64) = mul-le-mul_left load low in
+    grind (arith, a', b', mul_assoc load rate below)
 
-pub rate_high : (load over below whole part guess : ℕ) → whole ≡ over / below → part ≡ (over - whole * below) * 2 ^ 64 / below → guess ≡ load * whole + load * part / 2 ^ 64 → 1 ≤ below → load ≤ 2 ^ 64
+pub rate_high : (load over below whole part guess : ℕ) → whole * 2 ^ 64 + part ≡ over * 2 ^ 64 / below → guess ≡ load * whole + load * part / 2 ^ 64 → 1 ≤ below → load ≤ 2 ^ 64
     → load * over < guess * below + 2 * below
-rate_high load over below whole part guess w p g some small =
-    let s = split load over below whole part guess w p g in
-    let r : ℕ = over - whole * below in
-    let h : ℕ = load * part / 2 ^ 64 in
-    let all : over ≡ whole * below + r = omega (arith, s.whole_low) in
-    let b : load * part + 1 ≤ h * 2 ^ 64 + 2 ^ 64 = omega arith in
-    let b' : (load * part + 1) * below ≤ (h * 2 ^ 64 + 2 ^ 64) * below = mul-le-mul_right below b in
-    let top : r * 2 ^ 64 ≤ part * below + below = omega (arith, s.part_high some) in
-    let a' : load * (r * 2 ^ 64) ≤ load * (part * below + below) = mul-le-mul_left load top in
+rate_high load over below whole part guess v g some small =
+    let rate : ℕ = whole * 2 ^ 64 + part in
+    let high : over * 2 ^ 64 ≤ rate * below + below = omega (arith, subst (λ (x : ℕ). over * 2 ^ 64 < x * below + below) (sym v) (lt-div-mul-add {a = over * 2 ^ 64} some)) in
+    let m : load * rate ≡ load * whole * 2 ^ 64 + load * part = grind arith in
+    let b : load * rate + 1 ≤ guess * 2 ^ 64 + 2 ^ 64 = omega (arith, m, g) in
+    let b' : (load * rate + 1) * below ≤ (guess * 2 ^ 64 + 2 ^ 64) * below = mul-le-mul_right below b in
+    let a' : load * (over * 2 ^ 64) ≤ load * (rate * below + below) = mul-le-mul_left load high in
     let d : load * below ≤ 2 ^ 64 * below = mul-le-mul_right below small in
-    let c : load * r < h * below + 2 * below = grind (arith, a', b', d, some, mul_assoc load part below) in
-    let e : load * over ≡ load * (whole * below + r) = ap (λ (n : ℕ). load * n) all in
-    let f : guess * below ≡ (load * whole + h) * below = ap (λ (n : ℕ). n * below) g in
-    grind (arith, c, e, f, mul_assoc load whole below)
+    grind (arith, a', b', d, some, mul_assoc load rate below)
 
 -- the exponent as a quotient
 pub exponent_is : (s : Setting) (cell : Cell) (load below : ℕ) → below ≡ cell.cap * s.ref_load → 1 ≤ below → exponent s cell load ≡ load * factor_of s / below

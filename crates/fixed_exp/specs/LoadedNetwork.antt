@@ -14,7 +14,8 @@ pub record LoadedNetwork : Type 0 where
   pub setting : Setting
   pub loads : List ℕ
 
--- the exponents, the greatest of them, the least capacity and the lengths are those of the loads, the rates are those of the cells, and there is room for as many places as there are cells
+-- the exponents, the greatest of them, the least capacity and the lengths are those of the loads, the rates are those of the
+-- cells, and there is room for as many places as there are cells
 pub record IsLengthTable (net : Network) (s : Setting) (loads kept ready : List ℕ) (greatest smallest : ℕ) (rates : List Rate) (places : ℕ) : Type 0 where
   pub fits : IsNetwork net
   pub setting : IsSetting s

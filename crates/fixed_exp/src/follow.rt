@@ -26,7 +26,7 @@ fn falls_too(falls: bool, old: u64, new: u64) -> bool
 }
 
 /// Puts the exponents of the cells at the changed places in their place, as far as they fit, and gives the greatest of
-/// all, where the greatest was this one and none fell.
+/// all, where the greatest was this one and none fell. It is a function of its own, so that what it goes over stays in registers.
 #[inline(never)]
 fn put_exponents(
     rated: &Rated<'_>,
@@ -154,7 +154,7 @@ impl Powers {
         }
     }
 
-    /// Puts the length of each cell in its place, where every exponent was kept whole.
+    /// Puts the length of each cell in its place, where every exponent was kept whole. It is a function of its own too.
     #[inline(never)]
     fn put_near_lengths(&self, rated: &Rated<'_>, top: u64, kept: &[u64], into: &mut [u64])
         requires rated { AreRated rated.now.scale.now.setting rated.now.cells.now rated.now.least rated.now.rates.now }

@@ -10,9 +10,9 @@ use crate::scale::Scale;
 use flow_model::Cell;
 use mcf_limits::{MAX_LENGTH, MAX_UNITS};
 
-/// What a load is divided by in a cell's exponent, if that is at most 2^63, or else 0; what a unit of load adds to the exponent, the
-/// whole and the part of it with 64 binary places, rounded down; and what a unit of weight adds to its length, with 40 binary
-/// places, rounded down.
+/// What a load is divided by in a cell's exponent; what a unit of load adds to the exponent, the whole of it and the part with 64
+/// binary places, rounded down; and what a unit of weight adds to the cell's length, with 40 binary places, rounded down. The first
+/// three are 0 where the divisor is above 2^63, or what loads are multiplied by above 2^64 - 1: the exponent takes a division then.
 #[derive(Clone, Copy)]
 pub struct Rate {
     pub below: u64,

@@ -94,7 +94,8 @@ pub record Loads (t : Terms) (s : State) : Type 0 where
   pub members : (w : ℕ) → w < length s.workers → AllMembers t (worker_at s w).log
   pub within : (c : ℕ) → c < cell_count t → slice_index s.loads c ≤ MAX_LENGTH
 
--- for each read of a cell in the log: the base and what earlier entries added is at most what was read, and that and what the entry itself and later ones added is at most the load now
+-- for each read of a cell in the log: the base and what earlier entries added is at most what was read, and that and what the
+-- entry itself and later ones added is at most the load now
 -- (`later c` is what entries before this part of the log, which are later in time, added to c)
 abbrev pub ReadsFit : Terms → List ℕ → (ℕ → ℕ) → List Entry → Type 0
 ReadsFit t loads later [] = Unit {0}

@@ -48,7 +48,8 @@ pub record IsSearch (net : Network) (s : Search) : Type 0 where
   pub commodities : s.history.commodities ≡ length net.commodities
   pub rows : AreRowsFor net s.history.history s.history.rows
 
--- the hands have routed one phase more under the setting, which is not noted yet: it has loaded some cell, loads are within their limit, and the hands, of which there are as many, are idle again; room and history are as before
+-- the hands have routed one phase more under the setting, which is not noted yet: it has loaded some cell, loads are within their
+-- limit, and the hands, of which there are as many, are idle again; room and history are as before
 pub record IsRouted (net : Network) (setting : Setting) (old new : Search) : Type 0 where
   pub phase : IsRoutedPhase net setting old.loads.items new.loads.items new.hands.items
   pub count : length new.loads.items ≡ length net.cells

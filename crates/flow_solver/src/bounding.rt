@@ -15,7 +15,7 @@ use crate::prepared::{Prepared, Run, Task};
 use crate::search::{BoundRoom, Search, route, route_with};
 use crate::share::Share;
 use claimed_calls::Crew;
-use dual_bound::{Bounded, lesser_in};
+use dual_bound::{Bounded, Team, lesser_in};
 use flow_model::Setting;
 use mcf_base::Gate;
 use mcf_limits::{MAX_PHASES, MAX_WORK, MAX_WORKERS};
@@ -29,15 +29,14 @@ const PATHS_OF_A_THREAD: usize = 4_096;
 /// for them in each phase, which can take longer than their start.
 const WORK_OF_SEVERAL: usize = 1_000_000;
 
-/// The lesser of an earlier bound, if there is one, and that of the lengths of these loads, in at most so many threads.
+/// The lesser of an earlier bound, if there is one, and that of the lengths of these loads.
 fn bound_of<R: Threads + Sync>(
-    rt: &R,
+    team: &Team<'_, R>,
     alloc: Global,
     on: &Prepared<'_>,
     setting: &Setting,
     loads: &[u64],
     room: &mut BoundRoom,
-    threads: u16,
     earlier: Option<Bounded>,
 ) -> Result<Bounded, AllocError>
     requires can { CanBeBounded on.now.net.now setting.now loads.now room.old }
@@ -46,7 +45,7 @@ fn bound_of<R: Threads + Sync>(
 {
     let BoundRoom { lengths, rows } = room;
     on.powers.lengths(on.net, setting, loads, lengths);
-    lesser_in(rt, alloc, on.net, on.graph, lengths, rows, threads, earlier)
+    lesser_in(team, alloc, on.net, on.graph, lengths, rows, earlier)
 }
 
 /// In how many threads rows are noted and a bound is made, of at most so many, where so many workers have routed: in one, where one
@@ -113,9 +112,15 @@ pub(crate) fn note_and_bound<R: Threads + Sync>(
     let beside = threads_beside(places.len(), threads);
     let in_turn = beside == 0;
     if in_turn {
+        let team = Team { rt, threads };
         history.note_phase(alloc, net, places, sought)?;
-        return bound_of(rt, alloc, on, setting, loads, room, threads, earlier);
+        return bound_of(&team, alloc, on, setting, loads, room, earlier);
     }
+    let team = Team {
+        rt,
+        threads: beside,
+    };
+    let team = &team;
     let mut earlier = earlier;
     let earlier = &mut earlier;
     let mut note = || -> Result<(), AllocError>
@@ -127,7 +132,7 @@ pub(crate) fn note_and_bound<R: Threads + Sync>(
         requires { CanBeBounded on.now.net.now setting.now loads.now room.now }
         ensures { OnOk result (IsBoundRoom on.entry.now.net.now room.exit.now)
             × IfOk result (IsLesserUnder on.entry.now.net.now setting.entry.now loads.entry.now earlier.entry.now) }
-    { bound_of(rt, alloc, on, setting, loads, room, beside, earlier.take()) };
+    { bound_of(team, alloc, on, setting, loads, room, earlier.take()) };
     let (noted, bounded) = join_mut(rt, &mut note, &mut bound);
     noted?;
     bounded
@@ -157,7 +162,8 @@ fn note_and_bound_with<'a, G: Gate>(
         → IsRoutedOnce task.now.on.now.net.now search.old.hands.items entries
         → phases_kept search.new.history ≡ phases_kept search.old.history ++ entries ∷ []) }
     ensures room { OnOk result (IsBoundRoom task.now.on.now.net.now search.new.room) }
-    ensures bound { IfOk result (IsLesserUnder task.now.on.now.net.now task.now.setting search.old.loads.items earlier) }
+    ensures bound { IfOk result
+        (IsLesserUnder task.now.on.now.net.now task.now.setting search.old.loads.items earlier) }
 {
     let alloc = task.alloc;
     let net = task.on.net;
@@ -192,7 +198,8 @@ fn phase_alone<G: Gate, R: Threads + Sync>(
     requires work { length task.now.on.now.net.now.commodities * (phase_count search.old + 1) ≤ MAX_WORK }
     ensures search { OnOk result (IsSearch task.now.on.now.net.now search.new) }
     ensures routed { OnOk result (HasRouted task.now.on.now.net.now task.now.setting search.old search.new) }
-    ensures bound { IfOk result (IsLesserUnder task.now.on.now.net.now task.now.setting search.new.loads.items earlier) }
+    ensures bound { IfOk result
+        (IsLesserUnder task.now.on.now.net.now task.now.setting search.new.loads.items earlier) }
 {
     let _cells = task.on.net.cells();
     route(run.rt, task, search)?;
@@ -207,8 +214,8 @@ fn phase_alone<G: Gate, R: Threads + Sync>(
     )
 }
 
-/// As `phase_alone`, with a crew, in whose threads hands take their turns and rows of the bound are filled. `Err` is for want of memory, or
-/// where the crew gave up; and then the search can't go on.
+/// As `phase_alone`, with a crew, in whose threads hands take their turns and rows of the bound are filled. `Err` is for want of
+/// memory, or where the crew gave up; and then the search can't go on.
 fn phase_by_crew<'a, G: Gate, R: Threads + Sync>(
     run: &Run<'a, G, R>,
     task: &Task<'a, G>,
@@ -223,7 +230,8 @@ fn phase_by_crew<'a, G: Gate, R: Threads + Sync>(
     requires work { length task.now.on.now.net.now.commodities * (phase_count search.old + 1) ≤ MAX_WORK }
     ensures search { OnOk result (IsSearch task.now.on.now.net.now search.new) }
     ensures routed { OnOk result (HasRouted task.now.on.now.net.now task.now.setting search.old search.new) }
-    ensures bound { IfOk result (IsLesserUnder task.now.on.now.net.now task.now.setting search.new.loads.items earlier) }
+    ensures bound { IfOk result
+        (IsLesserUnder task.now.on.now.net.now task.now.setting search.new.loads.items earlier) }
 {
     let _cells = task.on.net.cells();
     route_with(run.rt, task, crew, search)?;
@@ -246,7 +254,8 @@ pub(crate) fn one_phase<'a, G: Gate, R: Threads + Sync>(
     requires work { length task.now.on.now.net.now.commodities * (phase_count search.old + 1) ≤ MAX_WORK }
     ensures search { OnOk result (IsSearch task.now.on.now.net.now search.new) }
     ensures routed { OnOk result (HasRouted task.now.on.now.net.now task.now.setting search.old search.new) }
-    ensures bound { IfOk result (IsLesserUnder task.now.on.now.net.now task.now.setting search.new.loads.items earlier) }
+    ensures bound { IfOk result
+        (IsLesserUnder task.now.on.now.net.now task.now.setting search.new.loads.items earlier) }
 {
     match crew {
         Some(crew) => phase_by_crew(run, task, crew, search, earlier),

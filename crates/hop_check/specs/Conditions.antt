@@ -24,7 +24,8 @@ pub record PathsAreAllowed (net : Network) (limits : List (Option ℕ)) (r : Rou
   pub walks : PathsAreWalks net r
   pub within : AreWithin limits r.paths
 
--- the potential rows are of the sources of commodities without a limit, the layers of a source go from 0 to the greatest limit of its commodities; each row once, and no other
+-- the potential rows are of the sources of commodities without a limit, the layers of a source go from 0 to the greatest limit of
+-- its commodities; each row once, and no other
 pub record RowsAreAsked (net : Network) (limits : List (Option ℕ)) (h : HopProof) : Type 0 where
   pub potentials : (v : ℕ) → v < net.nodes → count_by (λ r. r.node == v) h.proof.dual.potentials ≡ (if is_unlimited net limits v then 1 else 0)
   pub layers : (v i : ℕ) → v < net.nodes → count_by (λ r. (r.node == v) && (r.index == i)) h.layers ≡ (if has_layer net limits v i then 1 else 0)
@@ -73,13 +74,15 @@ abbrev pub IsBelowWalksWithin : Network → List (Option ℕ) → List ℕ → L
 IsBelowWalksWithin net limits lengths distances = (k : ℕ) (commodity : Commodity) (walk : List ℕ) → slice_get net.commodities k ≡ Some commodity
     → IsWalk net.cells commodity.from commodity.to walk → IsWithin (limit_at limits k) walk → slice_index distances k ≤ walk_length lengths walk
 
--- no walk within its limit is shorter than its commodity's distance, and volume over weighted distance bounds the fraction of every routing within the limits
+-- no walk within its limit is shorter than its commodity's distance, and volume over weighted distance bounds the fraction of
+-- every routing within the limits
 pub record BoundsHops (net : Network) (limits : List (Option ℕ)) (d : HopDual) : Type 0 where
   pub below : IsBelowWalksWithin net limits (lengths_in net d.dual) (hop_distances net limits d)
   pub positive : 1 ≤ (hop_upper_of net limits d).den
   pub bounds : (rows : List Row) (a q : ℕ) → IsHopFeasible net limits rows a q → a * (hop_upper_of net limits d).den ≤ q * (hop_upper_of net limits d).num
 
--- the routing is feasible within the limits, the bound is one on every such routing, and closed says whether the two fractions lie within the gap
+-- the routing is feasible within the limits, the bound is one on every such routing, and closed says whether the two fractions
+-- lie within the gap
 pub record IsHopCertified (net : Network) (limits : List (Option ℕ)) (h : HopProof) : Type 0 where
   pub feasible : IsHopFeasible net limits (routing_of h.proof.routing) (lower_of h.proof.routing).num (lower_of h.proof.routing).den
   pub bounds_all : BoundsHops net limits (dual_of h)

@@ -29,7 +29,8 @@ dual_of h = record { dual = h.proof.dual; layers = h.layers }
 abbrev pub layer_in : List Layer → ℕ → ℕ → List ℕ
 layer_in layers v i = option_map_or (λ r. r.values) (find (λ r. (r.node == v) && (r.index == i)) layers) []
 
--- the distance of a commodity of this limit n: what its to has in layer n above what its from has in layer 0; without a limit that of its potentials
+-- the distance of a commodity of this limit n: what its to has in layer n above what its from has in layer 0; without a limit
+-- that of its potentials
 abbrev pub hop_distance : HopDual → Option ℕ → Commodity → ℕ
 hop_distance d None k = distance_of d.dual.potentials k
 hop_distance d (Some n) k = slice_index (layer_in d.layers k.from n) k.to - slice_index (layer_in d.layers k.from 0) k.from

@@ -13,7 +13,8 @@ abbrev pub hop_trail : List (Option HopStep) → ℕ → ℕ → ℕ → List �
 hop_trail steps nodes zero v = []
 hop_trail steps nodes (suc i) v = option_map_or (λ s. hop_trail steps nodes i s.from ++ s.cell ∷ []) (step_at steps (suc i * nodes + v)) (hop_trail steps nodes i v)
 
--- the number of nodes, the greatest layer, how many layers the last search made, and each node's distance in each layer, layer after layer, with the steps that lead there
+-- the number of nodes, the greatest layer, how many layers the last search made, and each node's distance in each layer, layer
+-- after layer, with the steps that lead there
 pub record HopSearched : Type 0 where
   pub nodes : ℕ
   pub layers : ℕ

@@ -65,7 +65,8 @@ pub record IsLayerWith (nodes : ℕ) (Q : ℕ → ℕ → ℕ → ℕ → Type 0
   pub count : length r.values ≡ nodes
   pub each : (v : ℕ) → v < nodes → Q r.node r.index v (slice_index r.values v)
 
--- these lengths in order of cells, and the rows that are asked for in order of nodes, with potentials of which P and layers of which Q holds
+-- these lengths in order of cells, and the rows that are asked for in order of nodes, with potentials of which P and layers of
+-- which Q holds
 pub record IsHopDualWith (net : Network) (limits : List (Option ℕ)) (lengths : List ℕ) (P : ℕ → ℕ → ℕ → Type 0) (Q : ℕ → ℕ → ℕ → ℕ → Type 0) (d : HopDual) : Type 0 where
   pub lengths_are : d.dual.lengths ≡ length_rows 0 lengths
   pub sources : map (λ (r : Potential). r.node) d.dual.potentials ≡ filter (is_unlimited net limits) (range_with_len 0 net.nodes)
@@ -132,7 +133,8 @@ pub record IsHopProofAfter (net : Network) (limits : List (Option ℕ)) (o : Run
   pub paths : IsTally (turns_after phases (length phases)) h.proof.routing.paths
   pub dual : dual_of h ≡ kept_after net limits bounds (length phases)
 
--- phases, at least one, with a bound after each, until the fraction and the kept bound lie within the gap or the budget is spent, and the proof that they make
+-- phases, at least one, with a bound after each, until the fraction and the kept bound lie within the gap or the budget is spent,
+-- and the proof that they make
 pub record IsHopPhasedRun (net : Network) (limits : List (Option ℕ)) (o : RunOptions) (h : HopProof) : Type 0 where
   pub phases : List (List Row)
   pub bounds : List HopDual

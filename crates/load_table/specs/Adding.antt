@@ -27,7 +27,8 @@ HasAddedAll adds old new = (found : List ℕ) × (length found ≡ length adds) 
 abbrev pub adds_along : ℕ → List ℕ → List (ℕ × ℕ)
 adds_along k path = map (λ (c : ℕ). (k, c)) path
 
--- the words, of which the first is that of claims: this amount more than before where the cell is on the path, and elsewhere as before
+-- the words, of which the first is that of claims: after an add along a path of different cells this amount more modulo 2 ^ 64 where
+-- the cell is on it, and elsewhere as before
 pub record AreMoreAlong (amount : ℕ) (path old new : List ℕ) : Type 0 where
   pub count : length new ≡ length old
   pub on : All (λ c. slice_index new (c + 1) ≡ (slice_index old (c + 1) + amount) % 2 ^ 64) path

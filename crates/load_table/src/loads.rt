@@ -436,7 +436,7 @@ impl Loads {
     }
 
     /// Adds a commodity's amount to each cell of a path, in order, by one `fetch_add` each, or plainly where there is one worker:
-    /// all adds of the commodity, after all those of commodities below it.
+    /// after adds of commodities below it alone.
     pub fn add_path(&self, pass: &mut Pass, k: u32, path: &[u16])
         requires of { IsPassOf self.now pass.old }
         requires ready { OneWhere (IsReadyFor self.now.terms k) pass.old.view.hands }

@@ -49,7 +49,8 @@ app_of_names names = app_with (map option_rule names ++ words_rule ∷ [])
 abbrev pub words_in : Found → List Text
 words_in found = unwrap_or (option_map raw_values (matched_of found words_id)) []
 
--- The matches tell the items: every option is one of the command's and stands at most once, with the value that is found; the positional words are those that are found.
+-- The matches tell the items: every option is one of the command's and stands at most once, with the value that is found; the
+-- positional words are those that are found.
 pub record Tells (command : Command) (items : Items) (found : Found) : Type 0 where
   pub known : are_known command items.settings ≡ true
   pub value : (name : Text) → bytes_eq name words_id ≡ false → single (values_of (codes "--" ++ name) items.settings) ≡ Some (first_value found name)

@@ -15,7 +15,8 @@ use Rattle.net_solve.specs.Asked.{options_for, IsTooMuch}
 use Rattle.net_solve.specs.declared.solving.Solving.{Solving}
 use Rattle.net_solve.specs.declared.solving.Solving.TheVariants.{Refused, TooMuch, Done}
 
--- the rows stand for this network in units, whose names can be told apart, the work is within its limit, and this is a solve of the network under the asked options
+-- the rows stand for this network in units, whose names can be told apart, the work is within its limit, and this is a solve of
+-- the network under the asked options
 pub record IsDone (rows : NetRows) (o : NetOptions) (asked : Asked) (net : ScaledNet) (s : SolvedView) : Type 0 where
   pub network : scaled_of rows o ≡ Ok net
   pub named : IsOf rows net

@@ -11,7 +11,8 @@ use Rattle.phase_engine.specs.declared.hand.Hand.{Hand}
 abbrev pub HasRouted : List Hand → ℕ → ℕ → List ℕ → Type 0
 HasRouted hands w k path = (h : Hand) × (slice_get hands w ≡ Some h) × Contains h.routes (record { commodity = k; path = path })
 
--- the routes of the hands are a phase from the base to the loads: each commodity has one worker and one path and stands once among all routes, and the loads have grown by the amounts along these paths
+-- the routes of the hands are a phase from the base to the loads: each commodity has one worker and one path and stands once
+-- among all routes, and the loads have grown by the amounts along these paths
 pub record IsRoutedPhase (net : Network) (setting : Setting) (base loads : List ℕ) (hands : List Hand) : Type 0 where
   pub entries : List Routed
   pub count : length entries ≡ length net.commodities

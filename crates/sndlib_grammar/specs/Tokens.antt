@@ -24,7 +24,8 @@ is_word_byte b = not (b == 10 || is_blank b || b == 35 || b == 40 || b == 41)
 abbrev pub is_in_comment : ℕ → Bool
 is_in_comment b = not (b == 10)
 
--- The tokens of bytes that stand at this place and line, but for the first `inside` bytes, which are of a word or a comment that began before them.
+-- The tokens of bytes that stand at this place and line, but for the first `inside` bytes, which are of a word or a comment that
+-- began before them.
 abbrev pub lexemes : ℕ → List ℕ → ℕ → ℕ → List Lexeme
 lexemes inside [] at line = []
 lexemes (suc inside) (b ∷ bs) at line = lexemes inside bs (at + 1) line

@@ -6,7 +6,7 @@ ghost use Rattle.fixed_exp.specs.Far.{EmptyAreFar};
 
 use crate::{cell, demand, network};
 use dijkstra_paths::Graph;
-use dual_bound::{Bounded, bound, cut_bound, lesser_in, source_rows};
+use dual_bound::{Bounded, Team, bound, cut_bound, lesser_in, source_rows};
 use fixed_exp::{LengthTable, Powers};
 use flow_model::{Net, Setting};
 use flow_paths::Dual;
@@ -39,9 +39,10 @@ fn bound_in_kept_rows<R: Abort + Threads + Sync>(
 {
     let mut rows = source_rows(alloc, net)?;
     let rows = &mut rows;
-    let first = lesser_in(rt, alloc, net, graph, lengths, rows, threads, None)?;
+    let team = Team { rt, threads };
+    let first = lesser_in(&team, alloc, net, graph, lengths, rows, None)?;
     assert_eq!(rt; first.value.num(), 20266198323167226);
-    let again = lesser_in(rt, alloc, net, graph, lengths, rows, threads, None)?;
+    let again = lesser_in(&team, alloc, net, graph, lengths, rows, None)?;
     assert_eq!(rt; again.value.num(), 20266198323167226);
     assert_eq!(rt; again.dual.rows(), 1);
     assert_eq!(rt; again.dual.row(0), [0, 1930114126015926].as_slice());
@@ -67,7 +68,8 @@ fn rows_of_the_lesser<R: Threads + Sync>(
         value: Frac::new(u128::from(num), 19301141260159260),
     };
     let rows = &mut rows;
-    let kept = lesser_in(rt, alloc, net, graph, lengths, rows, 1, Some(earlier))?;
+    let team = Team { rt, threads: 1 };
+    let kept = lesser_in(&team, alloc, net, graph, lengths, rows, Some(earlier))?;
     Ok(kept.dual.rows())
 }
 

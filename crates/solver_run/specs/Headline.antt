@@ -20,7 +20,9 @@ pub record IsPrintedFor (net : Network) (o : SolveOptions) (proof : Proof) : Typ
 pub record IsTight (net : Network) (r : Routing) : Type 0 where
   pub some : r.phases ≢ 0 → (c : ℕ) × (cell : Cell) × (slice_get net.cells c ≡ Some cell) × (1 ≤ load_of r.paths c) × (load_of r.paths c * r.scale_cap ≡ r.scale_load * cell.cap)
 
--- the routing is feasible, the lengths bound every feasible routing, the fractions and the verdict are printed as they are, open comes only after the whole budget, and the history is a run; the scale is tight, and the certificate is valid and can be written
+-- the routing is feasible, the lengths bound every feasible routing, the fractions and the verdict are printed as they are, open
+-- comes only after the whole budget, and the history is a run; the scale is tight, and the certificate is valid and can be
+-- written
 pub record IsSolved (net : Network) (o : SolveOptions) (s : SolvedView) : Type 0 where
   pub feasible : IsFeasible net (routing_of s.proof.routing) (lower_of s.proof.routing).num (lower_of s.proof.routing).den
   pub bounds_all : BoundsAll net s.proof.dual

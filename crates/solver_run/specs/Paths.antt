@@ -6,7 +6,8 @@ use Rattle.flow_model.specs.Walk.{IsWalk, PositiveWalk}
 use Rattle.flow_model.specs.Least.{AreDifferent}
 use Rattle.flow_core.specs.Phase.{Routed}
 
--- the path goes from the commodity's from to its to, over different positive cells of the network, at least one and fewer than there are nodes
+-- the path goes from the commodity's from to its to, over different positive cells of the network, at least one and fewer than
+-- there are nodes
 pub record IsPathOf (net : Network) (k : ℕ) (path : List ℕ) : Type 0 where
   pub commodity : Commodity
   pub at : slice_get net.commodities k ≡ Some commodity

@@ -42,7 +42,8 @@ IsPartTurn net lengths most k (Some row) = IsRouted net lengths most k row
 abbrev pub routed : List (Option Row) → List Row
 routed turns = filter_map (λ turn. turn) turns
 
--- behind what was routed before: each commodity has its turn, in their order, under the lengths of the loads then; most is twice the least price at the phase's start
+-- behind what was routed before: each commodity has its turn, in their order, under the lengths of the loads then; most is twice
+-- the least price at the phase's start
 pub record IsPartPhase (net : Network) (gates : List Cell) (setting : Setting) (before : List Row) (turns : List (Option Row)) : Type 0 where
   pub least : ℕ
   pub at_start : IsLeastPrice net (gated_lengths net gates setting before) least
@@ -116,7 +117,8 @@ pub record IsPartProofAfter (net : Network) (gates : List Cell) (o : RunOptions)
   pub paths : IsTally (turns_after phases (length phases)) p.routing.paths
   pub bound : p.bound ≡ part_kept_after net bounds (length phases)
 
--- phases, at least one, with a bound after each, until the total and the kept bound lie within the gap or the budget is spent, and the proof that they make
+-- phases, at least one, with a bound after each, until the total and the kept bound lie within the gap or the budget is spent,
+-- and the proof that they make
 pub record IsPartPhasedRun (net : Network) (o : RunOptions) (p : PartProof) : Type 0 where
   pub gates : List Cell
   pub are_gates : AreGates net gates

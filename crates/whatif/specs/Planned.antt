@@ -56,7 +56,8 @@ routing_under net proof =
     if proof.routing.phases == 0 then []
     else scaled (fill net.cells (loads_of net proof.routing.paths)).num proof.routing.paths
 
--- on the network with these capacities the lower fraction is that of a feasible routing, and the upper bounds that of every feasible routing
+-- on the network with these capacities the lower fraction is that of a feasible routing, and the upper bounds that of every
+-- feasible routing
 pub record AreBounds (net : Network) (proof : Proof) (e : Evaluation) : Type 0 where
   pub feasible : IsFeasible net (routing_under net proof) e.lower.num e.lower.den
   pub positive : 1 ≤ e.upper.den

@@ -1,0 +1,8 @@
+//! Who works: a handle that starts threads, and how many there may be.
+
+/// A handle, and in how many threads work is done at most, the caller's among them: in 1 (and 0 stands for 1) it starts none.
+#[derive(Drop)]
+pub struct Team<'a, R> {
+    pub rt: &'a R,
+    pub threads: u16,
+}
