@@ -1,10 +1,10 @@
 //! Arcs over positive cells, in one list by node.
 
-ghost use Rattle.std.specs.Prelude.{◌≡◌, ◌↔◌, ℕ, All, Contains, ◌++◌, ◌<◌, ◌≤◌, length, slice_range, OnOk, IfOk, IsTrue};
+ghost use Rattle.std.specs.Prelude.{◌≡◌, ◌⊎◌, ◌↔◌, ℕ, All, Contains, ◌++◌, ◌<◌, ◌≤◌, length, map, slice_range, OnOk, IfOk, IsTrue};
 ghost use Rattle.std.specs.Option.{option_to_list};
 ghost use Rattle.flow_model.specs.Network.{IsNetwork};
-ghost use Rattle.flow_model.specs.Walk.{Goes, PassesOver};
-ghost use Rattle.dijkstra_paths.specs.Arcs.{arcs_over, arcs_from};
+ghost use Rattle.flow_model.specs.Walk.{PassesOver};
+ghost use Rattle.dijkstra_paths.specs.Arcs.{arcs_over, arcs_from, ends_of};
 ghost use Rattle.dijkstra_paths.specs.Tree.{GoBothWays};
 
 use flow_model::{Cell, Net};
@@ -20,6 +20,13 @@ pub struct Arc {
     pub to: u16,
 }
 
+/// The nodes that a cell joins. One without capacity joins its tail to itself, which is no way to another node.
+#[derive(Clone, Copy)]
+pub struct Ends {
+    pub tail: u16,
+    pub head: u16,
+}
+
 /// The arcs of a network. It is seen as that network.
 #[derive(Drop)]
 pub struct Graph {
@@ -27,6 +34,7 @@ pub struct Graph {
     nodes: u16,
     goes_back: bool,
     cells: Vec<Cell>,
+    ends: Vec<Ends>,
     first: Vec<u32>,
     arcs: Vec<Arc>,
 }
@@ -37,14 +45,16 @@ impl Model for Graph {
 
     ghost Value = { Network };
 
-    ghost use Rattle.dijkstra_paths.specs.Arcs.{AreArcs};
+    ghost use Rattle.std.specs.Prelude.{map};
+    ghost use Rattle.dijkstra_paths.specs.Arcs.{AreArcs, ends_of};
     ghost use Rattle.dijkstra_paths.specs.Tree.{GoBothWays};
 
     ghost view = { λ g. g.net.value };
 
     ghost invariant = { λ g. IsNetwork g.net.value × (g.nodes ≡ g.net.value.nodes) ×
         AreArcs g.net.value.cells g.net.value.nodes g.first.items g.arcs.items ×
-        (g.cells.items ≡ g.net.value.cells) × (IsTrue g.goes_back ↔ GoBothWays g.net.value.cells) };
+        (g.cells.items ≡ g.net.value.cells) × (g.ends.items ≡ map ends_of g.net.value.cells) ×
+        (IsTrue g.goes_back ↔ GoBothWays g.net.value.cells) };
 }
 
 /// The arc over this cell from the node, if one may go over it from there.
@@ -75,15 +85,38 @@ fn go_both_ways(cells: &[Cell]) -> bool
     cells.iter().all(|cell| cell.both)
 }
 
-/// Whether one may go over this cell from one node to the other.
+/// The ends of a cell.
+fn ends_of(cell: &Cell) -> Ends
+    ensures { result ≡ ends_of cell.now }
+{
+    let head = if cell.cap == 0 { cell.tail } else { cell.head };
+    Ends {
+        tail: cell.tail,
+        head,
+    }
+}
+
+/// Whether a cell with these ends, and perhaps open both ways, leads from one node to the other.
 #[inline(always)]
-fn goes(cell: &Cell, from: u16, to: u16) -> bool
-    ensures { IsTrue result → (1 ≤ cell.now.cap) × Goes cell.now from to }
+fn leads(ends: Ends, both: bool, from: u16, to: u16) -> bool
+    ensures { IsTrue result → ((from ≡ ends.tail) × (to ≡ ends.head))
+        ⊎ (IsTrue both × (from ≡ ends.head) × (to ≡ ends.tail)) }
 {
     // no branch on the way that is taken over a cell of both ways
-    let there = (cell.tail == from) & (cell.head == to);
-    let back = cell.both & (cell.head == from) & (cell.tail == to);
-    cell.cap > 0 && (there | back)
+    let there = (ends.tail == from) & (ends.head == to);
+    let back = both & (ends.head == from) & (ends.tail == to);
+    there | back
+}
+
+/// The ends of each cell.
+fn all_ends(alloc: Global, cells: &[Cell]) -> Result<Vec<Ends>, AllocError>
+    ensures { IfOk result (λ ends. ends.items ≡ map ends_of cells.now) }
+{
+    let mut ends = Vec::with_capacity(alloc, cells.len())?;
+    for cell in cells {
+        ends.push(ends_of(cell))?;
+    }
+    Ok(ends)
 }
 
 /// Appends the arcs from a node, in the order of cells.
@@ -126,6 +159,7 @@ impl Graph {
             nodes: net.nodes(),
             goes_back: go_both_ways(cells),
             cells: Vec::from_slice(alloc, cells)?,
+            ends: all_ends(alloc, cells)?,
             first,
             arcs,
         })
@@ -155,15 +189,28 @@ impl Graph {
         &self.cells
     }
 
-    /// Whether this is a positive cell over which one may go from one node to the other.
+    /// The ends of the cells.
+    #[inline(always)]
+    pub(crate) fn ends(&self) -> &[Ends]
+        ensures value { result.now ≡ map ends_of self.now.cells }
+        ensures net { IsNetwork self.now }
+    {
+        &self.ends
+    }
+
+    /// Whether this is a positive cell over which one may go from one node to another.
     #[inline(always)]
     pub(crate) fn passes(&self, cell: u16, from: u16, to: u16) -> bool
         ensures way { IsTrue result → PassesOver self.now.cells cell from to }
         ensures net { IsNetwork self.now }
     {
-        let cells = self.cells();
         let at = cell as usize;
-        at < cells.len() && goes(&cells[at], from, to)
+        if at >= self.ends.len() {
+            return false;
+        }
+        let ends = self.ends[at];
+        from != to
+            && (leads(ends, self.goes_back, from, to) || leads(ends, self.cells[at].both, from, to))
     }
 
     /// The node's part of the list.

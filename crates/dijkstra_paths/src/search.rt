@@ -1,12 +1,15 @@
 //! The search: nodes are opened as they come nearer, and each goes on to the nodes after it.
 
-ghost use Rattle.std.specs.Prelude.{◌≡◌, ◌⊎◌, ℕ, ◌+◌, ◌*◌, ◌^◌, ◌<◌, ◌≤◌, if◌then◌else◌, length, slice_index};
+ghost use Rattle.std.specs.Prelude.{◌≡◌, ◌⊎◌, ℕ, ◌+◌, ◌*◌, ◌^◌, ◌<◌, ◌≤◌, if◌then◌else◌, length, slice_index, IsFalse};
 ghost use Rattle.std.specs.List.{sum_by};
+ghost use Rattle.flow_model.specs.declared.net.Cell.{Cell};
 ghost use Rattle.flow_model.specs.Walk.{Goes, PassesOver};
 ghost use Rattle.flow_model.specs.Lengths.{AreLengths};
+ghost use Rattle.dijkstra_paths.specs.Arcs.{ends_of};
 ghost use Rattle.dijkstra_paths.specs.Heap.{AreInverse};
 ghost use Rattle.dijkstra_paths.specs.Tree.{AreFront, AreOpen, AreSameSlices, GoBothWays, IsFront, IsTree, IsDone, IsUnderWay, IsWay};
 
+use crate::graph::Ends;
 use crate::queue::{pop, put};
 use crate::{Arc, Graph};
 use flow_model::Cell;
@@ -301,9 +304,21 @@ fn is_sparse(graph: &Graph) -> bool {
     graph.cells().len() <= FEW_CELLS * graph.nodes() as usize
 }
 
-/// Opens the node from which the way over the cell is shorter than what is known, if it is a positive cell with such a
-/// way, and gives the number of open nodes.
+/// Whether the distances of both ends lie further apart than the length of their cell, so that a way over it may be shorter than what is
+/// known.
 #[inline(always)]
+fn are_apart(ends: Ends, long: u64, dist: &[u64]) -> bool
+    requires { (ends.tail < length dist.now) × (ends.head < length dist.now) }
+    ensures { (cell : Cell) (u x : ℕ) → IsFalse result → ends ≡ ends_of cell → 1 ≤ cell.cap → Goes cell u x
+        → slice_index dist.now x ≤ slice_index dist.now u + long }
+{
+    // one comparison for both ways, since mostly neither end is nearer over the cell
+    dist[ends.tail as usize].abs_diff(dist[ends.head as usize]) > long
+}
+
+/// Opens the node from which the way over the cell is shorter than what is known, if it is a positive cell with such a
+/// way, and gives the number of open nodes. It is a function of its own, since it is called for few cells.
+#[inline(never)]
 fn open_over(
     cell: &Cell,
     long: u64,
@@ -325,12 +340,11 @@ fn open_over(
     ensures way { (u x : ℕ) → 1 ≤ cell.now.cap → Goes cell.now u x
         → (slice_index dist.now x ≤ slice_index dist.now u + long) ⊎ (slice_index place.new u < result) }
 {
-    let tail = dist[cell.tail as usize];
-    let head = dist[cell.head as usize];
-    // one comparison for both ways, since mostly neither end is nearer over the cell
-    if tail.abs_diff(head) <= long || cell.cap == 0 {
+    if cell.cap == 0 {
         return count;
     }
+    let tail = dist[cell.tail as usize];
+    let head = dist[cell.head as usize];
     if tail + long < head {
         return put(order, place, keys, count, cell.tail, tail);
     }
@@ -360,9 +374,14 @@ fn open_nodes(
     ensures done { (u : ℕ) → result ≤ slice_index place.new u → IsDone graph.now.cells lengths.now dist.now u }
     ensures keys { length keys.new ≡ length dist.now }
 {
+    let cells = graph.cells();
+    let ends = graph.ends();
     let mut count = 0;
-    for (number, cell) in graph.cells().iter().enumerate() {
-        count = open_over(cell, lengths[number], dist, order, place, keys, count);
+    for number in 0..ends.len() {
+        let long = lengths[number];
+        if are_apart(ends[number], long, dist) {
+            count = open_over(&cells[number], long, dist, order, place, keys, count);
+        }
     }
     count
 }

@@ -41,5 +41,6 @@ invariant_of-result c =
       search rules,
       search rules,
       search rules,
+      search rules,
       subst (λ (cs : List Cell). IsTrue c.go_both_ways.result ↔ GoBothWays cs) cells c.go_both_ways.ensures,
     )

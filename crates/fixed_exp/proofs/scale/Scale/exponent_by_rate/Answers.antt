@@ -6,6 +6,14 @@ use Rattle.flow_model.specs.Lengths.{exponent}
 use Rattle.fixed_exp.proofs.Guess.{rate_read, rate_low, rate_high, exponent_is, told_by_rest, byte_small}
 use Rattle.fixed_exp.proofs.scale.Scale.exponent_by_rate.Goals as goal
 
+pub overflow_mul-rest-2 : goal.overflow_mul-rest-2
+overflow_mul-rest-2 c =
+    let some : 1 ≤ c.args.rate.now.below = omega (arith, c.if-rate-eq0.false) in
+    let r = rate_read c.args.self.now.setting c.args.cell.now c.args.rate.now c.args.self.now.over c.from.result c.from-2.result c.from-3.result c.requires.rate some c.args.self.now.over_is c.from.ensures c.from-2.ensures c.from-3.ensures in
+    let low = rate_low c.from-load.result c.args.self.now.over c.from-3.result c.from.result c.from-2.result _ r refl in
+    let most : c.from-load.result * c.args.self.now.over ≤ c.from-load.result * 2 ^ 64 = mul-le-mul_left c.from-load.result c.args.self.now.small in
+    omega (arith, low, most, c.from-load.ensures, c.requires.load)
+
 pub overflow_sub-rest : goal.overflow_sub-rest
 overflow_sub-rest c =
     let some : 1 ≤ c.args.rate.now.below = omega (arith, c.if-rate-eq0.false) in
