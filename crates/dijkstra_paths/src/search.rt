@@ -169,8 +169,10 @@ fn keep_step(
     }
 }
 
-/// Gives nodes the distances along an earlier tree, in its order: mostly nodes before those that were reached from them.
-#[inline(always)]
+/// Gives nodes the distances along an earlier tree, in its order: mostly nodes before those that were reached from them. It is a
+/// function of its own, as `look_along` and `open_nodes` are, so that its pointers stay in registers: within the whole search they are
+/// on the stack.
+#[inline(never)]
 fn keep_steps(
     graph: &Graph,
     lengths: &[u64],
@@ -275,8 +277,7 @@ fn come_near(
 }
 
 /// As `keep_steps`, but each node gets the shortest way over the cells at it, of which the earlier step is mostly one. Mostly these
-/// are the least distances, so few nodes are opened then. Each cell has to go both ways. It is a function of its own, as
-/// `open_nodes` is, so that its pointers stay in registers: within the whole search they are on the stack.
+/// are the least distances, so few nodes are opened then. Each cell has to go both ways.
 #[inline(never)]
 fn look_along(
     graph: &Graph,
@@ -308,12 +309,14 @@ fn is_sparse(graph: &Graph) -> bool {
 /// known.
 #[inline(always)]
 fn are_apart(ends: Ends, long: u64, dist: &[u64]) -> bool
-    requires { (ends.tail < length dist.now) × (ends.head < length dist.now) }
-    ensures { (cell : Cell) (u x : ℕ) → IsFalse result → ends ≡ ends_of cell → 1 ≤ cell.cap → Goes cell u x
+    requires ends { (ends.tail < length dist.now) × (ends.head < length dist.now) }
+    requires bound { (v : ℕ) → v < length dist.now → slice_index dist.now v ≤ MAX_LENGTH }
+    ensures { (cell : Cell) (u x : ℕ) → IsFalse result → ends ≡ ends_of cell → long ≤ 2 ^ 52 → 1 ≤ cell.cap → Goes cell u x
         → slice_index dist.now x ≤ slice_index dist.now u + long }
 {
-    // one comparison for both ways, since mostly neither end is nearer over the cell
-    dist[ends.tail as usize].abs_diff(dist[ends.head as usize]) > long
+    // one comparison for both ways, since mostly neither end is nearer over the cell: what is below 0 wraps to a great number
+    let ahead = dist[ends.tail as usize].wrapping_add(long);
+    ahead.wrapping_sub(dist[ends.head as usize]) > long.wrapping_add(long)
 }
 
 /// Opens the node from which the way over the cell is shorter than what is known, if it is a positive cell with such a
@@ -470,6 +473,7 @@ pub fn search(graph: &Graph, lengths: &[u64], from: u16, front: &mut Front)
 
 /// The same from an earlier tree on, which changes no distance: it makes the search quick where it is one from that node,
 /// and few nodes have moved since.
+#[inline(never)]
 pub fn search_on(graph: &Graph, lengths: &[u64], from: u16, earlier: &[Kept], front: &mut Front)
     requires lengths { AreLengths graph.now.cells lengths.now }
     requires front { IsFront graph.now.nodes front.old }

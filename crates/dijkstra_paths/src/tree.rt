@@ -113,7 +113,8 @@ fn mark(placed: &mut [bool], node: u16) {
 }
 
 /// Puts the steps of a search to the front, in the tree's order, each whose node before has its place already, and gives
-/// the number of the others, which wait in the room.
+/// the number of the others, which wait in the room. It is a function of its own, so that its pointers stay in registers.
+#[inline(never)]
 fn put_placed(kept: &mut [Kept], steps: &[Step], source: u16, room: &mut Room) -> usize {
     let placed = room.placed.as_mut_slice();
     let late = room.late.as_mut_slice();

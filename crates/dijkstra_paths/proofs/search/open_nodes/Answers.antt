@@ -9,8 +9,8 @@ use Rattle.dijkstra_paths.proofs.Opened.{IsTaken, ends-at, ends-inside, pass-fro
 use Rattle.dijkstra_paths.proofs.search.open_nodes.Goals as goal
 use Rattle.dijkstra_paths.proofs.search.open_nodes.Goals.{then-are_apart, else-are_apart}
 
-pub are_apart-requires : goal.are_apart-requires
-are_apart-requires c =
+pub are_apart-requires-clause-ends : goal.are_apart-requires-clause-ends
+are_apart-requires-clause-ends c =
     let cells = c.args.graph.now.cells in
     let is = c.ends-ends.ensures.value in
     let within : c.loop-number.number < length cells = omega (arith, ap length is, length-map cells ends_of, c.loop-number-test.true) in
@@ -51,7 +51,8 @@ loop-number-preserved c =
             state = c.loop-number.invariant.state;
             keys = c.loop-number.invariant.keys;
             taken = taken-more cells lengths dist place place count count n c.loop-number.invariant.taken (λ v l o. o)
-            (λ u x cap goes. inl (c.are_apart.ensures (get_or cells n no_cell) u x w.if-are_apart.false ends cap goes));
+            (λ u x cap goes. inl (c.are_apart.ensures (get_or cells n no_cell) u x w.if-are_apart.false ends
+            (c.requires.lengths.high n (get_or cells n no_cell) (slice_get-get_or cells n no_cell within) cap) cap goes));
           })
     ]
 
