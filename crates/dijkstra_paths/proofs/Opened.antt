@@ -157,7 +157,7 @@ taken-more cells lengths dist place place' count count' n before stays now c u x
       subst (λ (k : ℕ). IsTaken dist place' count' u x (get_or lengths k 0)) (sym e)
       (now u x (subst (λ (k : Cell). 1 ≤ k.cap) (sym is) p.2) (subst (λ (k : Cell). Goes k u x) (sym is) p.3))
   | inr ne ↦ elim (before c u x (omega arith) inside p) [
-      | inl near ↦ inl near
-      | inr opened ↦ inr (stays u inside opened)
-    ]
+    | inl near ↦ inl near
+    | inr opened ↦ inr (stays u inside opened)
+  ]
 ]

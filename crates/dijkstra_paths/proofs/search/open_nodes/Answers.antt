@@ -44,15 +44,15 @@ loop-number-preserved c =
             state = o.ensures.state;
             keys = o.ensures.keys;
             taken = taken-more cells lengths dist place _ count _ n c.loop-number.invariant.taken o.ensures.stays
-            (subst (λ (cs : List Cell). (u x : ℕ) → 1 ≤ (get_or cs n no_cell).cap → Goes (get_or cs n no_cell) u x → IsTaken dist o.new.place o.result u x (get_or lengths n 0)) c.cells-cells.ensures.value o.ensures.way);
+                (subst (λ (cs : List Cell). (u x : ℕ) → 1 ≤ (get_or cs n no_cell).cap → Goes (get_or cs n no_cell) u x → IsTaken dist o.new.place o.result u x (get_or lengths n 0)) c.cells-cells.ensures.value o.ensures.way);
           })
       | else-are_apart w ↦
           rw (w.order-is, w.place-is, w.keys-is, w.count-is) (record {
             state = c.loop-number.invariant.state;
             keys = c.loop-number.invariant.keys;
             taken = taken-more cells lengths dist place place count count n c.loop-number.invariant.taken (λ v l o. o)
-            (λ u x cap goes. inl (c.are_apart.ensures (get_or cells n no_cell) u x w.if-are_apart.false ends
-            (c.requires.lengths.high n (get_or cells n no_cell) (slice_get-get_or cells n no_cell within) cap) cap goes));
+                (λ u x cap goes. inl (c.are_apart.ensures (get_or cells n no_cell) u x w.if-are_apart.false ends
+                (c.requires.lengths.high n (get_or cells n no_cell) (slice_get-get_or cells n no_cell within) cap) cap goes));
           })
     ]
 
