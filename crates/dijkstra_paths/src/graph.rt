@@ -10,6 +10,7 @@ ghost use Rattle.dijkstra_paths.specs.Tree.{GoBothWays};
 use flow_model::{Cell, Net};
 use mcf_limits::MAX_CELLS;
 use std::alloc::{AllocError, Global};
+use std::hint::select_unpredictable;
 use std::marker::Model;
 use std::snapshot::Snapshot;
 
@@ -102,10 +103,11 @@ fn leads(ends: Ends, both: bool, from: u16, to: u16) -> bool
     ensures { IsTrue result → ((from ≡ ends.tail) × (to ≡ ends.head))
         ⊎ (IsTrue both × (from ≡ ends.head) × (to ≡ ends.tail)) }
 {
-    // no branch on the way that is taken over a cell of both ways
-    let there = (ends.tail == from) & (ends.head == to);
-    let back = both & (ends.head == from) & (ends.tail == to);
-    there | back
+    // no branch on the way that is taken over a cell of both ways, which follows no pattern
+    let ahead = ends.tail == from;
+    let first = select_unpredictable(ahead, ends.tail, ends.head);
+    let last = select_unpredictable(ahead, ends.head, ends.tail);
+    first == from && last == to && (both || ahead)
 }
 
 /// The ends of each cell.
