@@ -12,8 +12,9 @@ use Rattle.flow_paths.specs.PathRows.{row_at, no_row, grown, IsFirstRow, Adds}
 use Rattle.solver_run.specs.declared.options.Entry.{Entry}
 use Rattle.solver_run.specs.History.{times_named, IsWeighed, NamesRows}
 use Rattle.flow_solver.specs.Adding.{KeepsRows, AreBegun}
+use Rattle.flow_solver.specs.Rows.{AreRowsFor}
 use Rattle.flow_solver.proofs.Adds.{pushed_at, added, apart_added}
-use Rattle.flow_solver.proofs.Times.{times_of_row, times_of_other, unnamed}
+use Rattle.flow_solver.proofs.Times.{times_of_none, times_of_row, times_of_other, unnamed}
 
 -- a row of the same commodity and weight, named as often
 weighed_alike : (net : Network) (h g : List (List Entry)) (n m : ℕ) (old new : Row) → new.commodity ≡ old.commodity → new.weight ≡ old.weight → times_named g m ≡ times_named h n → IsWeighed net h n old → IsWeighed net g m new
@@ -106,3 +107,13 @@ one_more net h es old new path c n w b at adds =
       weighed = weighed_added net h es old new path c (length es) n w at adds (unnamed net h es old (length old) b (omega arith)) b.weighed;
       few = let f = b.few in let m = a.most in omega (arith, f, m, length-append es (e ∷ []));
     }
+
+-- before the first entry
+pub begins : (net : Network) (h : List (List Entry)) (es : List Entry) (rows : List Row) → es ≡ [] → AreRowsFor net h rows → AreBegun net h es rows
+begins net h es rows none are = rw none (record {
+  apart = are.apart;
+  before = are.entries;
+  begun = λ k e at. absurd (let within = slice_get_within [] k e at in omega (arith, within));
+  weighed = λ n row at. weighed_alike net h (h ++ [] ∷ []) n n row row refl refl (times_of_none h n) (are.weighed n row at);
+  few = omega (arith, are.few);
+})

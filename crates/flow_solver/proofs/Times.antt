@@ -19,6 +19,10 @@ use Rattle.flow_solver.specs.Adding.{AreBegun}
 abbrev pub names_of : ℕ → List Entry → ℕ
 names_of n entries = count_by (λ (e : Entry). e.row == n) entries
 
+-- no entries name no row
+pub times_of_none : (h : List (List Entry)) (n : ℕ) → times_named (h ++ [] ∷ []) n ≡ times_named h n
+times_of_none h n = let a = sum_by_push (names_of n) h [] in omega (arith, a)
+
 pub times_pushed : (h : List (List Entry)) (es : List Entry) (e : Entry) (n : ℕ) → times_named (h ++ (es ++ e ∷ []) ∷ []) n ≡ times_named (h ++ es ∷ []) n + cond (eqb e.row n) 1 0
 times_pushed h es e n =
     let a = sum_by_push (names_of n) h (es ++ e ∷ []) in

@@ -3,7 +3,7 @@
 ghost use Rattle.std.specs.Prelude.{◌≡◌};
 
 use crate::entries::Entries;
-use crate::noted::{Sought, make_room};
+use crate::noted::{NotedRows, Sought, noted_row};
 use crate::places::Place;
 use flow_model::Net;
 use flow_paths::{PathStore, new_numbers, order_of, stored};
@@ -66,10 +66,12 @@ impl PathHistory {
     }
 
     /// Adds a path to the rows, no two of which are alike: its row grows, or, where there is none, one is appended. It is looked for first
-    /// where the commodity was found before.
-    fn add_path(
+    /// among the rows that are noted. It is a function of its own, since few commodities come here: so the loop over all has registers
+    /// for what it needs.
+    #[inline(never)]
+    fn add_other(
         &mut self,
-        one: &mut Sought,
+        noted: &mut NotedRows,
         k: u32,
         path: &[u16],
         amount: u64,
@@ -84,13 +86,41 @@ impl PathHistory {
         ensures ok { IfOk result (Adds self.old.rows self.new.rows k path.now amount) }
         ensures err { OnErr result (self.new.rows ≡ self.old.rows) }
     {
-        if let Some(row) = one.known(&self.paths, k, path) {
-            one.keep(row);
+        if let Some(row) = noted_row(&self.paths, noted.row_of(path), k, path) {
             self.paths.grow(row, amount);
             return Ok(row);
         }
         let row = self.paths.add(k, path, amount)?;
-        one.note(path, row);
+        noted.note(path, row);
+        Ok(row)
+    }
+
+    /// As `add_other`, and the row is looked for first where the commodity was found last, which mostly is the one.
+    #[inline(always)]
+    fn add_path(
+        &mut self,
+        last: &mut u32,
+        noted: &mut NotedRows,
+        k: u32,
+        path: &[u16],
+        amount: u64,
+    ) -> Result<u32, AllocError>
+        requires apart { AreApart self.old.rows }
+        requires room { length self.old.rows < 4294967295 }
+        requires amount { amount ≤ MAX_LENGTH }
+        requires weight { (n : ℕ) → IsFirstRow self.old.rows k path.now n
+            → (row_at self.old.rows n).weight + amount ≤ MAX_LENGTH }
+        ensures commodities { self.new.commodities ≡ self.old.commodities }
+        ensures history { self.new.history ≡ self.old.history }
+        ensures ok { IfOk result (Adds self.old.rows self.new.rows k path.now amount) }
+        ensures err { OnErr result (self.new.rows ≡ self.old.rows) }
+    {
+        if let Some(row) = noted_row(&self.paths, *last, k, path) {
+            self.paths.grow(row, amount);
+            return Ok(row);
+        }
+        let row = self.add_other(noted, k, path, amount)?;
+        *last = row;
         Ok(row)
     }
 
@@ -100,13 +130,15 @@ impl PathHistory {
         alloc: Global,
         net: &Net,
         places: &[Place],
-        sought: &mut [Sought],
+        last: &mut [u32],
+        noted: &mut [NotedRows],
     ) -> Result<Vec<Entry>, AllocError>
         requires rows { AreRowsFor net.now self.old.history self.old.rows }
         requires phases { length self.old.history < MAX_PHASES }
         requires work { length net.now.commodities * (length self.old.history + 1) ≤ MAX_WORK }
         requires count { length places.now ≡ length net.now.commodities }
-        requires sought { length sought.old ≡ length net.now.commodities }
+        requires last { length last.old ≡ length net.now.commodities }
+        requires noted { length noted.old ≡ length net.now.commodities }
         ensures commodities { self.new.commodities ≡ self.old.commodities }
         ensures history { self.new.history ≡ self.old.history }
         ensures keeps { KeepsRows self.old.rows self.new.rows }
@@ -118,7 +150,8 @@ impl PathHistory {
         let mut entries = Vec::with_capacity(alloc, commodities.len())?;
         for k in 0..commodities.len() {
             let row = self.add_path(
-                &mut sought[k],
+                &mut last[k],
+                &mut noted[k],
                 k as u32,
                 places[k].path,
                 commodities[k].amount,
@@ -139,15 +172,16 @@ impl PathHistory {
         alloc: Global,
         net: &Net,
         places: &[Place],
-        sought: &mut Vec<Sought>,
+        sought: &mut Sought,
     ) -> Result<(), AllocError>
         requires { CanBeNoted net.now self.old places.now }
         ensures commodities { self.new.commodities ≡ self.old.commodities }
         ensures noted { OnOk result (IsNoted net.now places.now self.old self.new) }
         ensures err { OnErr result (phases_kept self.new ≡ phases_kept self.old) }
     {
-        make_room(alloc, sought, places.len())?;
-        let entries = self.name_rows(alloc, net, places, sought)?;
+        sought.make_room(alloc, places.len())?;
+        let Sought { last, noted } = sought;
+        let entries = self.name_rows(alloc, net, places, last, noted)?;
         self.entries.push(&entries)?;
         Ok(())
     }

@@ -31,9 +31,9 @@ impl NotedRows {
         }
     }
 
-    /// The last row with this mark.
-    #[inline(always)]
-    fn row_of(&self, mark: u32) -> u32 {
+    /// The last row with the mark of this path.
+    pub(crate) fn row_of(&self, path: &[u16]) -> u32 {
+        let mark = mark_of(path);
         let mut found = NO_ROW;
         for place in 0..NOTED_ROWS {
             // no branch: which of them it is follows no pattern
@@ -46,10 +46,10 @@ impl NotedRows {
         found
     }
 
-    /// Notes a row, in the place of that which was noted first.
-    fn note(&mut self, mark: u32, row: u32) {
+    /// Notes a row of this path, in the place of that which was noted first.
+    pub(crate) fn note(&mut self, path: &[u16], row: u32) {
         let place = self.next as usize % NOTED_ROWS;
-        self.marks[place] = mark;
+        self.marks[place] = mark_of(path);
         self.rows[place] = row;
         self.next = (place as u8 + 1) % NOTED_ROWS as u8;
     }
@@ -77,63 +77,41 @@ fn mark_of(path: &[u16]) -> u32 {
     })
 }
 
-/// The row at which a commodity was found last, and those at which it was found of late.
-#[derive(Clone, Copy)]
+/// What was found of each commodity: its last row, and the rows of late, which are looked for among the others where the last one is of
+/// another path. The last rows stand alone, since most commodities need no more, and lie close together so.
+#[derive(Drop)]
 pub struct Sought {
-    last: u32,
-    noted: NotedRows,
+    pub last: Vec<u32>,
+    pub noted: Vec<NotedRows>,
 }
 
 impl Sought {
-    /// Nothing was found.
-    pub fn new() -> Self {
+    ghost use Rattle.std.specs.Prelude.{◌≡◌, OnOk, length};
+
+    /// Nothing was found, of no commodity.
+    pub fn new(alloc: Global) -> Self {
         Sought {
-            last: NO_ROW,
-            noted: NotedRows::new(),
+            last: Vec::new(alloc),
+            noted: Vec::new(alloc),
         }
     }
 
-    /// A row of this commodity and path, among those where the commodity was found: mostly it is the last one, and else mostly one that
-    /// was noted. `None` says nothing of other rows.
-    pub(crate) fn known(&self, paths: &PathStore, k: u32, path: &[u16]) -> Option<u32>
-        ensures { MatchOption result ⊤ (IsRowOf paths.now k path.now) }
+    /// Makes room for what is known of so many commodities, where there is another number.
+    pub(crate) fn make_room(&mut self, alloc: Global, count: usize) -> Result<(), AllocError>
+        ensures last { OnOk result (length self.new.last.items ≡ count) }
+        ensures noted { OnOk result (length self.new.noted.items ≡ count) }
     {
-        let last = noted_row(paths, self.last, k, path);
-        if last.is_some() {
-            return last;
+        if self.last.len() != count || self.noted.len() != count {
+            self.last = vec![in alloc; NO_ROW; count]?;
+            self.noted = vec![in alloc; NotedRows::new(); count]?;
         }
-        noted_row(paths, self.noted.row_of(mark_of(path)), k, path)
+        Ok(())
     }
-
-    /// The commodity was found at this row, which was known.
-    pub(crate) fn keep(&mut self, row: u32) {
-        self.last = row;
-    }
-
-    /// The commodity was found at this row of its path, which was not known.
-    pub(crate) fn note(&mut self, path: &[u16], row: u32) {
-        self.last = row;
-        self.noted.note(mark_of(path), row);
-    }
-}
-
-/// Makes room for what is known of so many commodities, where there is another number.
-pub(crate) fn make_room(
-    alloc: Global,
-    sought: &mut Vec<Sought>,
-    count: usize,
-) -> Result<(), AllocError>
-    ensures { OnOk result (length sought.new.items ≡ count) }
-{
-    if sought.len() != count {
-        *sought = vec![in alloc; Sought::new(); count]?;
-    }
-    Ok(())
 }
 
 /// The row of that number, if it is there and is of this commodity and path.
 #[inline(always)]
-fn noted_row(paths: &PathStore, row: u32, k: u32, path: &[u16]) -> Option<u32>
+pub(crate) fn noted_row(paths: &PathStore, row: u32, k: u32, path: &[u16]) -> Option<u32>
     ensures { MatchOption result ⊤ (IsRowOf paths.now k path.now) }
 {
     if row < paths.rows() && paths.has_path(row, k, path) {

@@ -43,7 +43,7 @@ pub struct Search {
     pub room: BoundRoom,
     pub hands: Vec<Hand>,
     pub history: PathHistory,
-    pub sought: Vec<Sought>,
+    pub sought: Sought,
 }
 
 /// So many zeros.
@@ -71,7 +71,7 @@ pub fn new_search(alloc: Global, net: &Net, workers: u16) -> Result<Search, Allo
         },
         hands: new_hands(alloc, net, workers)?,
         history: PathHistory::new(alloc, net),
-        sought: Vec::new(alloc),
+        sought: Sought::new(alloc),
     })
 }
 

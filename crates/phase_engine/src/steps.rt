@@ -47,7 +47,9 @@ pub(crate) fn route_member(
     }
 }
 
-/// Routes the members of the claimed group, one after the other.
+/// Routes the members of the claimed group, one after the other. It is a function of its own, so that what its loop needs stays in
+/// registers.
+#[inline(never)]
 pub(crate) fn route_group(
     net: &Net,
     loads: &Loads,

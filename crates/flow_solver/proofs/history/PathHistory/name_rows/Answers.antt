@@ -1,4 +1,4 @@
-use Rattle.std.proofs.Common.{◌≡◌, ◌+◌, ◌<◌, ◌≤◌, List, [], ◌∷◌, ◌++◌, length, get_or, ap, ◌∙◌, subst, length-append}
+use Rattle.std.proofs.Common.{rules, refl, ◌≡◌, ◌+◌, ◌<◌, ◌≤◌, List, [], ◌∷◌, ◌++◌, length, get_or, ap, ◌∙◌, subst, length-append}
 use Rattle.std.proofs.lemmas.List.Elements.{All-get_or}
 use Rattle.std.proofs.lemmas.Option.{slice_get-get_or}
 use Rattle.mcf_limits.specs.declared.TheConstants.{MAX_UNITS}
@@ -8,10 +8,21 @@ use Rattle.flow_paths.specs.PathRows.{Adds}
 use Rattle.solver_run.specs.declared.options.Entry.{Entry}
 use Rattle.flow_solver.specs.Adding.{no_place, path_at}
 use Rattle.flow_solver.proofs.Named.{can_add, adds_begun, adds_named, adds_keep}
+use Rattle.flow_solver.proofs.OneMore.{begins}
 use Rattle.flow_solver.proofs.history.PathHistory.name_rows.Goals as goal
 
 no_commodity : Commodity
 no_commodity = record { from = 0; to = 0; amount = 0 }
+
+pub loop-k-init : goal.loop-k-init
+loop-k-init c = record {
+  count = ap length c.in_ok-entries.ensures.items;
+  commodities = refl;
+  history = refl;
+  keeps = search rules;
+  begun = begins c.args.net.now c.args.self.now.history c.in_ok-entries.entries.items c.args.self.now.rows c.in_ok-entries.ensures.items c.requires.rows;
+  named = search rules;
+}
 
 pub add_path-requires-clause-weight : goal.add_path-requires-clause-weight
 unfolding no_commodity
