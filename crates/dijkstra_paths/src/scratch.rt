@@ -75,8 +75,15 @@ fn blank_trees(alloc: Global, nodes: u16) -> Result<Vec<Tree>, AllocError> {
     Ok(trees)
 }
 
-/// Finds the least distances from a node, from a tree on where this is one from there.
-fn search_by(graph: &Graph, lengths: &[u64], from: u16, tree: Option<&Tree>, front: &mut Front)
+/// Finds the least distances from a node, from a tree on where this is one from there: then it is `false` where the tree's order still
+/// has each node behind the one before it.
+fn search_by(
+    graph: &Graph,
+    lengths: &[u64],
+    from: u16,
+    tree: Option<&Tree>,
+    front: &mut Front,
+) -> bool
     requires lengths { AreLengths graph.now.cells lengths.now }
     requires front { IsFront graph.now.nodes front.old }
     requires from { from < graph.now.nodes }
@@ -91,7 +98,10 @@ fn search_by(graph: &Graph, lengths: &[u64], from: u16, tree: Option<&Tree>, fro
     };
     match earlier {
         Some(earlier) => search_on(graph, lengths, from, earlier, front),
-        None => search(graph, lengths, from, front),
+        None => {
+            search(graph, lengths, from, front);
+            true
+        }
     }
 }
 
@@ -112,8 +122,12 @@ fn search_along(
     ensures done { (u : ℕ) → u < length front.new.dist.items → slice_index front.new.dist.items u < MAX_LENGTH
         → IsDone graph.now.cells lengths.now front.new.dist.items u }
 {
-    search_by(graph, lengths, from, Some(&*tree), front);
-    tree.follow(from, front, room);
+    let moved = search_by(graph, lengths, from, Some(&*tree), front);
+    if moved {
+        tree.follow(from, front, room);
+    } else {
+        tree.renew(front);
+    }
 }
 
 /// The same, along the node's own tree where there is one, and else from nothing.

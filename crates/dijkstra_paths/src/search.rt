@@ -472,9 +472,15 @@ pub fn search(graph: &Graph, lengths: &[u64], from: u16, front: &mut Front)
 }
 
 /// The same from an earlier tree on, which changes no distance: it makes the search quick where it is one from that node,
-/// and few nodes have moved since.
+/// and few nodes have moved since. `false` where no node was opened, so that each was reached from one before it in the tree's order.
 #[inline(never)]
-pub fn search_on(graph: &Graph, lengths: &[u64], from: u16, earlier: &[Kept], front: &mut Front)
+pub fn search_on(
+    graph: &Graph,
+    lengths: &[u64],
+    from: u16,
+    earlier: &[Kept],
+    front: &mut Front,
+) -> bool
     requires lengths { AreLengths graph.now.cells lengths.now }
     requires front { IsFront graph.now.nodes front.old }
     requires from { from < graph.now.nodes }
@@ -504,4 +510,5 @@ pub fn search_on(graph: &Graph, lengths: &[u64], from: u16, earlier: &[Kept], fr
     let _ = order;
     let _ = place;
     let _ = keys;
+    count > 0
 }

@@ -40,6 +40,11 @@ impl Tree {
         Some(&self.kept)
     }
 
+    /// Takes over the steps that a search from the same node found along it, in its order.
+    pub fn renew(&mut self, front: &Front) {
+        renew_steps(&mut self.kept, front.steps.as_slice());
+    }
+
     /// Takes over what a search from that node found, if it is one over as many nodes.
     pub fn follow(&mut self, source: u16, front: &Front, room: &mut Room) {
         let steps = front.steps.as_slice();
@@ -94,6 +99,13 @@ fn step_to(steps: &[Step], node: u16) -> Kept {
         Step { cell: 0, from: 0 }
     };
     Kept { node, step }
+}
+
+/// Puts the step to each node in the place of its earlier one.
+fn renew_steps(kept: &mut [Kept], steps: &[Step]) {
+    for one in kept.iter_mut() {
+        *one = step_to(steps, one.node);
+    }
 }
 
 /// Whether the node has its place.
