@@ -105,7 +105,7 @@ impl RouteBuffer {
         ensures routes { self.new.routes ≡ self.old.routes ++ record
             { commodity = commodity; path = path.now } ∷ [] }
         ensures paths { self.new.paths ≡ self.old.paths - 1 }
-        ensures cells { self.old.cells - length path.now ≤ self.new.cells }
+        ensures cells { self.new.cells ≡ self.old.cells - length path.now }
     {
         let start = self.cells.len();
         loads.add_path(pass, commodity, path);
@@ -118,15 +118,14 @@ impl RouteBuffer {
     }
 }
 
-/// Appends the cells of a path, for which there is room.
+/// Appends the cells of a path, for which there is room. Most paths have so few cells that a call which copies them takes longer.
 fn append(path: &[u16], cells: &mut Vec<u16>)
     requires room { vec_len cells.old + length path.now ≤ vec_capacity cells.old }
     ensures items { cells.new.items ≡ cells.old.items ++ path.now }
-    ensures room { vec_capacity cells.old ≤ vec_capacity cells.new }
+    ensures room { vec_capacity cells.new ≡ vec_capacity cells.old }
     ensures count { vec_len cells.new ≡ vec_len cells.old + length path.now }
 {
-    match cells.extend_from_slice(path) {
-        Ok(()) => {}
-        Err(_) => unreachable!(),
+    for cell in path {
+        cells.push_reserved(*cell);
     }
 }
