@@ -311,8 +311,8 @@ fn is_sparse(graph: &Graph) -> bool {
 fn are_apart(ends: Ends, long: u64, dist: &[u64]) -> bool
     requires ends { (ends.tail < length dist.now) × (ends.head < length dist.now) }
     requires bound { (v : ℕ) → v < length dist.now → slice_index dist.now v ≤ MAX_LENGTH }
-    ensures { (cell : Cell) (u x : ℕ) → IsFalse result → ends ≡ ends_of cell → long ≤ 2 ^ 52 → 1 ≤ cell.cap → Goes cell u x
-        → slice_index dist.now x ≤ slice_index dist.now u + long }
+    ensures { (cell : Cell) (u x : ℕ) → IsFalse result → ends ≡ ends_of cell → long ≤ 2 ^ 52 → 1 ≤ cell.cap
+        → Goes cell u x → slice_index dist.now x ≤ slice_index dist.now u + long }
 {
     // one comparison for both ways, since mostly neither end is nearer over the cell: what is below 0 wraps to a great number
     let ahead = dist[ends.tail as usize].wrapping_add(long);

@@ -29,22 +29,8 @@ pub struct Bounded {
     pub value: Frac,
 }
 
-/// The dual of these lengths and filled rows, with its value: volume over weighted distance, not reduced. Lengths, and the
-/// numbers of the rows, are at most 2^62.
-fn finished(alloc: Global, net: &Net, lengths: &[u64], rows: &[Row]) -> Result<Bounded, AllocError>
-    requires rows { All (λ row. All (λ n. n ≤ MAX_LENGTH) row.values.items) rows.now }
-    requires divides { CanDivide net.now lengths.now (dual_of lengths.now rows.now) }
-    ensures dual { IfOk result (λ b. b.dual ≡ dual_of lengths.now rows.now) }
-    ensures value { IfOk result (λ b. b.value ≡ upper_of net.now b.dual) }
-{
-    let _cells = net.cells();
-    let value = upper(alloc, net, lengths, rows)?;
-    let dual = assembled(alloc, lengths, rows)?;
-    Ok(Bounded { dual, value })
-}
-
 /// The lesser of an earlier bound, if there is one, and that of these lengths and filled rows, whose dual is made only where it is the
-/// lesser.
+/// lesser. Its value is volume over weighted distance, not reduced.
 fn lesser(
     alloc: Global,
     net: &Net,
@@ -188,7 +174,7 @@ pub fn cut_bound(alloc: Global, net: &Net, graph: &Graph) -> Result<Bounded, All
 {
     let lengths = lengths_of_cut(alloc, net.cells())?;
     let rows = cut_rows(alloc, net, graph)?;
-    finished(alloc, net, &lengths, &rows)
+    lesser(alloc, net, &lengths, &rows, None)
 }
 
 /// 1 for a cell without capacity, 0 for every other.

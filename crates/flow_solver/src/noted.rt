@@ -1,6 +1,6 @@
 //! The rows that a commodity was found at of late: hints, of which no contract speaks.
 
-ghost use Rattle.std.specs.Prelude.{◌≡◌, ⊤, MatchOption, OnOk, length};
+ghost use Rattle.std.specs.Prelude.{⊤, MatchOption};
 ghost use Rattle.flow_solver.specs.Rows.{IsRowOf};
 
 use flow_paths::PathStore;

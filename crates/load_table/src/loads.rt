@@ -43,7 +43,8 @@ impl Model for Loads {
 
     ghost view = { λ l. record { table = l.table.shared.table_id; terms = l.table.shared.key } };
 
-    ghost invariant = { λ l. IsLoads l.table.shared.table_id l.table.shared.key l.amounts.items l.groups l.cells l.alone };
+    ghost invariant = { λ l.
+        IsLoads l.table.shared.table_id l.table.shared.key l.amounts.items l.groups l.cells l.alone };
 }
 
 /// What some workers have done. Contracts see the table, and what the pass knows: its workers with their entries and stops, and

@@ -1,4 +1,4 @@
-use Rattle.std.proofs.Common.{rules, ◌≡◌, ◌*◌, ◌/◌, ◌^◌, ◌<◌, ◌≤◌, ℕ, ◌+◌, ◌-◌, ◌%◌, arith, refl, sym, ◌∙◌}
+use Rattle.std.proofs.Common.{rules, ◌≡◌, ◌*◌, ◌/◌, ◌^◌, ℕ, ◌+◌, ◌-◌, ◌%◌, refl, ◌∙◌}
 use Rattle.fixed_exp.proofs.Guess.{rate_made}
 use Rattle.fixed_exp.proofs.scale.Scale.rate.Goals as goal
 
