@@ -9,7 +9,7 @@ use Rattle.flow_model.specs.declared.net.Cell.{Cell}
 use Rattle.flow_model.specs.Network.{Network, IsCell, IsNetwork}
 use Rattle.flow_model.specs.Lengths.{AreLengths}
 use Rattle.flow_model.specs.Walk.{Goes, PassesOver}
-use Rattle.dijkstra_paths.specs.declared.graph.Ends.{Ends}
+use Rattle.dijkstra_paths.specs.declared.graph.CellEnds.{CellEnds}
 use Rattle.dijkstra_paths.specs.Arcs.{ends_of}
 use Rattle.dijkstra_paths.specs.declared.search.Step.{Step}
 use Rattle.dijkstra_paths.specs.declared.search.Way.{Way}
@@ -75,47 +75,47 @@ nearer-way net lengths from node dist steps way n lens both nodes tree inside of
 
 -- the ends at a place are those of the cell there
 
-abbrev pub no_ends : Ends
+abbrev pub no_ends : CellEnds
 no_ends = record { tail = 0; head = 0 }
 
 abbrev pub no_cell : Cell
 no_cell = record { tail = 0; head = 0; both = false; cap = 0 }
 
-pub ends-at : (cells : List Cell) (ends : List Ends) (n : ℕ) → ends ≡ map ends_of cells → n < length cells → get_or ends n no_ends ≡ ends_of (get_or cells n no_cell)
-ends-at cells ends n is within = ap (λ (es : List Ends). get_or es n no_ends) is ∙ get_or-map ends_of cells n no_cell no_ends within
+pub ends-at : (cells : List Cell) (ends : List CellEnds) (n : ℕ) → ends ≡ map ends_of cells → n < length cells → get_or ends n no_ends ≡ ends_of (get_or cells n no_cell)
+ends-at cells ends n is within = ap (λ (es : List CellEnds). get_or es n no_ends) is ∙ get_or-map ends_of cells n no_cell no_ends within
 
 -- what was read at a place
-pub ends-read : (cells : List Cell) (ends : List Ends) (n : ℕ) (e : Ends) → ends ≡ map ends_of cells → n < length ends → e ≡ get_or ends n e → (n < length cells) × (e ≡ ends_of (get_or cells n no_cell))
+pub ends-read : (cells : List Cell) (ends : List CellEnds) (n : ℕ) (e : CellEnds) → ends ≡ map ends_of cells → n < length ends → e ≡ get_or ends n e → (n < length cells) × (e ≡ ends_of (get_or cells n no_cell))
 ends-read cells ends n e is inside read =
     let within : n < length cells = omega (arith, ap length is, length-map cells ends_of) in
-    (within, read ∙ (ap (λ (es : List Ends). get_or es n e) is ∙ get_or-map ends_of cells n no_cell e within))
+    (within, read ∙ (ap (λ (es : List CellEnds). get_or es n e) is ∙ get_or-map ends_of cells n no_cell e within))
 
 -- ends that differ are those of a positive cell
-pub ends-open : (cell : Cell) (ends : Ends) → ends ≡ ends_of cell → ends.tail ≢ ends.head → (1 ≤ cell.cap) × (ends.tail ≡ cell.tail) × (ends.head ≡ cell.head)
-ends-open cell ends is apart = by_test (cell.cap == 0) refl (ap (λ (e : Ends). e.head) is)
+pub ends-open : (cell : Cell) (ends : CellEnds) → ends ≡ ends_of cell → ends.tail ≢ ends.head → (1 ≤ cell.cap) × (ends.tail ≡ cell.tail) × (ends.head ≡ cell.head)
+ends-open cell ends is apart = by_test (cell.cap == 0) refl (ap (λ (e : CellEnds). e.head) is)
   where
     tail_is : ends.tail ≡ cell.tail
-    tail_is = ap (λ (e : Ends). e.tail) is
+    tail_is = ap (λ (e : CellEnds). e.tail) is
 
     by_test : (b : Bool) → (cell.cap == 0) ≡ b → ends.head ≡ (if b then cell.tail else cell.head) → (1 ≤ cell.cap) × (ends.tail ≡ cell.tail) × (ends.head ≡ cell.head)
     by_test true e h = absurd (apart (tail_is ∙ sym h))
     by_test false e h = (grind (arith, nat_tests), tail_is, h)
 
 -- the ends at a place are nodes
-pub ends-inside : (net : Network) (ends : List Ends) (n : ℕ) → IsNetwork net → ends ≡ map ends_of net.cells → n < length net.cells
+pub ends-inside : (net : Network) (ends : List CellEnds) (n : ℕ) → IsNetwork net → ends ≡ map ends_of net.cells → n < length net.cells
     → ((get_or ends n no_ends).tail < net.nodes) × ((get_or ends n no_ends).head < net.nodes)
 ends-inside net ends n fits is within =
     let cell : Cell = get_or net.cells n no_cell in
     let inside : IsCell net.nodes cell = fits.cells n no_cell within in
     let same = ends-at net.cells ends n is within in
-    (subst (λ (e : Ends). e.tail < net.nodes) (sym same) inside.tail, subst (λ (e : Ends). e.head < net.nodes) (sym same) (by_test cell inside (cell.cap == 0)))
+    (subst (λ (e : CellEnds). e.tail < net.nodes) (sym same) inside.tail, subst (λ (e : CellEnds). e.head < net.nodes) (sym same) (by_test cell inside (cell.cap == 0)))
   where
     by_test : (cell : Cell) → IsCell net.nodes cell → (b : Bool) → (if b then cell.tail else cell.head) < net.nodes
     by_test cell inside true = inside.tail
     by_test cell inside false = inside.head
 
 -- one passes over the cell between them
-pub ends-pass : (cells : List Cell) (c from to : ℕ) (ends : Ends) (both : Bool) → c < length cells → ends ≡ ends_of (get_or cells c no_cell) → from ≢ to → (IsTrue both → IsTrue (get_or cells c no_cell).both)
+pub ends-pass : (cells : List Cell) (c from to : ℕ) (ends : CellEnds) (both : Bool) → c < length cells → ends ≡ ends_of (get_or cells c no_cell) → from ≢ to → (IsTrue both → IsTrue (get_or cells c no_cell).both)
     → ((from ≡ ends.tail) × (to ≡ ends.head)) ⊎ (IsTrue both × (from ≡ ends.head) × (to ≡ ends.tail)) → PassesOver cells c from to
 ends-pass cells c from to ends both within is apart goes lead =
     let cell : Cell = get_or cells c no_cell in
@@ -125,14 +125,14 @@ ends-pass cells c from to ends both within is apart goes lead =
     ]
 
 -- so a way that the ends lead is one, where all cells go both ways or this one does
-pub leads-all : (net seen : Network) (ends : List Ends) (goes_back : Bool) (c from to : ℕ) (e : Ends) → net ≡ seen → ends ≡ map ends_of net.cells → (IsTrue goes_back → GoBothWays net.cells) → c < length ends → e ≡ get_or ends c e → from ≢ to
+pub leads-all : (net seen : Network) (ends : List CellEnds) (goes_back : Bool) (c from to : ℕ) (e : CellEnds) → net ≡ seen → ends ≡ map ends_of net.cells → (IsTrue goes_back → GoBothWays net.cells) → c < length ends → e ≡ get_or ends c e → from ≢ to
     → ((from ≡ e.tail) × (to ≡ e.head)) ⊎ (IsTrue goes_back × (from ≡ e.head) × (to ≡ e.tail)) → PassesOver seen.cells c from to
 leads-all net seen ends goes_back c from to e same is both inside read apart lead =
     let r = ends-read net.cells ends c e is inside read in
     subst (λ (n : Network). PassesOver n.cells c from to) same
     (ends-pass net.cells c from to e goes_back r.0 r.1 apart (λ t. both t c no_cell r.0) lead)
 
-pub leads-one : (net seen : Network) (ends : List Ends) (cells : List Cell) (c from to : ℕ) (e : Ends) (cell : Cell) → net ≡ seen → ends ≡ map ends_of net.cells → cells ≡ net.cells → c < length ends → e ≡ get_or ends c e → cell ≡ get_or cells c cell → from ≢ to
+pub leads-one : (net seen : Network) (ends : List CellEnds) (cells : List Cell) (c from to : ℕ) (e : CellEnds) (cell : Cell) → net ≡ seen → ends ≡ map ends_of net.cells → cells ≡ net.cells → c < length ends → e ≡ get_or ends c e → cell ≡ get_or cells c cell → from ≢ to
     → ((from ≡ e.tail) × (to ≡ e.head)) ⊎ (IsTrue cell.both × (from ≡ e.head) × (to ≡ e.tail)) → PassesOver seen.cells c from to
 leads-one net seen ends cells c from to e cell same is are inside read found apart lead =
     let r = ends-read net.cells ends c e is inside read in

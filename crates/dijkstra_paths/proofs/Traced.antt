@@ -1,7 +1,7 @@
 -- The path is written from its end.
 use Rattle.std.proofs.Common.{◌≡◌, ◌≢◌, inl, inr, ℕ, zero, suc, ◌+◌, ◌-◌, ◌<◌, ◌≤◌, List, [], ◌∷◌, ◌++◌, Some, None, length, get_or, set, drop, cond, refl, sym, ap, subst, ◌∙◌, arith, append_assoc, ltb, append-nil}
 use Rattle.std.proofs.Math.ListN.{drop_of_length-le}
-use Rattle.std.proofs.lemmas.Bool.{eq-eqb, ne_eqb}
+use Rattle.std.proofs.lemmas.Bool.{cases_eq, eq-eqb, ne_eqb}
 use Rattle.dijkstra_paths.specs.declared.search.Step.{Step}
 use Rattle.dijkstra_paths.specs.Tree.{step_at}
 use Rattle.dijkstra_paths.specs.Searched.{trail, Ends, paths_from}
@@ -15,6 +15,18 @@ pub trail-none : (via : List Step) (from fuel v : ℕ) → v ≡ from → trail 
 unfolding trail
 trail-none via from zero v e = refl
 trail-none via from (suc fuel) v e = rw (eq-eqb v from e) refl
+
+-- where the steps lead back, more of them to take change nothing
+pub ends-longer : (via : List Step) (nodes from f g v : ℕ) → f ≤ g → Ends via nodes from f v → Ends via nodes from g v × (trail via from g v ≡ trail via from f v)
+ends-longer via nodes from zero g v l e = absurd e
+ends-longer via nodes from (suc f) zero v l e = absurd (omega arith)
+ends-longer via nodes from (suc f) (suc g) v l (inl e) = (inl e, trail-none via from (suc g) v e ∙ sym (trail-none via from (suc f) v e))
+ends-longer via nodes from (suc f) (suc g) v l (inr e) = elim (cases_eq v from) [
+  | inl same ↦ (inl same, trail-none via from (suc g) v same ∙ sym (trail-none via from (suc f) v same))
+  | inr n ↦
+      let more = ends-longer via nodes from f g (step_at via v).from (omega arith) e.1 in
+      (inr (e.0, more.0), trail-next via from g v n ∙ (ap (λ (xs : List ℕ). xs ++ (step_at via v).cell ∷ []) more.1 ∙ sym (trail-next via from f v n)))
+]
 
 drop-put : (path : List ℕ) (k c : ℕ) → k < length path → drop k (set path k c) ≡ c ∷ drop (suc k) path
 drop-put [] k c l = absurd (omega arith)

@@ -2,10 +2,10 @@
 use Rattle.std.specs.Prelude.{◌≡◌, ℕ, zero, suc, ◌+◌, ◌≤◌, List, [], ◌∷◌, ◌++◌, length, slice_index, ◌==◌, ◌&&◌, if◌then◌else◌}
 use Rattle.flow_model.specs.declared.net.Cell.{Cell}
 use Rattle.dijkstra_paths.specs.declared.graph.Arc.{Arc}
-use Rattle.dijkstra_paths.specs.declared.graph.Ends.{Ends}
+use Rattle.dijkstra_paths.specs.declared.graph.CellEnds.{CellEnds}
 
 -- the nodes that a cell joins; without capacity it joins its tail to itself
-abbrev pub ends_of : Cell → Ends
+abbrev pub ends_of : Cell → CellEnds
 ends_of cell = record { tail = cell.tail; head = if cell.cap == 0 then cell.tail else cell.head }
 
 -- the arc over the cell of that number from u, if there is one

@@ -23,7 +23,7 @@ pub struct Arc {
 
 /// The nodes that a cell joins. One without capacity joins its tail to itself, which is no way to another node.
 #[derive(Clone, Copy)]
-pub struct Ends {
+pub struct CellEnds {
     pub tail: u16,
     pub head: u16,
 }
@@ -35,7 +35,7 @@ pub struct Graph {
     nodes: u16,
     goes_back: bool,
     cells: Vec<Cell>,
-    ends: Vec<Ends>,
+    ends: Vec<CellEnds>,
     first: Vec<u32>,
     arcs: Vec<Arc>,
 }
@@ -87,19 +87,19 @@ fn go_both_ways(cells: &[Cell]) -> bool
 }
 
 /// The ends of a cell.
-fn ends_of(cell: &Cell) -> Ends
+fn ends_of(cell: &Cell) -> CellEnds
     ensures { result ≡ ends_of cell.now }
 {
     let head = if cell.cap == 0 { cell.tail } else { cell.head };
-    Ends {
+    CellEnds {
         tail: cell.tail,
         head,
     }
 }
 
-/// Whether a cell with these ends, and perhaps open both ways, leads from one node to the other.
+/// Whether one goes from one node to the other over a cell with these ends, which is open back too if `both`.
 #[inline(always)]
-fn leads(ends: Ends, both: bool, from: u16, to: u16) -> bool
+fn leads(ends: CellEnds, both: bool, from: u16, to: u16) -> bool
     ensures { IsTrue result → ((from ≡ ends.tail) × (to ≡ ends.head))
         ⊎ (IsTrue both × (from ≡ ends.head) × (to ≡ ends.tail)) }
 {
@@ -111,7 +111,7 @@ fn leads(ends: Ends, both: bool, from: u16, to: u16) -> bool
 }
 
 /// The ends of each cell.
-fn all_ends(alloc: Global, cells: &[Cell]) -> Result<Vec<Ends>, AllocError>
+fn all_ends(alloc: Global, cells: &[Cell]) -> Result<Vec<CellEnds>, AllocError>
     ensures { IfOk result (λ ends. ends.items ≡ map ends_of cells.now) }
 {
     let mut ends = Vec::with_capacity(alloc, cells.len())?;
@@ -193,7 +193,7 @@ impl Graph {
 
     /// The ends of the cells.
     #[inline(always)]
-    pub(crate) fn ends(&self) -> &[Ends]
+    pub(crate) fn ends(&self) -> &[CellEnds]
         ensures value { result.now ≡ map ends_of self.now.cells }
         ensures net { IsNetwork self.now }
     {

@@ -75,8 +75,8 @@ fn blank_trees(alloc: Global, nodes: u16) -> Result<Vec<Tree>, AllocError> {
     Ok(trees)
 }
 
-/// Finds the least distances from a node, from a tree on where this is one from there: then it is `false` where the tree's order still
-/// has each node behind the one before it.
+/// Finds the least distances from a node, from a tree on where this is one from there. `false` where it began at a tree and opened no
+/// node: then each node that was reached still stands behind the one that it was reached from, in the tree's order.
 fn search_by(
     graph: &Graph,
     lengths: &[u64],
@@ -277,6 +277,22 @@ impl Scratch {
         let start = trace(self.front.steps.as_slice(), self.from, to, &mut self.path);
         Some(rest(&self.path, start))
     }
+
+    /// Puts the cells of a least walk to the node at the end of a list with room for as many cells as there are nodes, if the node was
+    /// reached, and answers the place where they begin.
+    #[inline(always)]
+    pub fn put_path(&self, to: u16, list: &mut [u16]) -> Option<usize>
+        requires node { to < self.now.nodes }
+        requires room { self.now.nodes ≤ length list.old }
+        ensures path { option_map (λ start. drop start list.new) result ≡ path_at self.now to }
+        ensures within { IfSome result (λ start. start ≤ length list.new) }
+    {
+        if self.front.dist.as_slice()[to as usize] >= MAX_LENGTH {
+            return None;
+        }
+        let steps = self.front.steps.as_slice();
+        Some(trace(steps, self.from, to, list))
+    }
 }
 
 /// What stands from a place on.
@@ -288,14 +304,15 @@ fn rest(path: &[u16], start: usize) -> &[u16]
 }
 
 /// Puts the cells of the steps to a node at the end of the path, and gives the place where they begin.
+#[inline(always)]
 fn trace(steps: &[Step], from: u16, to: u16, path: &mut [u16]) -> usize
-    requires steps { length steps.now ≡ length path.old }
+    requires room { length steps.now ≤ length path.old }
     requires to { to < length steps.now }
     requires ends { Ends steps.now (length steps.now) from (length steps.now) to }
     ensures within { result ≤ length path.new }
     ensures value { drop result path.new ≡ trail steps.now from (length steps.now) to }
 {
-    let mut start = steps.len();
+    let mut start = path.len();
     let mut at = to;
     while at != from {
         let step = steps[at as usize];

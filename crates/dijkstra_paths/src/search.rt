@@ -9,7 +9,7 @@ ghost use Rattle.dijkstra_paths.specs.Arcs.{ends_of};
 ghost use Rattle.dijkstra_paths.specs.Heap.{AreInverse};
 ghost use Rattle.dijkstra_paths.specs.Tree.{AreFront, AreOpen, AreSameSlices, GoBothWays, IsFront, IsTree, IsDone, IsUnderWay, IsWay};
 
-use crate::graph::Ends;
+use crate::graph::CellEnds;
 use crate::queue::{pop, put};
 use crate::{Arc, Graph};
 use flow_model::Cell;
@@ -308,7 +308,7 @@ fn is_sparse(graph: &Graph) -> bool {
 /// Whether the distances of both ends lie further apart than the length of their cell, so that a way over it may be shorter than what is
 /// known.
 #[inline(always)]
-fn are_apart(ends: Ends, long: u64, dist: &[u64]) -> bool
+fn are_apart(ends: CellEnds, long: u64, dist: &[u64]) -> bool
     requires ends { (ends.tail < length dist.now) × (ends.head < length dist.now) }
     requires bound { (v : ℕ) → v < length dist.now → slice_index dist.now v ≤ MAX_LENGTH }
     ensures { (cell : Cell) (u x : ℕ) → IsFalse result → ends ≡ ends_of cell → long ≤ 2 ^ 52 → 1 ≤ cell.cap
@@ -472,7 +472,8 @@ pub fn search(graph: &Graph, lengths: &[u64], from: u16, front: &mut Front)
 }
 
 /// The same from an earlier tree on, which changes no distance: it makes the search quick where it is one from that node,
-/// and few nodes have moved since. `false` where no node was opened, so that each was reached from one before it in the tree's order.
+/// and few nodes have moved since. `false` where it opened no node: then each node that was reached still stands behind the one that it
+/// was reached from, in the tree's order.
 #[inline(never)]
 pub fn search_on(
     graph: &Graph,

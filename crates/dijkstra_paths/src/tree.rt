@@ -40,9 +40,12 @@ impl Tree {
         Some(&self.kept)
     }
 
-    /// Takes over the steps that a search from the same node found along it, in its order.
+    /// Takes over the steps that a search from the same node found along it, in its order, if it is one over as many nodes.
     pub fn renew(&mut self, front: &Front) {
-        renew_steps(&mut self.kept, front.steps.as_slice());
+        let steps = front.steps.as_slice();
+        if self.kept.len() == steps.len() {
+            renew_steps(&mut self.kept, steps);
+        }
     }
 
     /// Takes over what a search from that node found, if it is one over as many nodes.

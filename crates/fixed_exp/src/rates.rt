@@ -10,9 +10,10 @@ use crate::scale::Scale;
 use flow_model::Cell;
 use mcf_limits::{MAX_LENGTH, MAX_UNITS};
 
-/// What a load is divided by in a cell's exponent; what a unit of load adds to the exponent, the whole of it and the part with 64
-/// binary places, rounded down; and what a unit of weight adds to the cell's length, with 40 binary places, rounded down. The first
-/// three are 0 where the divisor is above 2^63, or what loads are multiplied by above 2^64 - 1: the exponent takes a division then.
+/// What a load is divided by in a cell's exponent; what a unit of load adds to the exponent, its whole part and its part below 1 with
+/// 64 binary places, rounded down; and what a unit of weight adds to the cell's length, with 40 binary places, rounded down. The first
+/// three are 0 where the cell has no capacity, and where the divisor is above 2^63 or what loads are multiplied by above 2^64 - 1: in
+/// these two cases the exponent takes a division.
 #[derive(Clone, Copy)]
 pub struct Rate {
     pub below: u64,

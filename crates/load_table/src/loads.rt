@@ -436,8 +436,8 @@ impl Loads {
         put_along(&mut pass.own, path, amount);
     }
 
-    /// Adds a commodity's amount to each cell of a path, in order, by one `fetch_add` each, or plainly where there is one worker:
-    /// after adds of commodities below it alone.
+    /// Adds a commodity's amount to each cell of a path, in order, by one `fetch_add` each, or plainly where there is one worker.
+    /// What the entry has added before is of commodities below it alone.
     pub fn add_path(&self, pass: &mut Pass, k: u32, path: &[u16])
         requires of { IsPassOf self.now pass.old }
         requires ready { OneWhere (IsReadyFor self.now.terms k) pass.old.view.hands }
