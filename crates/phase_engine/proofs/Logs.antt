@@ -47,22 +47,20 @@ adds-of-push : (rs : List Route) (r : Route) → adds_of (rs ++ r ∷ []) ≡ ad
 adds-of-push [] r = append-nil (adds_along r.commodity r.path)
 adds-of-push (x ∷ xs) r = ap (λ (ps : List (ℕ × ℕ)). adds_along x.commodity x.path ++ ps) (adds-of-push xs r) ∙ sym (append_assoc (adds_along x.commodity x.path) (adds_of xs) (adds_along r.commodity r.path))
 
-pub group-more : (net : Network) (s s' : Searched) (ms : List ℕ) (i : ℕ) (v w x : View) → i < length ms → s' ≡ s → HasAddedAll (adds_of (routes_to net s (take i ms))) v w
-    → HasAddedAll (adds_along (get_or ms i 0) (known_path s' (to_at net (get_or ms i 0)))) w x → HasAddedAll (adds_of (routes_to net s (take (i + 1) ms))) v x
-group-more net s s' ms i v w x l same before now =
+pub group-more : (net : Network) (s : Searched) (ms : List ℕ) (i : ℕ) (v w x : View) → i < length ms → HasAddedAll (adds_of (routes_to net s (take i ms))) v w
+    → HasAddedAll (adds_along (get_or ms i 0) (known_path s (to_at net (get_or ms i 0)))) w x → HasAddedAll (adds_of (routes_to net s (take (i + 1) ms))) v x
+group-more net s ms i v w x l before now =
     let k = get_or ms i 0 in
     let path = known_path s (to_at net k) in
-    let now' : HasAddedAll (adds_along k path) w x = subst (λ (s : Searched). HasAddedAll (adds_along k (known_path s (to_at net k))) w x) same now in
     let more : adds_of (routes_to net s (take (i + 1) ms)) ≡ adds_of (routes_to net s (take i ms)) ++ adds_along k path =
     ap adds_of (routes-more net s ms i l) ∙ adds-of-push (routes_to net s (take i ms)) (record { commodity = k; path = path }) in
-    subst (λ (ps : List (ℕ × ℕ)). HasAddedAll ps v x) (sym more) (adds_two (adds_of (routes_to net s (take i ms))) (adds_along k path) v w x before now')
+    subst (λ (ps : List (ℕ × ℕ)). HasAddedAll ps v x) (sym more) (adds_two (adds_of (routes_to net s (take i ms))) (adds_along k path) v w x before now)
 
-pub routes-next : (net : Network) (s s' : Searched) (ms : List ℕ) (i : ℕ) (old before now : List Route) → i < length ms → s' ≡ s → before ≡ old ++ routes_to net s (take i ms)
-    → now ≡ before ++ record { commodity = get_or ms i 0; path = known_path s' (to_at net (get_or ms i 0)) } ∷ [] → now ≡ old ++ routes_to net s (take (i + 1) ms)
-routes-next net s s' ms i old before now l same b n =
+pub routes-next : (net : Network) (s : Searched) (ms : List ℕ) (i : ℕ) (old before now : List Route) → i < length ms → before ≡ old ++ routes_to net s (take i ms)
+    → now ≡ before ++ record { commodity = get_or ms i 0; path = known_path s (to_at net (get_or ms i 0)) } ∷ [] → now ≡ old ++ routes_to net s (take (i + 1) ms)
+routes-next net s ms i old before now l b n =
     let k = get_or ms i 0 in
-    let n' : now ≡ before ++ record { commodity = k; path = known_path s (to_at net k) } ∷ [] = subst (λ (s : Searched). now ≡ before ++ record { commodity = k; path = known_path s (to_at net k) } ∷ []) same n in
-    n' ∙ (ap (λ (xs : List Route). xs ++ record { commodity = k; path = known_path s (to_at net k) } ∷ []) b
+    n ∙ (ap (λ (xs : List Route). xs ++ record { commodity = k; path = known_path s (to_at net k) } ∷ []) b
     ∙ (append_assoc old (routes_to net s (take i ms)) (record { commodity = k; path = known_path s (to_at net k) } ∷ []) ∙ ap (λ (xs : List Route). old ++ xs) (sym (routes-more net s ms i l))))
 
 below-adds : (net : Network) (s : Searched) (k : ℕ) (ms : List ℕ) → All (λ m. m < k) ms → All (λ (x : ℕ × ℕ). x.0 < k) (adds_of (routes_to net s ms))

@@ -1,5 +1,5 @@
 -- Routes: a path for a commodity.
-use Rattle.std.specs.Prelude.{ℕ, ◌+◌, ◌≤◌, List, length, take, drop, All}
+use Rattle.std.specs.Prelude.{ℕ, ◌+◌, ◌-◌, ◌≤◌, List, length, take, drop, All}
 use Rattle.phase_engine.specs.declared.route_buffer.Span.{Span}
 
 -- a commodity, and the cells of its path
@@ -13,9 +13,11 @@ pub record RouteRoom : Type 0 where
   pub paths : ℕ
   pub cells : ℕ
 
+-- the commodity, and the cells from so many before the end on
 abbrev pub route_of : List ℕ → Span → Route
-route_of cells s = record { commodity = s.commodity; path = take s.len (drop s.start cells) }
+route_of cells s = record { commodity = s.commodity; path = take s.len (drop (length cells - s.back) cells) }
 
--- each path lies within the cells
-pub record AreSpans (cells : List ℕ) (spans : List Span) : Type 0 where
-  pub places : All (λ (s : Span). s.start + s.len ≤ length cells) spans
+-- each path lies within the cells, behind those that are free
+pub record AreSpans (cells : List ℕ) (free : ℕ) (spans : List Span) : Type 0 where
+  pub within : free ≤ length cells
+  pub places : All (λ (s : Span). (s.len ≤ s.back) × (free + s.back ≤ length cells)) spans

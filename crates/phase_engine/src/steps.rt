@@ -19,32 +19,28 @@ pub(crate) fn route_member(
     loads: &Loads,
     pass: &mut Pass,
     k: u32,
-    scratch: &mut Scratch,
+    scratch: &Scratch,
     buffer: &mut RouteBuffer,
 )
     requires of { IsPassOf loads.now pass.old }
     requires net { loads.now.terms.net ≡ net.now }
-    requires nodes { scratch.old.nodes ≡ net.now.nodes }
+    requires nodes { scratch.now.nodes ≡ net.now.nodes }
     requires ready { OneWhere (IsReadyFor loads.now.terms k) pass.old.view.hands }
     requires k { k < length net.now.commodities }
-    requires path { HasPath net.now.cells scratch.old (to_at net.now k) }
+    requires path { HasPath net.now.cells scratch.now (to_at net.now k) }
     requires paths { 0 < buffer.old.paths }
     requires cells { net.now.nodes ≤ buffer.old.cells }
     ensures of { IsPassOf loads.now pass.new }
-    ensures view { HasAddedAll (adds_along k (known_path scratch.old (to_at net.now k)))
+    ensures view { HasAddedAll (adds_along k (known_path scratch.now (to_at net.now k)))
         pass.old.view pass.new.view }
-    ensures scratch { scratch.new ≡ scratch.old }
     ensures routes { buffer.new.routes ≡ buffer.old.routes ++ record
-        { commodity = k; path = known_path scratch.old (to_at net.now k) } ∷ [] }
+        { commodity = k; path = known_path scratch.now (to_at net.now k) } ∷ [] }
     ensures paths { buffer.new.paths ≡ buffer.old.paths - 1 }
     ensures cells { buffer.old.cells - net.now.nodes ≤ buffer.new.cells }
 {
     let commodities = net.commodities();
     let to = commodities[k as usize].to;
-    match scratch.path_to(to) {
-        Some(path) => buffer.add_route(loads, pass, k, path),
-        None => unreachable!(),
-    }
+    buffer.add_route(loads, pass, k, scratch, to);
 }
 
 /// Routes the members of the claimed group, one after the other. It is a function of its own, so that what its loop needs stays in
@@ -55,22 +51,21 @@ pub(crate) fn route_group(
     loads: &Loads,
     pass: &mut Pass,
     members: &[u32],
-    scratch: &mut Scratch,
+    scratch: &Scratch,
     buffer: &mut RouteBuffer,
 )
     requires of { IsPassOf loads.now pass.old }
     requires net { loads.now.terms.net ≡ net.now }
-    requires nodes { scratch.old.nodes ≡ net.now.nodes }
+    requires nodes { scratch.now.nodes ≡ net.now.nodes }
     requires ready { OneWhere (IsReadyForAll loads.now.terms members.now) pass.old.view.hands }
     requires ascending { IsStrictlyIncreasing members.now }
     requires members { All (λ k. k < length net.now.commodities) members.now }
-    requires found { All (λ k. HasPath net.now.cells scratch.old (to_at net.now k)) members.now }
+    requires found { All (λ k. HasPath net.now.cells scratch.now (to_at net.now k)) members.now }
     requires paths { length members.now ≤ buffer.old.paths }
     requires cells { length members.now * net.now.nodes ≤ buffer.old.cells }
     ensures of { IsPassOf loads.now pass.new }
-    ensures view { HasAddedAll (adds_of (routes_to net.now scratch.old members.now)) pass.old.view pass.new.view }
-    ensures scratch { scratch.new ≡ scratch.old }
-    ensures routes { buffer.new.routes ≡ buffer.old.routes ++ routes_to net.now scratch.old members.now }
+    ensures view { HasAddedAll (adds_of (routes_to net.now scratch.now members.now)) pass.old.view pass.new.view }
+    ensures routes { buffer.new.routes ≡ buffer.old.routes ++ routes_to net.now scratch.now members.now }
 {
     for k in members {
         route_member(net, loads, pass, *k, scratch, buffer);

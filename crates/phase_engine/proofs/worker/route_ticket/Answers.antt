@@ -6,8 +6,6 @@ use Rattle.std.specs.List.Sorted.{IsStrictlyIncreasing}
 use Rattle.flow_model.specs.Network.{Network}
 use Rattle.flow_model.specs.Lengths.{lengths_of}
 use Rattle.flow_model.specs.Groups.{members_of, group_sources}
-use Rattle.dijkstra_paths.specs.Searched.{Searched}
-use Rattle.flow_core.specs.Core.{IsComplete, entry}
 use Rattle.load_table.specs.Reading.{OneWhere}
 use Rattle.phase_engine.specs.Steps.{HasFinished, IsReadyForAll, adds_of}
 use Rattle.phase_engine.specs.Found.{HasPath, to_at, routes_to, group_routes}
@@ -65,21 +63,20 @@ returns-clause-complete c =
     let set : c.update.new.self.setting ≡ t.setting = c.update.ensures.setting ∙ (c.args.room.now.setting_is ∙ c.requires.room.1) in
     let loads : c.update.new.self.loads ≡ reads = c.update.ensures.loads ∙ c.as_slice.ensures.value in
     let under : c.lengths.result.now ≡ lengths_of net t.setting reads = c.lengths.ensures.value ∙ (λ i. lengths_of (n i) (set i) (loads i)) in
-    let whole = complete-entry t net c.lengths.result.now c.args.g s reads c.requires.loads c.requires.network c.requires.no_cut search nodes all under in
-    subst (λ (x : Searched). IsComplete t (entry c.args.g reads (adds_of (routes_to net x (members_of net c.args.g))))) (sym c.route_group.ensures.scratch) whole
+    complete-entry t net c.lengths.result.now c.args.g s reads c.requires.loads c.requires.network c.requires.no_cut search nodes all under
 
 pub returns-clause-routes : goal.returns-clause-routes
 returns-clause-routes c =
     let net = c.args.input.now.net.now in
     let g = c.args.g in
     let ms : c.members.result.now ≡ members_of net g = c.members.ensures ∙ ap (λ (m : Network). members_of m g) c.args.input.now.groups_are in
-    let found : c.route_group.new.buffer.routes ≡ c.args.buffer.now.routes ++ routes_to net c.route_group.new.scratch (members_of net g) =
-    c.route_group.ensures.routes ∙ (λ i. c.args.buffer.now.routes ++ routes_to net (sym c.route_group.ensures.scratch i) (ms i)) in
-    (found, routes-are net g c.route_group.new.scratch (with_items c.args.room.now.loads c.read_all.new.reads).items)
+    let found : c.route_group.new.buffer.routes ≡ c.args.buffer.now.routes ++ routes_to net c.search_near.new.self (members_of net g) =
+    c.route_group.ensures.routes ∙ (λ i. c.args.buffer.now.routes ++ routes_to net c.search_near.new.self (ms i)) in
+    (found, routes-are net g c.search_near.new.self (with_items c.args.room.now.loads c.read_all.new.reads).items)
 
 pub returns-clause-view : goal.returns-clause-view
 returns-clause-view c =
     let is = with_items_is c.args.room.now.loads c.read_all.new.reads (omega (arith, c.read_all.auto.reads, c.deref_mut.ensures.len)) in
-    let adds = adds_of (group_routes c.args.input.now.net.now c.route_group.new.scratch c.args.g) in
+    let adds = adds_of (group_routes c.args.input.now.net.now c.search_near.new.self c.args.g) in
     let view : HasFinished c.read_all.new.reads adds c.args.pass.now.view c.route_group.new.pass.view = search rules in
     subst (λ (xs : List ℕ). HasFinished xs adds c.args.pass.now.view c.route_group.new.pass.view) (sym is) view
