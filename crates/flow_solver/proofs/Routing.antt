@@ -1,10 +1,11 @@
 -- The search with one phase more.
 use Rattle.std.proofs.Common.{◌≡◌, ℕ, ◌+◌, ◌*◌, ◌<◌, ◌≤◌, Bool, true, false, nat_lt, List, [], ◌∷◌, ◌++◌, length, get_or, None, refl, sym, ap, ◌∙◌, subst, arith}
-use Rattle.std.specs.Prelude.{All, IfSome, OnOk, Ok, Err, Option, Result, flat_map, take, replicate}
+use Rattle.std.specs.Prelude.{All, IfSome, OnOk, Option, Result, flat_map, take, replicate}
 use Rattle.std.proofs.lemmas.Bool.Decides.{nat_tests}
 use Rattle.std.proofs.lemmas.List.{length-map, length-append, length-replicate, get_or-replicate, get_or_append_left}
 use Rattle.std.proofs.lemmas.List.FromFn.{fill_by_all, length-map-range_with_len}
 use Rattle.std.proofs.lemmas.Option.{slice_get-get_or, slice_get_within}
+use Rattle.std.proofs.lemmas.Result.{on_ok_weaker}
 use Rattle.std.proofs.Math.Seq.{get_or-append_seam}
 use Rattle.flow_model.specs.declared.setting.Setting.{Setting}
 use Rattle.flow_model.specs.Network.{Network, IsNetwork}
@@ -22,8 +23,9 @@ use Rattle.solver_run.specs.Paths.{IsPathOf, HavePaths}
 use Rattle.solver_run.specs.History.{routed_in, loads_after}
 use Rattle.solver_run.proofs.Paths.{phase-paths}
 use Rattle.flow_solver.specs.declared.search.Search.{Search}
-use Rattle.flow_solver.specs.Routes.{IsRoutedOnce}
-use Rattle.flow_solver.specs.Search.{AreIdle, IsBoundRoom, phases_in, phase_count, IsRouted, IsSearch, HasRouted}
+use Rattle.flow_solver.specs.declared.places.Place.{Place}
+use Rattle.flow_solver.specs.Adding.{ArePlaces, IsNoted}
+use Rattle.flow_solver.specs.Search.{AreIdle, IsBoundRoom, phases_in, phase_count, IsRouted, IsSearch, HasNoted, HasRouted}
 use Rattle.flow_solver.proofs.Loads.{loads-more, loads-small, once, phase-adds, phase-loads, total-amounts, room-above}
 
 -- hands
@@ -190,9 +192,11 @@ abbrev IsNext : Network → Setting → Search → Search → Type 0
 IsNext net setting old new = IsSearch net new × HasRouted net setting old new
 
 pub noted-phase : (net : Network) (setting : Setting) (old mid new : Search) → IsNetwork net → IsSearch net old → IsRouted net setting old mid → new.loads ≡ mid.loads → new.hands ≡ mid.hands
-    → new.history.commodities ≡ mid.history.commodities → IsBoundRoom net new.room → AreRowsFor net new.history.history new.history.rows
-    → ((entries : List Routed) → IsRoutedOnce net mid.hands.items entries → phases_kept new.history ≡ phases_kept mid.history ++ entries ∷ []) → IsSearch net new × HasRouted net setting old new
-noted-phase net setting old mid new n is r loads hands commodities room rows phases =
+    → new.history.commodities ≡ mid.history.commodities → HasNoted net mid new → IsSearch net new × HasRouted net setting old new
+noted-phase net setting old mid new n is r loads hands commodities noted =
+    let room = noted.room in
+    let rows = noted.rows in
+    let phases = noted.phases in
     let made : Search = record { loads = mid.loads; room = new.room; hands = mid.hands; history = new.history; sought = new.sought } in
     let p = r.phase in
     let more : phases_in made ≡ phases_in old ++ p.entries ∷ [] = phases p.entries (record { count = p.count; routes = p.routes }) ∙ ap (λ (h : HistoryView). phases_kept h ++ p.entries ∷ []) r.history in
@@ -204,31 +208,8 @@ noted-phase net setting old mid new n is r loads hands commodities room rows pha
     subst (λ (hs : _). IsNext net setting old (record { loads = mid.loads; room = new.room; hands = hs; history = new.history; sought = new.sought })) (sym hands) next in
     subst (λ (xs : _). IsNext net setting old (record { loads = xs; room = new.room; hands = new.hands; history = new.history; sought = new.sought })) (sym loads) same_hands
 
--- the same, where the call that noted the phase answers with Ok
-module _ {T E : Type 0} (net : Network) (setting : Setting) (old mid new : Search) (r : Result T E) where
-  abbrev pub Phases : Type 0
-  Phases = (entries : List Routed) → IsRoutedOnce net mid.hands.items entries → phases_kept new.history ≡ phases_kept mid.history ++ entries ∷ []
-
-  noted-next : IsNetwork net → IsSearch net old → IsRouted net setting old mid → new.loads ≡ mid.loads → new.hands ≡ mid.hands → new.history.commodities ≡ mid.history.commodities
-      → OnOk r (IsBoundRoom net new.room) → OnOk r (AreRowsFor net new.history.history new.history.rows) → OnOk r Phases → OnOk r (IsNext net setting old new)
-  noted-next n is routed loads hands commodities room rows phases = go r room rows phases
-    where
-      go : (q : Result T E) → OnOk q (IsBoundRoom net new.room) → OnOk q (AreRowsFor net new.history.history new.history.rows) → OnOk q Phases → OnOk q (IsNext net setting old new)
-      go (Ok x) space rs ps = noted-phase net setting old mid new n is routed loads hands commodities space rs ps
-      go (Err e) space rs ps = tt
-
-  pub noted-search : IsNetwork net → IsSearch net old → IsRouted net setting old mid → new.loads ≡ mid.loads → new.hands ≡ mid.hands → new.history.commodities ≡ mid.history.commodities
-      → OnOk r (IsBoundRoom net new.room) → OnOk r (AreRowsFor net new.history.history new.history.rows) → OnOk r Phases → OnOk r (IsSearch net new)
-  noted-search n is routed loads hands commodities room rows phases = go r (noted-next n is routed loads hands commodities room rows phases)
-    where
-      go : (q : Result T E) → OnOk q (IsNext net setting old new) → OnOk q (IsSearch net new)
-      go (Ok x) next = next.0
-      go (Err e) next = tt
-
-  pub noted-routed : IsNetwork net → IsSearch net old → IsRouted net setting old mid → new.loads ≡ mid.loads → new.hands ≡ mid.hands → new.history.commodities ≡ mid.history.commodities
-      → OnOk r (IsBoundRoom net new.room) → OnOk r (AreRowsFor net new.history.history new.history.rows) → OnOk r Phases → OnOk r (HasRouted net setting old new)
-  noted-routed n is routed loads hands commodities room rows phases = go r (noted-next n is routed loads hands commodities room rows phases)
-    where
-      go : (q : Result T E) → OnOk q (IsNext net setting old new) → OnOk q (HasRouted net setting old new)
-      go (Ok x) next = next.1
-      go (Err e) next = tt
+-- where the rows of the phase are noted, and there is room for a bound again
+pub noted-all : {T E : Type 0} (net : Network) (places : List Place) (old new : Search) (r : Result T E) → IsNoted net places old.history new.history → ArePlaces net old.hands.items places
+    → OnOk r (IsBoundRoom net new.room) → OnOk r (HasNoted net old new)
+noted-all net places old new r noted are room =
+    on_ok_weaker r (λ space. record { rows = noted.rows; phases = λ entries once. noted.phases old.hands.items entries are once; room = space }) room

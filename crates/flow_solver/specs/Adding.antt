@@ -1,9 +1,9 @@
 -- A phase that is being added: its first entries, with their rows.
 use Rattle.std.specs.Prelude.{◌≡◌, ℕ, ◌+◌, ◌*◌, ◌<◌, ◌≤◌, List, [], ◌∷◌, ◌++◌, All, Contains, Some, length, slice_get, slice_index_or}
-use Rattle.mcf_limits.specs.declared.TheConstants.{MAX_DEMANDS, MAX_PHASES, MAX_WORK}
+use Rattle.mcf_limits.specs.declared.TheConstants.{MAX_DEMANDS, MAX_LENGTH, MAX_PHASES, MAX_WORK}
 use Rattle.flow_model.specs.Network.{Network}
 use Rattle.flow_model.specs.Routing.{Row}
-use Rattle.flow_paths.specs.PathRows.{row_at}
+use Rattle.flow_paths.specs.PathRows.{row_at, IsFirstRow}
 use Rattle.phase_engine.specs.declared.hand.Hand.{Hand}
 use Rattle.phase_engine.specs.Routing.{HasRouted}
 use Rattle.flow_core.specs.Phase.{Routed}
@@ -28,6 +28,14 @@ path_at places k = (slice_index_or places k no_place).path.now
 -- each commodity's place names the hand that has routed it, and along which path
 abbrev pub ArePlaces : Network → List Hand → List Place → Type 0
 ArePlaces net hands places = (k : ℕ) → k < length net.commodities → HasRouted hands (slice_index_or places k no_place).hand k (path_at places k)
+
+-- an amount can be added for the commodity along the path: no two rows are alike, there may be one more, and the row that it is added
+-- to, if there is one, stays within the limit
+pub record CanBeAdded (rows : List Row) (k : ℕ) (path : List ℕ) (amount : ℕ) : Type 0 where
+  pub apart : AreApart rows
+  pub room : length rows < 4294967295
+  pub small : amount ≤ MAX_LENGTH
+  pub weight : (n : ℕ) → IsFirstRow rows k path n → (row_at rows n).weight + amount ≤ MAX_LENGTH
 
 -- the phase of which these are the places can be noted
 pub record CanBeNoted (net : Network) (h : HistoryView) (places : List Place) : Type 0 where

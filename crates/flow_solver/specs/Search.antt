@@ -1,14 +1,16 @@
 -- What a solve keeps from phase to phase.
-use Rattle.std.specs.Prelude.{◌≡◌, ℕ, ◌*◌, ◌<◌, ◌≤◌, List, [], ◌∷◌, ◌++◌, All, Option, None, length, slice_index, slice_index_or}
+use Rattle.std.specs.Prelude.{◌≡◌, ℕ, ◌+◌, ◌*◌, ◌<◌, ◌≤◌, List, [], ◌∷◌, ◌++◌, All, Option, None, length, slice_index, slice_index_or}
 use Rattle.flow_model.specs.declared.setting.Setting.{Setting}
 use Rattle.flow_model.specs.Network.{Network}
+use Rattle.flow_model.specs.Least.{HasNoCut}
 use Rattle.flow_core.specs.Phase.{Routed, IsPhase}
 use Rattle.phase_engine.specs.declared.hand.Hand.{Hand}
 use Rattle.phase_engine.specs.Hands.{HasRoomOf}
 use Rattle.phase_engine.specs.Routing.{IsRoutedPhase}
+use Rattle.flow_solver.specs.Routes.{HaveRouted, IsRoutedOnce}
 use Rattle.flow_solver.specs.Rows.{phases_kept, AreRowsFor}
 use Rattle.solver_run.specs.History.{loads_after}
-use Rattle.mcf_limits.specs.declared.TheConstants.{MAX_LENGTH, MAX_TOTAL, MAX_WORKERS}
+use Rattle.mcf_limits.specs.declared.TheConstants.{MAX_LENGTH, MAX_PHASES, MAX_TOTAL, MAX_WORK, MAX_WORKERS}
 use Rattle.flow_model.specs.Lengths.{IsSetting, lengths_of}
 use Rattle.dual_bound.specs.declared.bounds.Bounded.{Bounded}
 use Rattle.dual_bound.specs.Bounds.{IsLesser}
@@ -69,6 +71,14 @@ pub record HasRouted (net : Network) (setting : Setting) (old new : Search) : Ty
   pub phase : IsPhase net setting old.loads.items new.loads.items entries
   pub loaded : (c : ℕ) × (c < length net.cells) × (1 ≤ slice_index new.loads.items c)
 
+-- one phase more can be routed, noted and bounded: no commodity is cut off, and phases and work stay within their limits
+pub record CanAddPhase (net : Network) (setting : Setting) (s : Search) : Type 0 where
+  pub no_cut : HasNoCut net
+  pub setting_is : IsSetting setting
+  pub search_is : IsSearch net s
+  pub phases : phase_count s < MAX_PHASES
+  pub work : length net.commodities * (phase_count s + 1) ≤ MAX_WORK
+
 -- the setting, the loads and the room are what a bound of the lengths under these loads is made of, each within its limits
 abbrev pub CanBeBounded : Network → Setting → List ℕ → BoundRoom → Type 0
 CanBeBounded net setting loads room = IsSetting setting × (length loads ≡ length net.cells) × All (λ (x : ℕ). x ≤ MAX_LENGTH) loads × IsBoundRoom net room
@@ -76,3 +86,19 @@ CanBeBounded net setting loads room = IsSetting setting × (length loads ≡ len
 -- the lesser of an earlier bound, if there is one, and that of the lengths under these loads
 abbrev pub IsLesserUnder : Network → Setting → List ℕ → Option Bounded → Bounded → Type 0
 IsLesserUnder net setting loads earlier b = IsLesser net (lengths_of net setting loads) earlier b
+
+-- the hands have routed a phase that is still to be noted, and of its loads a bound can be made
+pub record IsUnnoted (net : Network) (setting : Setting) (s : Search) : Type 0 where
+  pub rows : AreRowsFor net s.history.history s.history.rows
+  pub commodities : s.history.commodities ≡ length net.commodities
+  pub phases : phase_count s < MAX_PHASES
+  pub work : length net.commodities * (phase_count s + 1) ≤ MAX_WORK
+  pub hands : length s.hands.items ≤ MAX_WORKERS
+  pub routes : HaveRouted net s.hands.items
+  pub bound : CanBeBounded net setting s.loads.items s.room
+
+-- it is noted: what the hands have routed stands last, rows and entries belong together, and there is room for a bound again
+pub record HasNoted (net : Network) (old new : Search) : Type 0 where
+  pub rows : AreRowsFor net new.history.history new.history.rows
+  pub phases : (entries : List Routed) → IsRoutedOnce net old.hands.items entries → phases_in new ≡ phases_in old ++ entries ∷ []
+  pub room : IsBoundRoom net new.room

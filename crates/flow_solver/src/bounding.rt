@@ -1,13 +1,8 @@
 //! The rows of a phase are noted, and a bound is made of its loads.
 
-ghost use Rattle.std.specs.Prelude.{◌≡◌, ◌+◌, ◌*◌, ◌<◌, ◌≤◌, List, ◌++◌, ◌∷◌, [], IfOk, OnOk, length, max};
-ghost use Rattle.flow_model.specs.Least.{HasNoCut};
-ghost use Rattle.flow_model.specs.Lengths.{IsSetting};
-ghost use Rattle.flow_core.specs.Phase.{Routed};
-ghost use Rattle.flow_solver.specs.Routes.{HaveRouted, IsRoutedOnce};
-ghost use Rattle.flow_solver.specs.Rows.{AreRowsFor, phases_kept};
+ghost use Rattle.std.specs.Prelude.{◌≡◌, ◌<◌, ◌≤◌, IfOk, OnOk, max};
 ghost use Rattle.flow_solver.specs.Adding.{CanBeNoted, IsNoted};
-ghost use Rattle.flow_solver.specs.Search.{CanBeBounded, HasRouted, IsBoundRoom, IsLesserUnder, IsSearch, phase_count};
+ghost use Rattle.flow_solver.specs.Search.{CanAddPhase, CanBeBounded, HasNoted, HasRouted, IsBoundRoom, IsLesserUnder, IsSearch, IsUnnoted};
 
 use crate::filling::bound_beside;
 use crate::places::places_of;
@@ -18,7 +13,6 @@ use claimed_calls::Crew;
 use dual_bound::{Bounded, Team, lesser_in};
 use flow_model::Setting;
 use mcf_base::Gate;
-use mcf_limits::{MAX_PHASES, MAX_WORK, MAX_WORKERS};
 use std::alloc::{AllocError, Global};
 use std::thread::{Threads, join_mut};
 
@@ -84,21 +78,11 @@ pub(crate) fn note_and_bound<R: Threads + Sync>(
     threads: u16,
     earlier: Option<Bounded>,
 ) -> Result<Bounded, AllocError>
-    requires rows { AreRowsFor on.now.net.now search.old.history.history search.old.history.rows }
-    requires commodities { search.old.history.commodities ≡ length on.now.net.now.commodities }
-    requires phases { phase_count search.old < MAX_PHASES }
-    requires work { length on.now.net.now.commodities * (phase_count search.old + 1) ≤ MAX_WORK }
-    requires hands { length search.old.hands.items ≤ MAX_WORKERS }
-    requires routes { HaveRouted on.now.net.now search.old.hands.items }
-    requires bound { CanBeBounded on.now.net.now setting.now search.old.loads.items search.old.room }
+    requires { IsUnnoted on.now.net.now setting.now search.old }
     ensures loads { search.new.loads ≡ search.old.loads }
     ensures hands { search.new.hands ≡ search.old.hands }
     ensures commodities { search.new.history.commodities ≡ search.old.history.commodities }
-    ensures rows { OnOk result (AreRowsFor on.now.net.now search.new.history.history search.new.history.rows) }
-    ensures phases { OnOk result ((entries : List Routed)
-        → IsRoutedOnce on.now.net.now search.old.hands.items entries
-        → phases_kept search.new.history ≡ phases_kept search.old.history ++ entries ∷ []) }
-    ensures room { OnOk result (IsBoundRoom on.now.net.now search.new.room) }
+    ensures noted { OnOk result (HasNoted on.now.net.now search.old search.new) }
     ensures bound { IfOk result (IsLesserUnder on.now.net.now setting.now search.old.loads.items earlier) }
 {
     let net = on.net;
@@ -147,21 +131,11 @@ fn note_and_bound_with<'a, G: Gate>(
     search: &mut Search,
     earlier: Option<Bounded>,
 ) -> Result<Bounded, AllocError>
-    requires rows { AreRowsFor task.now.on.now.net.now search.old.history.history search.old.history.rows }
-    requires commodities { search.old.history.commodities ≡ length task.now.on.now.net.now.commodities }
-    requires phases { phase_count search.old < MAX_PHASES }
-    requires work { length task.now.on.now.net.now.commodities * (phase_count search.old + 1) ≤ MAX_WORK }
-    requires hands { length search.old.hands.items ≤ MAX_WORKERS }
-    requires routes { HaveRouted task.now.on.now.net.now search.old.hands.items }
-    requires bound { CanBeBounded task.now.on.now.net.now task.now.setting search.old.loads.items search.old.room }
+    requires { IsUnnoted task.now.on.now.net.now task.now.setting search.old }
     ensures loads { search.new.loads ≡ search.old.loads }
     ensures hands { search.new.hands ≡ search.old.hands }
     ensures commodities { search.new.history.commodities ≡ search.old.history.commodities }
-    ensures rows { OnOk result (AreRowsFor task.now.on.now.net.now search.new.history.history search.new.history.rows) }
-    ensures phases { OnOk result ((entries : List Routed)
-        → IsRoutedOnce task.now.on.now.net.now search.old.hands.items entries
-        → phases_kept search.new.history ≡ phases_kept search.old.history ++ entries ∷ []) }
-    ensures room { OnOk result (IsBoundRoom task.now.on.now.net.now search.new.room) }
+    ensures noted { OnOk result (HasNoted task.now.on.now.net.now search.old search.new) }
     ensures bound { IfOk result
         (IsLesserUnder task.now.on.now.net.now task.now.setting search.old.loads.items earlier) }
 {
@@ -191,11 +165,7 @@ fn phase_alone<G: Gate, R: Threads + Sync>(
     search: &mut Search,
     earlier: Option<Bounded>,
 ) -> Result<Bounded, AllocError>
-    requires no_cut { HasNoCut task.now.on.now.net.now }
-    requires setting { IsSetting task.now.setting }
-    requires search { IsSearch task.now.on.now.net.now search.old }
-    requires phases { phase_count search.old < MAX_PHASES }
-    requires work { length task.now.on.now.net.now.commodities * (phase_count search.old + 1) ≤ MAX_WORK }
+    requires { CanAddPhase task.now.on.now.net.now task.now.setting search.old }
     ensures search { OnOk result (IsSearch task.now.on.now.net.now search.new) }
     ensures routed { OnOk result (HasRouted task.now.on.now.net.now task.now.setting search.old search.new) }
     ensures bound { IfOk result
@@ -223,11 +193,7 @@ fn phase_by_crew<'a, G: Gate, R: Threads + Sync>(
     search: &mut Search,
     earlier: Option<Bounded>,
 ) -> Result<Bounded, AllocError>
-    requires no_cut { HasNoCut task.now.on.now.net.now }
-    requires setting { IsSetting task.now.setting }
-    requires search { IsSearch task.now.on.now.net.now search.old }
-    requires phases { phase_count search.old < MAX_PHASES }
-    requires work { length task.now.on.now.net.now.commodities * (phase_count search.old + 1) ≤ MAX_WORK }
+    requires { CanAddPhase task.now.on.now.net.now task.now.setting search.old }
     ensures search { OnOk result (IsSearch task.now.on.now.net.now search.new) }
     ensures routed { OnOk result (HasRouted task.now.on.now.net.now task.now.setting search.old search.new) }
     ensures bound { IfOk result
@@ -247,11 +213,7 @@ pub(crate) fn one_phase<'a, G: Gate, R: Threads + Sync>(
     search: &mut Search,
     earlier: Option<Bounded>,
 ) -> Result<Bounded, AllocError>
-    requires no_cut { HasNoCut task.now.on.now.net.now }
-    requires setting { IsSetting task.now.setting }
-    requires search { IsSearch task.now.on.now.net.now search.old }
-    requires phases { phase_count search.old < MAX_PHASES }
-    requires work { length task.now.on.now.net.now.commodities * (phase_count search.old + 1) ≤ MAX_WORK }
+    requires { CanAddPhase task.now.on.now.net.now task.now.setting search.old }
     ensures search { OnOk result (IsSearch task.now.on.now.net.now search.new) }
     ensures routed { OnOk result (HasRouted task.now.on.now.net.now task.now.setting search.old search.new) }
     ensures bound { IfOk result

@@ -7,7 +7,7 @@ use crate::noted::{NotedRows, Sought, noted_row};
 use crate::places::Place;
 use flow_model::Net;
 use flow_paths::{PathStore, new_numbers, order_of, stored};
-use mcf_limits::{MAX_LENGTH, MAX_PHASES, MAX_WORK};
+use mcf_limits::{MAX_PHASES, MAX_WORK};
 use solver_run::Entry;
 use std::alloc::{AllocError, Global};
 use std::marker::Model;
@@ -42,10 +42,10 @@ impl Model for PathHistory {
 impl PathHistory {
     ghost use Rattle.std.specs.Prelude.{◌≡◌, ℕ, ◌+◌, ◌*◌, ◌<◌, ◌≤◌, [], OnOk, OnErr, IfOk, length, map};
     ghost use Rattle.flow_model.specs.Network.{Network};
-    ghost use Rattle.flow_paths.specs.PathRows.{row_at, IsFirstRow, Adds};
+    ghost use Rattle.flow_paths.specs.PathRows.{Adds};
     ghost use Rattle.solver_run.specs.History.{routed_in, AreRowsOf};
-    ghost use Rattle.flow_solver.specs.Rows.{phases_kept, AreApart, AreRowsFor};
-    ghost use Rattle.flow_solver.specs.Adding.{CanBeNoted, IsNoted, KeepsRows, AreBegun, AreNamed};
+    ghost use Rattle.flow_solver.specs.Rows.{phases_kept, AreRowsFor};
+    ghost use Rattle.flow_solver.specs.Adding.{CanBeAdded, CanBeNoted, IsNoted, KeepsRows, AreBegun, AreNamed};
 
     /// No phase and no row, for the commodities of the network.
     pub fn new(alloc: Global, net: &Net) -> Self
@@ -76,11 +76,7 @@ impl PathHistory {
         path: &[u16],
         amount: u64,
     ) -> Result<u32, AllocError>
-        requires apart { AreApart self.old.rows }
-        requires room { length self.old.rows < 4294967295 }
-        requires amount { amount ≤ MAX_LENGTH }
-        requires weight { (n : ℕ) → IsFirstRow self.old.rows k path.now n
-            → (row_at self.old.rows n).weight + amount ≤ MAX_LENGTH }
+        requires { CanBeAdded self.old.rows k path.now amount }
         ensures commodities { self.new.commodities ≡ self.old.commodities }
         ensures history { self.new.history ≡ self.old.history }
         ensures ok { IfOk result (Adds self.old.rows self.new.rows k path.now amount) }
@@ -105,11 +101,7 @@ impl PathHistory {
         path: &[u16],
         amount: u64,
     ) -> Result<u32, AllocError>
-        requires apart { AreApart self.old.rows }
-        requires room { length self.old.rows < 4294967295 }
-        requires amount { amount ≤ MAX_LENGTH }
-        requires weight { (n : ℕ) → IsFirstRow self.old.rows k path.now n
-            → (row_at self.old.rows n).weight + amount ≤ MAX_LENGTH }
+        requires { CanBeAdded self.old.rows k path.now amount }
         ensures commodities { self.new.commodities ≡ self.old.commodities }
         ensures history { self.new.history ≡ self.old.history }
         ensures ok { IfOk result (Adds self.old.rows self.new.rows k path.now amount) }

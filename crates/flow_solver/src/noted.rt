@@ -5,6 +5,7 @@ ghost use Rattle.flow_solver.specs.Rows.{IsRowOf};
 
 use flow_paths::PathStore;
 use std::alloc::{AllocError, Global};
+use std::hint::select_unpredictable;
 
 /// How many rows are noted of a commodity.
 const NOTED_ROWS: usize = 8;
@@ -37,11 +38,7 @@ impl NotedRows {
         let mut found = NO_ROW;
         for place in 0..NOTED_ROWS {
             // no branch: which of them it is follows no pattern
-            found = if self.marks[place] == mark {
-                self.rows[place]
-            } else {
-                found
-            };
+            found = select_unpredictable(self.marks[place] == mark, self.rows[place], found);
         }
         found
     }
@@ -77,8 +74,9 @@ fn mark_of(path: &[u16]) -> u32 {
     })
 }
 
-/// What was found of each commodity: its last row, and the rows of late, which are looked for among the others where the last one is of
-/// another path. The last rows stand alone, since most commodities need no more, and lie close together so.
+/// The row at which each commodity was found last, and those at which it was found of late, among which its path is looked for where
+/// the last row is of another path. The last rows are a list of their own: most commodities need no more, and so they lie close
+/// together.
 #[derive(Drop)]
 pub struct Sought {
     pub last: Vec<u32>,

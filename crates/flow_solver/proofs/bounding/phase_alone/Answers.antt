@@ -1,14 +1,17 @@
-use Rattle.flow_solver.proofs.Routing.{noted-search, noted-routed}
+use Rattle.std.proofs.lemmas.Result.{on_ok_weaker}
+use Rattle.flow_solver.proofs.Routing.{noted-phase}
 use Rattle.flow_solver.proofs.bounding.phase_alone.Goals as goal
 
 pub returns-clause-search : goal.returns-clause-search
 returns-clause-search g c =
     let e = c.note_and_bound.ensures in
-    noted-search c.args.task.now.on.now.net.now c.args.task.now.setting c.args.search.now c.route.new.search c.note_and_bound.new.search c.note_and_bound.result c.cells-cells.ensures.net c.requires.search
-    c.in_ok-route.ensures.routed e.loads e.hands e.commodities e.room e.rows e.phases
+    on_ok_weaker c.note_and_bound.result
+    (λ noted. (noted-phase c.args.task.now.on.now.net.now c.args.task.now.setting c.args.search.now c.route.new.search c.note_and_bound.new.search c.cells-cells.ensures.net c.requires.search_is
+    c.in_ok-route.ensures.routed e.loads e.hands e.commodities noted).0) e.noted
 
 pub returns-clause-routed : goal.returns-clause-routed
 returns-clause-routed g c =
     let e = c.note_and_bound.ensures in
-    noted-routed c.args.task.now.on.now.net.now c.args.task.now.setting c.args.search.now c.route.new.search c.note_and_bound.new.search c.note_and_bound.result c.cells-cells.ensures.net c.requires.search
-    c.in_ok-route.ensures.routed e.loads e.hands e.commodities e.room e.rows e.phases
+    on_ok_weaker c.note_and_bound.result
+    (λ noted. (noted-phase c.args.task.now.on.now.net.now c.args.task.now.setting c.args.search.now c.route.new.search c.note_and_bound.new.search c.cells-cells.ensures.net c.requires.search_is
+    c.in_ok-route.ensures.routed e.loads e.hands e.commodities noted).1) e.noted

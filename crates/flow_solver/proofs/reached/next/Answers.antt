@@ -1,4 +1,4 @@
-use Rattle.std.proofs.Common.{ℕ, ◌+◌, ◌*◌, ◌≤◌, List, length, get_or, sym, ap, ◌∙◌, subst, arith, false}
+use Rattle.std.proofs.Common.{rules, ℕ, ◌+◌, ◌*◌, ◌≤◌, List, length, get_or, sym, ap, ◌∙◌, subst, arith, false}
 use Rattle.std.proofs.Math.Nat.{mul-le-mul_left}
 use Rattle.mcf_limits.specs.declared.TheConstants.{MAX_LENGTH, MAX_TOTAL}
 use Rattle.flow_model.specs.declared.setting.Setting.{Setting}
@@ -9,12 +9,18 @@ use Rattle.flow_solver.proofs.Routing.{loads-size}
 use Rattle.flow_solver.proofs.Reaching.{count-more, next-reached, fill-after}
 use Rattle.flow_solver.proofs.reached.next.Goals as goal
 
-pub one_phase-requires-clause-work : goal.one_phase-requires-clause-work
-one_phase-requires-clause-work g c κs within =
+pub one_phase-requires-after_bounds : goal.one_phase-requires-after_bounds
+one_phase-requires-after_bounds g c κs within =
     let net = c.args.run.now.on.now.net.now in
     let more : phase_count c.args.reached.search + 1 ≤ c.args.run.now.options.now.phases = omega (arith, c.requires.budget) in
     let times = mul-le-mul_left (length net.commodities) more in
-    omega (arith, times, c.requires.options.work)
+    record {
+      no_cut = c.requires.no_cut;
+      setting_is = search rules;
+      search_is = search rules;
+      phases = search rules;
+      work = omega (arith, times, c.requires.options.work);
+    }
 
 pub measured-fill-requires-clause-count : goal.measured-fill-requires-clause-count
 measured-fill-requires-clause-count g c = ap (λ (xs : List ℕ). length xs) c.deref.ensures.value ∙ loads-size c.args.run.now.on.now.net.now c.one_phase.new.search c.in_ok-kept.ensures.search

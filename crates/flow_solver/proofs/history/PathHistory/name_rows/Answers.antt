@@ -24,9 +24,9 @@ loop-k-init c = record {
   named = search rules;
 }
 
-pub add_path-requires-clause-weight : goal.add_path-requires-clause-weight
+pub add_path-requires : goal.add_path-requires
 unfolding no_commodity
-add_path-requires-clause-weight c =
+add_path-requires c =
     let net = c.args.net.now in
     let v = c.commodities-commodities.ensures.value in
     let k = c.loop-k.k in
@@ -34,7 +34,12 @@ add_path-requires-clause-weight c =
     let this = get_or net.commodities k no_commodity in
     let path = path_at c.args.places.now k in
     let small : this.amount ≤ MAX_UNITS = (All-get_or (IsCommodity net.nodes) net.commodities k no_commodity l c.commodities-commodities.ensures.net.commodities).amount in
-    rw v (can_add net c.args.self.now.history c.loop-k.entries.items c.loop-k.self.rows this path k c.loop-k.invariant.count c.loop-k.invariant.begun (slice_get-get_or net.commodities k no_commodity l) small c.requires.phases)
+    record {
+      apart = c.loop-k.invariant.begun.apart;
+      room = search rules;
+      small = search rules;
+      weight = rw v (can_add net c.args.self.now.history c.loop-k.entries.items c.loop-k.self.rows this path k c.loop-k.invariant.count c.loop-k.invariant.begun (slice_get-get_or net.commodities k no_commodity l) small c.requires.phases);
+    }
 
 pub returns-in_err-push-clause-keeps : goal.returns-in_err-push-clause-keeps
 returns-in_err-push-clause-keeps c = adds_keep c.args.self.now.rows c.loop-k.self.rows c.add_path.new.self.rows (path_at c.args.places.now c.loop-k.k) c.loop-k.k c.in_ok-row.row _ c.loop-k.invariant.keeps c.in_ok-row.ensures.ok
