@@ -71,7 +71,8 @@ pub record HasRouted (net : Network) (setting : Setting) (old new : Search) : Ty
   pub phase : IsPhase net setting old.loads.items new.loads.items entries
   pub loaded : (c : ℕ) × (c < length net.cells) × (1 ≤ slice_index new.loads.items c)
 
--- one phase more can be routed, noted and bounded: no commodity is cut off, and phases and work stay within their limits
+-- from this search on, under this setting, one phase more can be routed, noted and bounded: no commodity is cut off, and phases and work
+-- stay within their limits
 pub record CanAddPhase (net : Network) (setting : Setting) (s : Search) : Type 0 where
   pub no_cut : HasNoCut net
   pub setting_is : IsSetting setting
@@ -87,8 +88,8 @@ CanBeBounded net setting loads room = IsSetting setting × (length loads ≡ len
 abbrev pub IsLesserUnder : Network → Setting → List ℕ → Option Bounded → Bounded → Type 0
 IsLesserUnder net setting loads earlier b = IsLesser net (lengths_of net setting loads) earlier b
 
--- the hands have routed a phase that is still to be noted, and of its loads a bound can be made
-pub record IsUnnoted (net : Network) (setting : Setting) (s : Search) : Type 0 where
+-- the hands have routed each commodity once; history, limits and room allow that the phase is noted and a bound made of the loads
+pub record CanNotePhase (net : Network) (setting : Setting) (s : Search) : Type 0 where
   pub rows : AreRowsFor net s.history.history s.history.rows
   pub commodities : s.history.commodities ≡ length net.commodities
   pub phases : phase_count s < MAX_PHASES
@@ -97,8 +98,9 @@ pub record IsUnnoted (net : Network) (setting : Setting) (s : Search) : Type 0 w
   pub routes : HaveRouted net s.hands.items
   pub bound : CanBeBounded net setting s.loads.items s.room
 
--- it is noted: what the hands have routed stands last, rows and entries belong together, and there is room for a bound again
+-- the search has noted the phase that its hands routed: it stands last, rows and entries belong together, and there is room for a bound
 pub record HasNoted (net : Network) (old new : Search) : Type 0 where
   pub rows : AreRowsFor net new.history.history new.history.rows
-  pub phases : (entries : List Routed) → IsRoutedOnce net old.hands.items entries → phases_in new ≡ phases_in old ++ entries ∷ []
+  pub phases : (entries : List Routed) → IsRoutedOnce net old.hands.items entries
+      → phases_in new ≡ phases_in old ++ entries ∷ []
   pub room : IsBoundRoom net new.room

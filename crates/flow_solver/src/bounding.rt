@@ -2,7 +2,7 @@
 
 ghost use Rattle.std.specs.Prelude.{◌≡◌, ◌<◌, ◌≤◌, IfOk, OnOk, max};
 ghost use Rattle.flow_solver.specs.Adding.{CanBeNoted, IsNoted};
-ghost use Rattle.flow_solver.specs.Search.{CanAddPhase, CanBeBounded, HasNoted, HasRouted, IsBoundRoom, IsLesserUnder, IsSearch, IsUnnoted};
+ghost use Rattle.flow_solver.specs.Search.{CanAddPhase, CanBeBounded, CanNotePhase, HasNoted, HasRouted, IsBoundRoom, IsLesserUnder, IsSearch};
 
 use crate::filling::bound_beside;
 use crate::places::places_of;
@@ -78,7 +78,7 @@ pub(crate) fn note_and_bound<R: Threads + Sync>(
     threads: u16,
     earlier: Option<Bounded>,
 ) -> Result<Bounded, AllocError>
-    requires { IsUnnoted on.now.net.now setting.now search.old }
+    requires { CanNotePhase on.now.net.now setting.now search.old }
     ensures loads { search.new.loads ≡ search.old.loads }
     ensures hands { search.new.hands ≡ search.old.hands }
     ensures commodities { search.new.history.commodities ≡ search.old.history.commodities }
@@ -131,7 +131,7 @@ fn note_and_bound_with<'a, G: Gate>(
     search: &mut Search,
     earlier: Option<Bounded>,
 ) -> Result<Bounded, AllocError>
-    requires { IsUnnoted task.now.on.now.net.now task.now.setting search.old }
+    requires { CanNotePhase task.now.on.now.net.now task.now.setting search.old }
     ensures loads { search.new.loads ≡ search.old.loads }
     ensures hands { search.new.hands ≡ search.old.hands }
     ensures commodities { search.new.history.commodities ≡ search.old.history.commodities }

@@ -74,9 +74,8 @@ fn mark_of(path: &[u16]) -> u32 {
     })
 }
 
-/// The row at which each commodity was found last, and those at which it was found of late, among which its path is looked for where
-/// the last row is of another path. The last rows are a list of their own: most commodities need no more, and so they lie close
-/// together.
+/// The row that the path of each commodity had last, and the rows that its paths had of late, among which a path is looked for where the
+/// last row is of another one. The last rows are a list of their own: most commodities need no more, and so they lie close together.
 #[derive(Drop)]
 pub struct Sought {
     pub last: Vec<u32>,

@@ -2,7 +2,7 @@
 use Rattle.std.proofs.Common.{◌≡◌, ℕ, ◌+◌, ◌-◌, ◌≤◌, List, [], ◌∷◌, ◌++◌, length, take, drop, ap, sym, subst, ◌∙◌, arith, refl, length-append}
 use Rattle.std.specs.Prelude.{All, map}
 use Rattle.std.proofs.Math.Seq.{drop-append-add}
-use Rattle.std.proofs.lemmas.List.{map_push, drop-drop}
+use Rattle.std.proofs.lemmas.List.{map_push, drop-drop, drop_at, take-append-le, take_all}
 use Rattle.std.proofs.lemmas.List.Elements.{All-head, All-tail, All-push}
 use Rattle.phase_engine.specs.declared.route_buffer.Span.{Span}
 use Rattle.phase_engine.specs.Routes.{route_of, AreSpans}
@@ -34,13 +34,12 @@ pub routes-wider : (more cells cells' : List ℕ) (free : ℕ) (spans : List Spa
 routes-wider more cells cells' free spans a is =
     ap (λ (xs : List ℕ). map (route_of xs) spans) is ∙ routes-kept cells (more ++ cells) free spans a.within (wider-back more cells (length cells - free) (omega arith)) a.places
 
-pub spans-wider : (more cells cells' : List ℕ) (free : ℕ) (spans : List Span) → AreSpans cells free spans → cells' ≡ more ++ cells → AreSpans cells' (free + length more) spans
-spans-wider more cells cells' free spans a is =
-    let long : length cells' ≡ length more + length cells = ap length is ∙ length-append more cells in
-    record {
-      within = omega (arith, long, a.within);
-      places = λ j d l. let p = a.places j d l in (p.0, omega (arith, long, p.1));
-    }
+-- cells that were appended, and brought to the front
+pub rotated : (cells blank xs ys : List ℕ) (n k : ℕ) → xs ≡ cells ++ blank → length blank ≡ k → n ≡ length xs → ys ≡ drop (n - k) xs ++ take (n - k) xs → ys ≡ blank ++ cells
+rotated cells blank xs ys n k x b l y =
+    let long : length xs ≡ length cells + length blank = ap length x ∙ length-append cells blank in
+    let at : n - k ≡ length cells = omega (arith, long, b, l) in
+    y ∙ rw (at, x) (λ i. drop_at cells blank (length cells) refl i ++ (take-append-le (length cells) cells blank (omega arith) ∙ take_all (length cells) cells (omega arith)) i)
 
 -- what stands behind the free cells is the same
 written-back : (cells cells' : List ℕ) (free : ℕ) → free ≤ length cells → length cells' ≡ length cells → drop free cells' ≡ drop free cells → AreSameBack cells cells' (length cells - free)

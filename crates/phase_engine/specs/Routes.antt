@@ -7,13 +7,14 @@ pub record Route : Type 0 where
   pub commodity : ℕ
   pub path : List ℕ
 
--- the routes in a buffer, and how many more routes and cells it has room for
+-- the routes in a buffer, how many more routes and cells it has room for, and how many of these cells are ready to be written
 pub record RouteRoom : Type 0 where
   pub routes : List Route
   pub paths : ℕ
   pub cells : ℕ
+  pub ready : ℕ
 
--- the commodity, and the cells from so many before the end on
+-- the commodity, and as many cells as its path has, of which the first stands so many places before the end
 abbrev pub route_of : List ℕ → Span → Route
 route_of cells s = record { commodity = s.commodity; path = take s.len (drop (length cells - s.back) cells) }
 

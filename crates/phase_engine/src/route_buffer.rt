@@ -1,6 +1,6 @@
 //! The cells of all paths in one buffer, with room made beforehand.
 
-ghost use Rattle.std.specs.Prelude.{◌≡◌, ◌+◌, ◌-◌, ◌<◌, ◌≤◌, ◌++◌, [], ◌∷◌, Some, drop, length, slice_range, OnOk};
+ghost use Rattle.std.specs.Prelude.{◌≡◌, ◌+◌, ◌-◌, ◌<◌, ◌≤◌, ◌++◌, [], ◌∷◌, Some, drop, length, replicate, slice_range, OnOk, vec_len, vec_capacity};
 ghost use Rattle.dijkstra_paths.specs.Searched.{path_at};
 ghost use Rattle.load_table.specs.Seen.{IsPassOf};
 ghost use Rattle.load_table.specs.Reading.{OneWhere};
@@ -12,7 +12,7 @@ use load_table::{Loads, Pass};
 use std::alloc::{AllocError, Global};
 use std::marker::Model;
 
-/// A commodity, and where the cells of its path stand: so many places before the end of the buffer.
+/// A commodity, and where the cells of its path stand: the first of them so many places before the end of the buffer.
 #[derive(Clone, Copy, Debug, PartialEq, Eq)]
 pub(crate) struct Span {
     pub commodity: u32,
@@ -20,8 +20,10 @@ pub(crate) struct Span {
     pub len: usize,
 }
 
-/// Routes. Contracts see them, and how many more routes and cells there is room for. Cells fill the buffer from its end on, each path
-/// before the last one, since a search tells a path from its end on: so it is written once.
+/// Routes. Contracts see them, how many more routes and cells there is room for, and how many of these cells are ready. Cells fill the
+/// buffer from its end on, each path before the last one, since a search tells a path from its end on: so it is written once. The first
+/// `free` places are ready for more. What there is room for beyond them is made ready as it is needed: the longest paths of a group may
+/// take far more than its paths do.
 #[derive(Drop)]
 pub(crate) struct RouteBuffer {
     spans: Vec<Span>,
@@ -30,7 +32,7 @@ pub(crate) struct RouteBuffer {
 }
 
 impl Model for RouteBuffer {
-    ghost use Rattle.std.specs.Prelude.{◌-◌, map, vec_len, vec_capacity};
+    ghost use Rattle.std.specs.Prelude.{◌+◌, ◌-◌, map, vec_len, vec_capacity};
     ghost use Rattle.phase_engine.specs.Routes.{RouteRoom, route_of, AreSpans};
 
     ghost Value = { RouteRoom };
@@ -38,7 +40,8 @@ impl Model for RouteBuffer {
     ghost view = { λ b. record {
       routes = map (route_of b.cells.items) b.spans.items;
       paths = vec_capacity b.spans - vec_len b.spans;
-      cells = b.free;
+      cells = b.free + (vec_capacity b.cells - vec_len b.cells);
+      ready = b.free;
     } };
 
     ghost invariant = { λ b. AreSpans b.cells.items b.free b.spans.items };
@@ -81,42 +84,50 @@ impl RouteBuffer {
     }
 
     pub(crate) fn clear(&mut self)
-        ensures { self.new.routes ≡ [] }
+        ensures empty { self.new.routes ≡ [] }
+        ensures paths { self.old.paths ≤ self.new.paths }
+        ensures cells { self.old.cells ≤ self.new.cells }
     {
         self.spans.clear();
         self.free = self.cells.len();
     }
 
-    /// Makes room for so many more cells, or for as many more as there are.
-    fn widen(&mut self, alloc: Global, cells: usize) -> Result<(), AllocError>
+    /// Makes more places ready, of those that there is room for: so many, or as many as there are already, if that is more.
+    fn widen(&mut self, cells: usize)
+        requires { cells ≤ self.old.cells }
         ensures same { self.new.routes ≡ self.old.routes }
         ensures paths { self.new.paths ≡ self.old.paths }
-        ensures cells { OnOk result (cells ≤ self.new.cells) }
+        ensures cells { self.new.cells ≡ self.old.cells }
+        ensures ready { cells ≤ self.new.ready }
     {
-        let more = cells.max(self.cells.len());
-        let mut wider = vec![in alloc; 0; more]?;
-        wider.extend_from_slice(&self.cells)?;
-        self.cells = wider;
+        let len = self.cells.len();
+        let more = cells.max(len).min(self.cells.capacity() - len);
+        append_blank(&mut self.cells, more);
+        self.cells.rotate_right(more);
         self.free += more;
-        Ok(())
+    }
+
+    /// Makes so many cells ready, for which there is room.
+    pub(crate) fn make_ready(&mut self, cells: usize)
+        requires { cells ≤ self.old.cells }
+        ensures same { self.new.routes ≡ self.old.routes }
+        ensures paths { self.new.paths ≡ self.old.paths }
+        ensures cells { self.new.cells ≡ self.old.cells }
+        ensures ready { cells ≤ self.new.ready }
+    {
+        if self.free < cells {
+            self.widen(cells);
+        }
     }
 
     /// Makes room for so many more paths, of so many cells together.
-    pub(crate) fn reserve(
-        &mut self,
-        alloc: Global,
-        paths: usize,
-        cells: usize,
-    ) -> Result<(), AllocError>
+    pub(crate) fn reserve(&mut self, paths: usize, cells: usize) -> Result<(), AllocError>
         ensures same { self.new.routes ≡ self.old.routes }
         ensures paths { OnOk result (paths ≤ self.new.paths) }
         ensures cells { OnOk result (cells ≤ self.new.cells) }
     {
         self.spans.reserve(paths)?;
-        if self.free < cells {
-            self.widen(alloc, cells)?;
-        }
-        Ok(())
+        self.cells.reserve(cells.saturating_sub(self.free))
     }
 
     /// Adds the commodity's amount to each cell of the path that the search found to a node, and appends the route, for which there is
@@ -130,17 +141,17 @@ impl RouteBuffer {
         to: u16,
     )
         requires of { IsPassOf loads.now pass.old }
-        requires ready { OneWhere (IsReadyFor loads.now.terms commodity) pass.old.view.hands }
+        requires may { OneWhere (IsReadyFor loads.now.terms commodity) pass.old.view.hands }
         requires to { to < scratch.now.nodes }
         requires path { HasPath loads.now.terms.net.cells scratch.now to }
         requires paths { 0 < self.old.paths }
-        requires cells { scratch.now.nodes ≤ self.old.cells }
+        requires ready { scratch.now.nodes ≤ self.old.ready }
         ensures of { IsPassOf loads.now pass.new }
         ensures view { HasAddedAll (adds_along commodity (known_path scratch.now to)) pass.old.view pass.new.view }
         ensures routes { self.new.routes ≡ self.old.routes ++ record
             { commodity = commodity; path = known_path scratch.now to } ∷ [] }
         ensures paths { self.new.paths ≡ self.old.paths - 1 }
-        ensures cells { self.old.cells - scratch.now.nodes ≤ self.new.cells }
+        ensures cells { self.new.cells + length (known_path scratch.now to) ≡ self.old.cells }
     {
         let free = self.free;
         let start = put_before(&mut self.cells, free, scratch, to);
@@ -151,6 +162,18 @@ impl RouteBuffer {
             len: free - start,
         });
         self.free = start;
+    }
+}
+
+/// Appends so many cells, for which there is room.
+fn append_blank(cells: &mut Vec<u16>, count: usize)
+    requires { vec_len cells.old + count ≤ vec_capacity cells.old }
+    ensures items { cells.new.items ≡ cells.old.items ++ replicate count 0 }
+    ensures len { vec_len cells.new ≡ vec_len cells.old + count }
+    ensures capacity { vec_capacity cells.new ≡ vec_capacity cells.old }
+{
+    for _ in 0..count {
+        cells.push_reserved(0);
     }
 }
 

@@ -40,6 +40,7 @@ pub(crate) fn route_member(
 {
     let commodities = net.commodities();
     let to = commodities[k as usize].to;
+    buffer.make_ready(net.nodes() as usize);
     buffer.add_route(loads, pass, k, scratch, to);
 }
 

@@ -103,7 +103,6 @@ fn route_ticket(
 
 /// Claims and routes until a ticket is past the end, or room is refused, which it answers.
 fn claim_all<G: Watch>(
-    alloc: Global,
     shared: &Shared<'_, G>,
     worker: u16,
     pass: &mut Pass,
@@ -130,7 +129,7 @@ fn claim_all<G: Watch>(
     let most = greatest_group(input.net, input.groups);
     let cells = most * input.net.nodes() as usize;
     'claims: loop {
-        if buffer.reserve(alloc, most, cells).is_err() {
+        if buffer.reserve(most, cells).is_err() {
             return true;
         }
         let ticket = loads.claim(pass);
@@ -172,7 +171,6 @@ pub fn work<G: Watch>(
         Err(_) => return Worked { pass, memory: true },
     };
     let memory = claim_all(
-        alloc,
         shared,
         worker,
         &mut pass,
