@@ -1,6 +1,7 @@
 -- The path is written from its end.
-use Rattle.std.proofs.Common.{◌≡◌, ◌≢◌, inl, inr, ℕ, zero, suc, ◌+◌, ◌-◌, ◌<◌, ◌≤◌, List, [], ◌∷◌, ◌++◌, Some, None, length, get_or, set, drop, cond, refl, sym, ap, subst, ◌∙◌, arith, append_assoc, ltb, append-nil}
+use Rattle.std.proofs.Common.{◌≡◌, ◌≢◌, inl, inr, ℕ, zero, suc, ◌+◌, ◌-◌, ◌<◌, ◌≤◌, List, [], ◌∷◌, ◌++◌, Some, None, length, get_or, set, drop, take, cond, refl, sym, ap, subst, ◌∙◌, arith, append_assoc, ltb, append-nil}
 use Rattle.std.proofs.Math.ListN.{drop_of_length-le}
+use Rattle.std.proofs.lemmas.List.{take-set, take-take}
 use Rattle.std.proofs.lemmas.Bool.{cases_eq, eq-eqb, ne_eqb}
 use Rattle.dijkstra_paths.specs.declared.search.Step.{Step}
 use Rattle.dijkstra_paths.specs.Tree.{step_at}
@@ -50,6 +51,15 @@ trail-more via from (suc k) at path whole p l n h =
     let moved : trail via from k s.from ++ drop k (set path k s.cell) ≡ whole =
     rw (drop-put path k s.cell inside) (sym (append_assoc (trail via from k s.from) (s.cell ∷ []) (drop (suc k) path)) ∙ (ap (λ (xs : List ℕ). xs ++ drop (suc k) path) (sym (trail-next via from k at n)) ∙ h)) in
     subst (λ (f : ℕ). trail via from f s.from ++ drop f (set path f s.cell) ≡ whole) (sym less) moved
+
+-- one cell more is written before those that are, and the cells before it stay
+pub take-less : (path before : List ℕ) (start c : ℕ) → take start path ≡ take start before → take (start - 1) (set path (start - 1) c) ≡ take (start - 1) before
+take-less path before start c same =
+    let less : start - 1 ≤ start = omega arith in
+    take-set path (start - 1) c
+    ∙ (sym (take-take (start - 1) start path less)
+    ∙ (ap (take (start - 1)) same
+    ∙ take-take (start - 1) start before less))
 
 pub paths-at : (via : List Step) (from nodes k : ℕ) (dist : List ℕ) (v : ℕ) → v < length dist
     → get_or (paths_from via from nodes k dist) v None ≡ cond (ltb (get_or dist v 0) MAX_LENGTH) (Some (trail via from nodes (k + v))) None

@@ -1,6 +1,6 @@
 //! The room that searches work in.
 
-ghost use Rattle.std.specs.Prelude.{◌≡◌, ℕ, ◌<◌, ◌≤◌, length, slice_index, IfOk, drop};
+ghost use Rattle.std.specs.Prelude.{◌≡◌, ℕ, ◌<◌, ◌≤◌, length, slice_index, IfOk, drop, take};
 ghost use Rattle.dijkstra_paths.specs.Searched.{trail, Ends};
 ghost use Rattle.dijkstra_paths.specs.Tree.{IsDone, IsFront, IsTree};
 ghost use Rattle.flow_model.specs.Lengths.{AreLengths};
@@ -155,7 +155,7 @@ fn search_among(
 }
 
 impl Scratch {
-    ghost use Rattle.std.specs.Prelude.{◌≡◌, ℕ, ◌<◌, ◌≤◌, None, length, IfOk, IfSome};
+    ghost use Rattle.std.specs.Prelude.{◌≡◌, ℕ, ◌<◌, ◌≤◌, None, length, IfOk, IfSome, MatchOption};
     ghost use Rattle.std.specs.Option.{option_map};
     ghost use Rattle.std.specs.Borrow.{sem};
     ghost use Rattle.dijkstra_paths.specs.Lending.{Keeps};
@@ -219,7 +219,7 @@ impl Scratch {
     }
 
     /// The same, where the tree of an earlier search from that node makes it quick. Nothing is asked of the tree: one of
-    /// another node, another graph or another number of nodes costs time alone. It is left as this search's.
+    /// another node, another graph or another number of nodes costs time alone. It is left as this search's, if it has as many nodes.
     pub fn search_from(&mut self, graph: &Graph, lengths: &[u64], from: u16, tree: &mut Tree)
         requires lengths { AreLengths graph.now.cells lengths.now }
         requires nodes { self.old.nodes ≡ graph.now.nodes }
@@ -278,14 +278,16 @@ impl Scratch {
         Some(rest(&self.path, start))
     }
 
-    /// Puts the cells of a least walk to the node at the end of a list with room for as many cells as there are nodes, if the node was
-    /// reached, and answers the place where they begin.
+    /// Writes the cells of a least walk to the node into the last places of the list, which has at least as many places as there are
+    /// nodes, and answers where they begin; or `None`, if the node was not reached. What stands before them stays.
     #[inline(always)]
     pub fn put_path(&self, to: u16, list: &mut [u16]) -> Option<usize>
         requires node { to < self.now.nodes }
         requires room { self.now.nodes ≤ length list.old }
         ensures path { option_map (λ start. drop start list.new) result ≡ path_at self.now to }
         ensures within { IfSome result (λ start. start ≤ length list.new) }
+        ensures kept { MatchOption result (list.new ≡ list.old)
+            (λ start. take start list.new ≡ take start list.old) }
     {
         if self.front.dist.as_slice()[to as usize] >= MAX_LENGTH {
             return None;
@@ -303,21 +305,22 @@ fn rest(path: &[u16], start: usize) -> &[u16]
     &path[start..]
 }
 
-/// Puts the cells of the steps to a node at the end of the path, and gives the place where they begin.
+/// Writes the cells of the steps to a node into the last places of the list, and answers where they begin.
 #[inline(always)]
-fn trace(steps: &[Step], from: u16, to: u16, path: &mut [u16]) -> usize
-    requires room { length steps.now ≤ length path.old }
+fn trace(steps: &[Step], from: u16, to: u16, list: &mut [u16]) -> usize
+    requires room { length steps.now ≤ length list.old }
     requires to { to < length steps.now }
     requires ends { Ends steps.now (length steps.now) from (length steps.now) to }
-    ensures within { result ≤ length path.new }
-    ensures value { drop result path.new ≡ trail steps.now from (length steps.now) to }
+    ensures within { result ≤ length list.new }
+    ensures value { drop result list.new ≡ trail steps.now from (length steps.now) to }
+    ensures kept { take result list.new ≡ take result list.old }
 {
-    let mut start = path.len();
+    let mut start = list.len();
     let mut at = to;
     while at != from {
         let step = steps[at as usize];
         start -= 1;
-        path[start] = step.cell;
+        list[start] = step.cell;
         at = step.from;
     }
     start
