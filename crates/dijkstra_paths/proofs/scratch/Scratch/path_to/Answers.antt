@@ -19,8 +19,8 @@ returns c =
     let size : i.nodes ≡ c.args.self.now.nodes = ap (λ (s : Searched). s.nodes) c.self.view_is in
     let near : get_or i.front.dist.items c.args.to 0 < MAX_LENGTH = subst (λ (xs : List ℕ). get_or xs c.args.to 0 < MAX_LENGTH) c.as_slice.ensures.value c.if-as_slice-to-ge-MAX_LENGTH.false in
     let via : c.as_slice-2.result.now ≡ i.front.steps.items = c.as_slice-2.ensures.value in
-    let whole : length c.trace-start.new.path ≡ i.path.len = omega arith in
-    let path : c.deref.result.now ≡ c.trace-start.new.path = c.deref.ensures.value ∙ with_items_is i.path c.trace-start.new.path whole in
+    let whole : length c.trace-start.new.list ≡ i.path.len = omega arith in
+    let path : c.deref.result.now ≡ c.trace-start.new.list = c.deref.ensures.value ∙ with_items_is i.path c.trace-start.new.list whole in
     let many : length i.front.steps.items ≡ i.nodes = c.self.invariant.fits.steps in
     let walk : c.rest.result.now ≡ trail i.front.steps.items i.from i.nodes c.args.to =
     c.rest.ensures ∙ (ap (λ (xs : List ℕ). drop c.trace-start.result xs) path ∙ (c.trace-start.ensures.value
