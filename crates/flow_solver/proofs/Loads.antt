@@ -39,6 +39,11 @@ loads-more net phases e old new is size each =
     omega arith)) in
     now ∙ ap (loads_of net) (sym all)
 
+any_default : (xs : List ℕ) (i d f : ℕ) → i < length xs → get_or xs i d ≡ get_or xs i f
+any_default [] i d f l = absurd (omega arith)
+any_default (x ∷ xs) zero d f l = refl
+any_default (x ∷ xs) (suc i) d f l = any_default xs i d f (omega arith)
+
 -- loads that have grown by at most t
 pub loads-small : (old new : List ℕ) (more : ℕ → ℕ) (m t : ℕ) → length new ≡ length old → ((c : ℕ) → c < length old → get_or new c 0 ≡ get_or old c 0 + more c) → ((c : ℕ) → more c ≤ t)
     → All (λ (x : ℕ). x ≤ m * t) old → All (λ (x : ℕ). x ≤ (m + 1) * t) new
@@ -49,11 +54,16 @@ loads-small old new more m t same each few h = λ c d l.
     let before : get_or old c 0 ≤ m * t = h c 0 inside in
     let product : (m + 1) * t ≡ m * t + t = omega arith in
     subst (λ (x : ℕ). x ≤ (m + 1) * t) (any_default new c 0 d l) (omega arith)
-  where
-    any_default : (xs : List ℕ) (i d f : ℕ) → i < length xs → get_or xs i d ≡ get_or xs i f
-    any_default [] i d f l = absurd (omega arith)
-    any_default (x ∷ xs) zero d f l = refl
-    any_default (x ∷ xs) (suc i) d f l = any_default xs i d f (omega arith)
+
+-- where there was room for t, they are within the limit
+pub loads-within : (old new : List ℕ) (more : ℕ → ℕ) (t limit : ℕ) → length new ≡ length old → ((c : ℕ) → c < length old → get_or new c 0 ≡ get_or old c 0 + more c) → ((c : ℕ) → more c ≤ t)
+    → All (λ (x : ℕ). x + t ≤ limit) old → All (λ (x : ℕ). x ≤ limit) new
+loads-within old new more t limit same each few h = λ c d l.
+    let inside : c < length old = omega arith in
+    let a = each c inside in
+    let b = few c in
+    let before : get_or old c 0 + t ≤ limit = h c 0 inside in
+    subst (λ (x : ℕ). x ≤ limit) (any_default new c 0 d l) (omega arith)
 
 -- a cell stands at most once in a path of different cells
 pub once : (c : ℕ) (path : List ℕ) → AreDifferent path → times c path ≤ 1

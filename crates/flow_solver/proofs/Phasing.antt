@@ -1,5 +1,6 @@
 -- The hands of a phase by a crew, from one list to the next.
 use Rattle.std.proofs.Common.{◌≡◌, ℕ, ◌<◌, List, length, get_or, sym, ap, ◌∙◌, subst, arith}
+use Rattle.std.specs.Prelude.{IfOk, Ok, Result}
 use Rattle.flow_model.specs.Network.{Network}
 use Rattle.load_table.specs.Seen.{LoadsView}
 use Rattle.phase_engine.specs.declared.hand.Hand.{Hand}
@@ -51,3 +52,7 @@ module _ (net : Network) (table l : LoadsView) (hands out mid back : List Hand) 
       let end : IsSameWorker (get_or back k d) (get_or final k d) =
       subst (λ (p : List Hand × List Hand). IsSameWorker (get_or p.0 k d) (get_or p.1 k d)) (λ i. (is i, sym last i)) (ended k d (omega arith)) in
       same-on (get_or hands k d) (get_or out k d) (get_or final k d) (t.same k d less) (same-on (get_or out k d) (get_or back k d) (get_or final k d) (run-at k d less).0 end)
+
+-- what holds of an answer, where the answer is known
+pub from-ok : {T E : Type 0} (r : Result T E) (P : T → Type 0) (x : T) → r ≡ Ok x → IfOk r P → P x
+from-ok {T} {E} r P x is fact = subst (λ (s : Result T E). IfOk s P) is fact

@@ -1,14 +1,17 @@
 -- The search with one phase more.
-use Rattle.std.proofs.Common.{◌≡◌, ℕ, ◌+◌, ◌*◌, ◌<◌, ◌≤◌, Bool, true, false, nat_lt, List, [], ◌∷◌, ◌++◌, length, get_or, None, refl, sym, ap, ◌∙◌, subst, arith}
-use Rattle.std.specs.Prelude.{All, IfSome, OnOk, Option, Result, flat_map, take, replicate}
+use Rattle.std.proofs.Common.{◌≡◌, ℕ, ◌+◌, ◌-◌, ◌*◌, ◌<◌, ◌≤◌, Bool, true, false, nat_lt, List, [], ◌∷◌, ◌++◌, length, get_or, None, refl, sym, ap, ◌∙◌, subst, arith}
+use Rattle.std.specs.Prelude.{All, IfSome, Option, flat_map, take, replicate}
 use Rattle.std.proofs.lemmas.Bool.Decides.{nat_tests}
 use Rattle.std.proofs.lemmas.List.{length-map, length-append, length-replicate, get_or-replicate, get_or_append_left}
 use Rattle.std.proofs.lemmas.List.FromFn.{fill_by_all, length-map-range_with_len}
 use Rattle.std.proofs.lemmas.Option.{slice_get-get_or, slice_get_within}
-use Rattle.std.proofs.lemmas.Result.{on_ok_weaker}
 use Rattle.std.proofs.Math.Seq.{get_or-append_seam}
+use Rattle.std.specs.declared.vec.Vec.{Vec}
+use Rattle.std.specs.declared.alloc.Global.{Global}
 use Rattle.flow_model.specs.declared.setting.Setting.{Setting}
 use Rattle.flow_model.specs.Network.{Network, IsNetwork}
+use Rattle.flow_model.specs.Least.{HasNoCut}
+use Rattle.flow_model.specs.Lengths.{IsSetting}
 use Rattle.flow_model.specs.Routing.{load_of}
 use Rattle.flow_core.specs.Core.{IsStart}
 use Rattle.flow_core.specs.Phase.{Routed, amounts_along}
@@ -18,15 +21,16 @@ use Rattle.phase_engine.specs.declared.room.Room.{Room}
 use Rattle.phase_engine.specs.Hands.{HasRoomOf, IsFresh, IsSameWorker}
 use Rattle.phase_engine.specs.Rooms.{IsRoomOf}
 use Rattle.phase_engine.specs.Routing.{IsRoutedPhase}
+use Rattle.flow_solver.specs.Routes.{IsRoutedOnce}
 use Rattle.flow_solver.specs.Rows.{AreRowsFor, HistoryView, phases_kept}
 use Rattle.solver_run.specs.Paths.{IsPathOf, HavePaths}
 use Rattle.solver_run.specs.History.{routed_in, loads_after}
 use Rattle.solver_run.proofs.Paths.{phase-paths}
 use Rattle.flow_solver.specs.declared.search.Search.{Search}
 use Rattle.flow_solver.specs.declared.places.Place.{Place}
-use Rattle.flow_solver.specs.Adding.{ArePlaces, IsNoted}
-use Rattle.flow_solver.specs.Search.{AreIdle, IsBoundRoom, phases_in, phase_count, IsRouted, IsSearch, HasNoted, HasRouted}
-use Rattle.flow_solver.proofs.Loads.{loads-more, loads-small, once, phase-adds, phase-loads, total-amounts, room-above}
+use Rattle.flow_solver.specs.Adding.{ArePlaces, HasNoted, IsNoted}
+use Rattle.flow_solver.specs.Search.{AreIdle, CanRoute, HasAdded, HasRouted, IsBoundRoom, IsRouted, IsSearch, phases_in}
+use Rattle.flow_solver.proofs.Loads.{loads-more, loads-small, loads-within, once, phase-adds, phase-loads, total-amounts, room-above}
 
 -- hands
 
@@ -78,28 +82,28 @@ no-loads net n e =
 pub none-above : (xs : List ℕ) (n m : ℕ) → xs ≡ replicate n 0 → All (λ (x : ℕ). x ≤ m) xs
 none-above xs n m e = subst (λ (ys : List ℕ). All (λ (x : ℕ). x ≤ m) ys) (sym e) (λ k d l. (let z = get_or-replicate n k 0 d (omega (arith, length-replicate {A = ℕ} n 0)) in omega arith))
 
-pub start-of : (net : Network) (setting : Setting) (s : Search) (workers : ℕ) → IsNetwork net → IsSearch net s → phase_count s < MAX_PHASES → 1 ≤ workers → workers ≤ 16 → length s.loads.items ≡ length net.cells
+pub start-of : (net : Network) (setting : Setting) (s : Search) (workers : ℕ) → IsNetwork net → CanRoute net setting s → 1 ≤ workers → workers ≤ 16
     → IsStart (record { net = net; setting = setting; base = s.loads.items; workers = workers })
-start-of net setting s workers n is few some most size = record {
+start-of net setting s workers n can some most = record {
   net = n;
-  base = size;
+  base = can.count;
   room = λ c. (
       let all = total-amounts net.commodities in
       let sum = n.total in
-      room-above s.loads.items (phase_count s * MAX_TOTAL) _ MAX_LENGTH is.small (omega arith) c
+      room-above s.loads.items (MAX_LENGTH - MAX_TOTAL) _ MAX_LENGTH (λ k d l. (let small : get_or s.loads.items k d + MAX_TOTAL ≤ MAX_LENGTH = can.small k d l in omega arith)) (omega arith) c
       );
   some_worker = omega arith;
   few_workers = most;
 }
 
-pub count-of : (s : Search) → length (phases_in s) ≡ phase_count s
+pub count-of : (s : Search) → length (phases_in s) ≡ length s.history.history
 count-of s = length-map s.history.history (routed_in s.history.rows)
 
-pub loads-size : (net : Network) (s : Search) → IsSearch net s → length s.loads.items ≡ length net.cells
-loads-size net s is = ap (λ (xs : List ℕ). length xs) is.loads ∙ size
+pub loads-size : (net : Network) (phases : List (List Routed)) (s : Search) → IsSearch net phases s → length s.loads.items ≡ length net.cells
+loads-size net phases s is = ap (λ (xs : List ℕ). length xs) is.loads ∙ size
   where
-    size : length (loads_after net (phases_in s) (phase_count s)) ≡ length net.cells
-    size = length-map-range_with_len (load_of (flat_map (amounts_along 0 net.commodities) (take (phase_count s) (phases_in s)))) 0 (length net.cells)
+    size : length (loads_after net phases (length phases)) ≡ length net.cells
+    size = length-map-range_with_len (load_of (flat_map (amounts_along 0 net.commodities) (take (length phases) phases))) 0 (length net.cells)
 
 -- some cell was loaded
 pub some-load : (net : Network) (entries : List Routed) (base loads : List ℕ) → IsNetwork net → HavePaths net entries → length entries ≡ length net.commodities
@@ -120,96 +124,126 @@ some-load net (e ∷ es) base loads n have count sums = by_path e.path refl
         let sum = sums c inside in
         (c, inside, omega arith)
 
--- loads after one phase more
-loads-limit-more : (net : Network) (setting : Setting) (old : Search) (loads : List ℕ) (hands : List Hand) → IsNetwork net → IsSearch net old → (p : IsRoutedPhase net setting old.loads.items loads hands)
-    → length loads ≡ length net.cells → All (λ (x : ℕ). x ≤ (phase_count old + 1) * MAX_TOTAL) loads
-loads-limit-more net setting old loads hands n is p size =
-    let old_size = loads-size net old is in
-    let have = phase-paths net setting old.loads.items loads p.entries n p.phase in
+-- one phase adds at most all amounts to a cell
+adds-few : (net : Network) (setting : Setting) (base loads : List ℕ) (hands : List Hand) → IsNetwork net → (p : IsRoutedPhase net setting base loads hands)
+    → (c : ℕ) → load_of (amounts_along 0 net.commodities p.entries) c ≤ MAX_TOTAL
+adds-few net setting base loads hands n p c =
+    let have = phase-paths net setting base loads p.entries n p.phase in
     let sum = n.total in
-    loads-small old.loads.items loads (load_of (amounts_along 0 net.commodities p.entries)) (phase_count old) MAX_TOTAL (omega arith) (λ c l. p.sums c (omega arith))
-    (λ c. (let few = phase-adds net.commodities p.entries 0 c (λ k r at. once c r.path (have k r at).different) in omega arith)) is.small
+    let few = phase-adds net.commodities p.entries 0 c (λ k r at. once c r.path (have k r at).different) in
+    omega arith
 
-pub search-more : (net : Network) (setting : Setting) (old new : Search) (hands : List Hand) → IsNetwork net → IsSearch net old → (p : IsRoutedPhase net setting old.loads.items new.loads.items hands)
-    → length new.loads.items ≡ length net.cells → phases_in new ≡ phases_in old ++ p.entries ∷ [] → IsBoundRoom net new.room → AreIdle net new.hands.items
-    → new.history.commodities ≡ length net.commodities → AreRowsFor net new.history.history new.history.rows → IsSearch net new
-search-more net setting old new hands n is p size phases room idle commodities rows =
-    let before = count-of old in
-    let after = count-of new in
-    let longer = ap (λ (xs : List (List Routed)). length xs) phases in
-    let appended = length-append (phases_in old) (p.entries ∷ []) in
-    let count : phase_count new ≡ phase_count old + 1 = omega arith in
-    let old_size = loads-size net old is in
-    let loads = loads-more net (phases_in old) p.entries old.loads.items new.loads.items (is.loads ∙ ap (λ (i : ℕ). loads_after net (phases_in old) i) (sym before)) size p.sums in
+-- the search with one phase more
+pub search-more : (net : Network) (setting : Setting) (phases : List (List Routed)) (old new : Search) → IsNetwork net → IsSearch net phases old → (h : HasRouted net setting old new) → IsBoundRoom net new.room
+    → new.history.commodities ≡ length net.commodities → AreRowsFor net new.history.history new.history.rows → IsSearch net (phases ++ h.phase.entries ∷ []) new
+search-more net setting phases old new n is h room commodities rows =
+    let p = h.phase in
+    let more : length (phases ++ p.entries ∷ []) ≡ length phases + 1 = length-append phases (p.entries ∷ []) in
+    let old_size = loads-size net phases old is in
+    let new_size = h.count in
+    let loads = loads-more net phases p.entries old.loads.items new.loads.items is.loads new_size p.sums in
+    let small = loads-small old.loads.items new.loads.items (load_of (amounts_along 0 net.commodities p.entries)) (length phases) MAX_TOTAL (omega arith) (λ c l. p.sums c (omega arith))
+    (adds-few net setting old.loads.items new.loads.items new.hands.items n p) is.small in
     record {
-      loads = loads ∙ ap (λ (ps : List (List Routed)). loads_after net ps (length (phases_in old) + 1)) (sym phases) ∙ ap (λ (i : ℕ). loads_after net (phases_in new) i) (omega arith);
-      small = subst (λ (i : ℕ). All (λ (x : ℕ). x ≤ i * MAX_TOTAL) new.loads.items) (sym count)
-          (loads-limit-more net setting old new.loads.items hands n is p size);
+      loads = loads ∙ ap (λ (i : ℕ). loads_after net (phases ++ p.entries ∷ []) i) (sym more);
+      small = subst (λ (i : ℕ). All (λ (x : ℕ). x ≤ i * MAX_TOTAL) new.loads.items) (sym more) small;
       room = room;
-      hands = idle;
+      hands = h.hands;
+      spare = h.spare;
+      pairs = h.pairs;
       commodities = commodities;
       rows = rows;
     }
 
 -- who routed something is one of the hands
-few-workers : (net : Network) (setting : Setting) (base loads : List ℕ) (hands : List Hand) (p : IsRoutedPhase net setting base loads hands) → All (λ (r : Routed). r.worker < length hands) p.entries
+pub few-workers : (net : Network) (setting : Setting) (base loads : List ℕ) (hands : List Hand) (p : IsRoutedPhase net setting base loads hands) → All (λ (r : Routed). r.worker < length hands) p.entries
 few-workers net setting base loads hands p = λ k d l. (
     let r = get_or p.entries k d in
     let routed = (p.routes k r.worker r.path).0 (slice_get-get_or p.entries k d l) in
     slice_get_within hands r.worker routed.0 routed.1
     )
 
-pub routed-more : (net : Network) (setting : Setting) (old new : Search) (hands : List Hand) → IsNetwork net → (p : IsRoutedPhase net setting old.loads.items new.loads.items hands)
-    → phases_in new ≡ phases_in old ++ p.entries ∷ [] → length hands ≡ length old.hands.items → new.hands.items ≡ hands → HasRouted net setting old new
-routed-more net setting old new hands n p phases same are = record {
-  entries = p.entries;
-  phases = phases;
-  hands = ap (λ (hs : List Hand). length hs) are ∙ same;
-  workers = subst (λ (m : ℕ). All (λ (r : Routed). r.worker < m) p.entries) same (few-workers net setting old.loads.items new.loads.items hands p);
-  phase = p.phase;
-  loaded = some-load net p.entries old.loads.items new.loads.items n (phase-paths net setting old.loads.items new.loads.items p.entries n p.phase) p.count p.sums;
-}
-
--- what the hands have routed, before it is noted
-pub routed-phase : (net : Network) (setting : Setting) (old new : Search) → IsNetwork net → IsSearch net old → phase_count old < MAX_PHASES
-    → (p : IsRoutedPhase net setting old.loads.items new.loads.items new.hands.items) → length new.loads.items ≡ length net.cells → AreIdle net new.hands.items
-    → length new.hands.items ≡ length old.hands.items → new.room ≡ old.room → new.history ≡ old.history → IsRouted net setting old new
-routed-phase net setting old new n is few p size idle same room history =
-    let limit = loads-limit-more net setting old new.loads.items new.hands.items n is p size in
+-- what the hands have routed
+pub routed-phase : (net : Network) (setting : Setting) (old new : Search) → IsNetwork net → CanRoute net setting old → (p : IsRoutedPhase net setting old.loads.items new.loads.items new.hands.items)
+    → length new.loads.items ≡ length net.cells → AreIdle net new.hands.items → AreIdle net new.spare.items → length new.hands.items ≡ length old.hands.items → length new.spare.items ≡ length new.hands.items
+    → HasRouted net setting old new
+routed-phase net setting old new n can p size hands spare same pairs =
+    let old_size = can.count in
     record {
       phase = p;
       count = size;
-      small = λ k d l. (let small : get_or new.loads.items k d ≤ (phase_count old + 1) * MAX_TOTAL = limit k d l in omega arith);
+      small = loads-within old.loads.items new.loads.items (load_of (amounts_along 0 net.commodities p.entries)) MAX_TOTAL MAX_LENGTH (omega arith) (λ c l. p.sums c (omega arith))
+          (adds-few net setting old.loads.items new.loads.items new.hands.items n p) can.small;
       loaded = some-load net p.entries old.loads.items new.loads.items n (phase-paths net setting old.loads.items new.loads.items p.entries n p.phase) p.count p.sums;
-      hands = idle;
+      hands = hands;
+      spare = spare;
       same = same;
-      room = room;
-      history = history;
+      pairs = pairs;
     }
 
--- and then it is noted
-abbrev IsNext : Network → Setting → Search → Search → Type 0
-IsNext net setting old new = IsSearch net new × HasRouted net setting old new
+-- a search with these loads and hands
+abbrev with_hands : Search → Vec ℕ Global × Vec Hand Global × Vec Hand Global → Search
+with_hands s t = record { loads = t.0; room = s.room; hands = t.1; spare = t.2; history = s.history; sought = s.sought }
 
-pub noted-phase : (net : Network) (setting : Setting) (old mid new : Search) → IsNetwork net → IsSearch net old → IsRouted net setting old mid → new.loads ≡ mid.loads → new.hands ≡ mid.hands
-    → new.history.commodities ≡ mid.history.commodities → HasNoted net mid new → IsSearch net new × HasRouted net setting old new
-noted-phase net setting old mid new n is r loads hands commodities noted =
-    let room = noted.room in
-    let rows = noted.rows in
-    let phases = noted.phases in
-    let made : Search = record { loads = mid.loads; room = new.room; hands = mid.hands; history = new.history; sought = new.sought } in
-    let p = r.phase in
-    let more : phases_in made ≡ phases_in old ++ p.entries ∷ [] = phases p.entries (record { count = p.count; routes = p.routes }) ∙ ap (λ (h : HistoryView). phases_kept h ++ p.entries ∷ []) r.history in
-    let next : IsNext net setting old made = (
-      search-more net setting old made mid.hands.items n is p r.count more room r.hands (commodities ∙ ap (λ (h : HistoryView). h.commodities) r.history ∙ is.commodities) rows,
-      routed-more net setting old made mid.hands.items n p more r.same refl,
-    ) in
-    let same_hands : IsNext net setting old (record { loads = mid.loads; room = new.room; hands = new.hands; history = new.history; sought = new.sought }) =
-    subst (λ (hs : _). IsNext net setting old (record { loads = mid.loads; room = new.room; hands = hs; history = new.history; sought = new.sought })) (sym hands) next in
-    subst (λ (xs : _). IsNext net setting old (record { loads = xs; room = new.room; hands = new.hands; history = new.history; sought = new.sought })) (sym loads) same_hands
+-- of history and room nothing is said
+pub routed-same : (net : Network) (setting : Setting) (old mid new : Search) → HasRouted net setting old mid → new.loads ≡ mid.loads → new.hands ≡ mid.hands → new.spare ≡ mid.spare → HasRouted net setting old new
+routed-same net setting old mid new h loads hands spare =
+    let P : Vec ℕ Global × Vec Hand Global × Vec Hand Global → Type 0 = λ t. HasRouted net setting old (with_hands new t) in
+    let made : P (mid.loads, mid.hands, mid.spare) = record {
+      phase = h.phase;
+      count = h.count;
+      small = h.small;
+      loaded = h.loaded;
+      hands = h.hands;
+      spare = h.spare;
+      same = h.same;
+      pairs = h.pairs;
+    } in
+    subst P (λ i. (sym loads i, sym hands i, sym spare i)) made
 
--- where the rows of the phase are noted, and there is room for a bound again
-pub noted-all : {T E : Type 0} (net : Network) (places : List Place) (old new : Search) (r : Result T E) → IsNoted net places old.history new.history → ArePlaces net old.hands.items places
-    → OnOk r (IsBoundRoom net new.room) → OnOk r (HasNoted net old new)
-noted-all net places old new r noted are room =
-    on_ok_weaker r (λ space. record { rows = noted.rows; phases = λ entries once. noted.phases old.hands.items entries are once; room = space }) room
+-- the phase of which these are the places is noted
+pub noted-by : (net : Network) (hands : List Hand) (places : List Place) (old new : HistoryView) → new.commodities ≡ old.commodities → IsNoted net places old new → ArePlaces net hands places → HasNoted net hands old new
+noted-by net hands places old new same noted are = record {
+  commodities = same;
+  rows = noted.rows;
+  phases = λ entries once. noted.phases hands entries are once;
+}
+
+-- one phase more, and the one before it is noted
+pub added-phase : (net : Network) (setting : Setting) (old mid new : Search) → IsRouted net setting old mid → new.loads ≡ mid.loads → new.hands ≡ mid.hands → new.spare ≡ mid.spare
+    → HasNoted net mid.spare.items mid.history new.history → IsBoundRoom net new.room → HasAdded net setting old new
+added-phase net setting old mid new is loads hands spare noted room = record {
+  routed = routed-same net setting old mid new is.routed loads hands spare;
+  noted = subst (λ (h : HistoryView). HasNoted net old.hands.items h new.history) is.history (subst (λ (hs : Vec Hand Global). HasNoted net hs.items mid.history new.history) is.spare noted);
+  room = room;
+}
+
+-- whatever room for a bound is left
+pub added-again : (net : Network) (setting : Setting) (old mid new : Search) → HasAdded net setting old mid → new.loads ≡ mid.loads → new.hands ≡ mid.hands → new.spare ≡ mid.spare → new.history ≡ mid.history
+    → IsBoundRoom net new.room → HasAdded net setting old new
+added-again net setting old mid new a loads hands spare history room = record {
+  routed = routed-same net setting old mid new a.routed loads hands spare;
+  noted = subst (λ (h : HistoryView). HasNoted net old.hands.items old.history h) (sym history) a.noted;
+  room = room;
+}
+
+-- from a search of less than the most phases one more can be routed
+pub can-route : (net : Network) (setting : Setting) (phases : List (List Routed)) (s : Search) → HasNoCut net → IsSetting setting → IsSearch net phases s → length phases < MAX_PHASES → CanRoute net setting s
+can-route net setting phases s no_cut setting_is is few = record {
+  no_cut = no_cut;
+  setting_is = setting_is;
+  count = loads-size net phases s is;
+  small = λ k d l. (let small : get_or s.loads.items k d ≤ length phases * MAX_TOTAL = is.small k d l in omega arith);
+  hands = is.hands;
+  spare = is.spare;
+  pairs = is.pairs;
+}
+
+-- with the phase that is noted there is one more
+pub noted-count : (net : Network) (hands : List Hand) (old new : HistoryView) (last : List Routed) → HasNoted net hands old new → IsRoutedOnce net hands last → length new.history ≡ length old.history + 1
+noted-count net hands old new last noted once =
+    let before = length-map old.history (routed_in old.rows) in
+    let after = length-map new.history (routed_in new.rows) in
+    let longer = ap (λ (xs : List (List Routed)). length xs) (noted.phases last once) in
+    let appended = length-append (phases_kept old) (last ∷ []) in
+    omega arith

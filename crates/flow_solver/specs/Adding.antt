@@ -1,6 +1,6 @@
 -- A phase that is being added: its first entries, with their rows.
 use Rattle.std.specs.Prelude.{◌≡◌, ℕ, ◌+◌, ◌*◌, ◌<◌, ◌≤◌, List, [], ◌∷◌, ◌++◌, All, Contains, Some, length, slice_get, slice_index_or}
-use Rattle.mcf_limits.specs.declared.TheConstants.{MAX_DEMANDS, MAX_LENGTH, MAX_PHASES, MAX_WORK}
+use Rattle.mcf_limits.specs.declared.TheConstants.{MAX_DEMANDS, MAX_LENGTH, MAX_PHASES, MAX_WORK, MAX_WORKERS}
 use Rattle.flow_model.specs.Network.{Network}
 use Rattle.flow_model.specs.Routing.{Row}
 use Rattle.flow_paths.specs.PathRows.{row_at, IsFirstRow}
@@ -10,7 +10,7 @@ use Rattle.flow_core.specs.Phase.{Routed}
 use Rattle.solver_run.specs.declared.options.Entry.{Entry}
 use Rattle.solver_run.specs.History.{path_named, IsWeighed, NamesRows}
 use Rattle.flow_solver.specs.declared.places.Place.{Place}
-use Rattle.flow_solver.specs.Routes.{IsRoutedOnce}
+use Rattle.flow_solver.specs.Routes.{HaveRouted, IsRoutedOnce}
 use Rattle.flow_solver.specs.Rows.{AreApart, AreRowsFor, HistoryView, phases_kept}
 
 abbrev pub no_place : Place
@@ -37,12 +37,20 @@ pub record CanBeAdded (rows : List Row) (k : ℕ) (path : List ℕ) (amount : �
   pub small : amount ≤ MAX_LENGTH
   pub weight : (n : ℕ) → IsFirstRow rows k path n → (row_at rows n).weight + amount ≤ MAX_LENGTH
 
--- the phase of which these are the places can be noted
-pub record CanBeNoted (net : Network) (h : HistoryView) (places : List Place) : Type 0 where
+-- rows and entries belong together, and with one phase more they stay within their limits
+pub record CanTakePhase (net : Network) (h : HistoryView) : Type 0 where
   pub commodities : h.commodities ≡ length net.commodities
   pub rows : AreRowsFor net h.history h.rows
   pub phases : length h.history < MAX_PHASES
-  pub work : h.commodities * (length h.history + 1) ≤ MAX_WORK
+  pub work : length net.commodities * (length h.history + 1) ≤ MAX_WORK
+
+-- the phase that these hands have routed can be noted
+abbrev pub CanNote : Network → List Hand → HistoryView → Type 0
+CanNote net hands h = CanTakePhase net h × (length hands ≤ MAX_WORKERS) × HaveRouted net hands
+
+-- the phase of which these are the places can be noted
+pub record CanBeNoted (net : Network) (h : HistoryView) (places : List Place) : Type 0 where
+  pub can : CanTakePhase net h
   pub count : length places ≡ length net.commodities
   pub few : length places ≤ MAX_DEMANDS
 
@@ -50,6 +58,12 @@ pub record CanBeNoted (net : Network) (h : HistoryView) (places : List Place) : 
 pub record IsNoted (net : Network) (places : List Place) (old new : HistoryView) : Type 0 where
   pub rows : AreRowsFor net new.history new.rows
   pub phases : (hands : List Hand) (entries : List Routed) → ArePlaces net hands places → IsRoutedOnce net hands entries → phases_kept new ≡ phases_kept old ++ entries ∷ []
+
+-- the phase that these hands have routed is noted: it stands last, and rows and entries belong together
+pub record HasNoted (net : Network) (hands : List Hand) (old new : HistoryView) : Type 0 where
+  pub commodities : new.commodities ≡ old.commodities
+  pub rows : AreRowsFor net new.history new.rows
+  pub phases : (entries : List Routed) → IsRoutedOnce net hands entries → phases_kept new ≡ phases_kept old ++ entries ∷ []
 
 -- rows are appended, and the old ones keep their commodity and path
 pub record KeepsRows (old new : List Row) : Type 0 where

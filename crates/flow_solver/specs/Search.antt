@@ -3,14 +3,15 @@ use Rattle.std.specs.Prelude.{◌≡◌, ℕ, ◌+◌, ◌*◌, ◌<◌, ◌≤�
 use Rattle.flow_model.specs.declared.setting.Setting.{Setting}
 use Rattle.flow_model.specs.Network.{Network}
 use Rattle.flow_model.specs.Least.{HasNoCut}
-use Rattle.flow_core.specs.Phase.{Routed, IsPhase}
+use Rattle.flow_core.specs.Phase.{Routed}
 use Rattle.phase_engine.specs.declared.hand.Hand.{Hand}
 use Rattle.phase_engine.specs.Hands.{HasRoomOf}
 use Rattle.phase_engine.specs.Routing.{IsRoutedPhase}
-use Rattle.flow_solver.specs.Routes.{HaveRouted, IsRoutedOnce}
+use Rattle.flow_solver.specs.Adding.{CanNote, HasNoted}
+use Rattle.flow_solver.specs.Routes.{IsRoutedOnce}
 use Rattle.flow_solver.specs.Rows.{phases_kept, AreRowsFor}
 use Rattle.solver_run.specs.History.{loads_after}
-use Rattle.mcf_limits.specs.declared.TheConstants.{MAX_LENGTH, MAX_PHASES, MAX_TOTAL, MAX_WORK, MAX_WORKERS}
+use Rattle.mcf_limits.specs.declared.TheConstants.{MAX_LENGTH, MAX_TOTAL, MAX_WORKERS}
 use Rattle.flow_model.specs.Lengths.{IsSetting, lengths_of}
 use Rattle.dual_bound.specs.declared.bounds.Bounded.{Bounded}
 use Rattle.dual_bound.specs.Bounds.{IsLesser}
@@ -28,57 +29,76 @@ pub record AreIdle (net : Network) (hands : List Hand) : Type 0 where
   pub few : length hands ≤ MAX_WORKERS
   pub each : (k : ℕ) (d : Hand) → k < length hands → IsIdle net k (slice_index_or hands k d)
 
--- the phases that are kept
+-- the phases that are noted
 abbrev pub phases_in : Search → List (List Routed)
 phases_in s = phases_kept s.history
 
--- how many they are
+-- how many phases there are: those that are noted, and the last one
 abbrev pub phase_count : Search → ℕ
-phase_count s = length s.history.history
+phase_count s = length s.history.history + 1
 
 -- room for a length a cell, and for a row a source
 pub record IsBoundRoom (net : Network) (room : BoundRoom) : Type 0 where
   pub lengths : length room.lengths.items ≡ length net.cells
   pub rows : AreRoom net room.rows.items
 
--- the loads are those after the phases that are kept, with room for bounds, and rows and entries belong together
-pub record IsSearch (net : Network) (s : Search) : Type 0 where
-  pub loads : s.loads.items ≡ loads_after net (phases_in s) (phase_count s)
-  pub small : All (λ (x : ℕ). x ≤ phase_count s * MAX_TOTAL) s.loads.items
+-- the loads are those after these phases, with room for bounds and two hands for each worker; rows and entries belong together
+pub record IsSearch (net : Network) (phases : List (List Routed)) (s : Search) : Type 0 where
+  pub loads : s.loads.items ≡ loads_after net phases (length phases)
+  pub small : All (λ (x : ℕ). x ≤ length phases * MAX_TOTAL) s.loads.items
   pub room : IsBoundRoom net s.room
   pub hands : AreIdle net s.hands.items
+  pub spare : AreIdle net s.spare.items
+  pub pairs : length s.spare.items ≡ length s.hands.items
   pub commodities : s.history.commodities ≡ length net.commodities
   pub rows : AreRowsFor net s.history.history s.history.rows
 
--- the hands have routed one phase more under the setting, which is not noted yet: it has loaded some cell, loads are within their
--- limit, and the hands, of which there are as many, are idle again; room and history are as before
-pub record IsRouted (net : Network) (setting : Setting) (old new : Search) : Type 0 where
+-- the last of these phases is what the hands have routed, and those before it are noted
+pub record ArePhasesOf (net : Network) (s : Search) (phases : List (List Routed)) : Type 0 where
+  pub last : List Routed
+  pub phases_are : phases ≡ phases_in s ++ last ∷ []
+  pub routed : IsRoutedOnce net s.hands.items last
+
+-- one phase more can be routed under the setting: no commodity is cut off, loads leave room for it, and all hands are idle
+pub record CanRoute (net : Network) (setting : Setting) (s : Search) : Type 0 where
+  pub no_cut : HasNoCut net
+  pub setting_is : IsSetting setting
+  pub count : length s.loads.items ≡ length net.cells
+  pub small : All (λ (x : ℕ). x + MAX_TOTAL ≤ MAX_LENGTH) s.loads.items
+  pub hands : AreIdle net s.hands.items
+  pub spare : AreIdle net s.spare.items
+  pub pairs : length s.spare.items ≡ length s.hands.items
+
+-- the hands have routed one phase more under the setting: it has loaded some cell, loads are within their limit, and all hands, of which
+-- there are as many, are idle again
+pub record HasRouted (net : Network) (setting : Setting) (old new : Search) : Type 0 where
   pub phase : IsRoutedPhase net setting old.loads.items new.loads.items new.hands.items
   pub count : length new.loads.items ≡ length net.cells
   pub small : All (λ (x : ℕ). x ≤ MAX_LENGTH) new.loads.items
   pub loaded : (c : ℕ) × (c < length net.cells) × (1 ≤ slice_index new.loads.items c)
   pub hands : AreIdle net new.hands.items
+  pub spare : AreIdle net new.spare.items
   pub same : length new.hands.items ≡ length old.hands.items
+  pub pairs : length new.spare.items ≡ length new.hands.items
+
+-- so it is, and the hands that routed before are spare now; room and history are as before
+pub record IsRouted (net : Network) (setting : Setting) (old new : Search) : Type 0 where
+  pub routed : HasRouted net setting old new
+  pub spare : new.spare ≡ old.hands
   pub room : new.room ≡ old.room
   pub history : new.history ≡ old.history
 
--- one phase more under the setting, of the same hands, which has loaded some cell
-pub record HasRouted (net : Network) (setting : Setting) (old new : Search) : Type 0 where
-  pub entries : List Routed
-  pub phases : phases_in new ≡ phases_in old ++ entries ∷ []
-  pub hands : length new.hands.items ≡ length old.hands.items
-  pub workers : All (λ (r : Routed). r.worker < length old.hands.items) entries
-  pub phase : IsPhase net setting old.loads.items new.loads.items entries
-  pub loaded : (c : ℕ) × (c < length net.cells) × (1 ≤ slice_index new.loads.items c)
-
--- from this search on, under this setting, one phase more can be routed, noted and bounded: no commodity is cut off, and phases and work
--- stay within their limits
+-- one phase more can be routed and bounded under the setting, and the phase that the hands have routed can be noted
 pub record CanAddPhase (net : Network) (setting : Setting) (s : Search) : Type 0 where
-  pub no_cut : HasNoCut net
-  pub setting_is : IsSetting setting
-  pub search_is : IsSearch net s
-  pub phases : phase_count s < MAX_PHASES
-  pub work : length net.commodities * (phase_count s + 1) ≤ MAX_WORK
+  pub can : CanRoute net setting s
+  pub note : CanNote net s.hands.items s.history
+  pub room : IsBoundRoom net s.room
+
+-- the hands have routed one phase more under the setting, and the one before is noted; there is room for a bound
+pub record HasAdded (net : Network) (setting : Setting) (old new : Search) : Type 0 where
+  pub routed : HasRouted net setting old new
+  pub noted : HasNoted net old.hands.items old.history new.history
+  pub room : IsBoundRoom net new.room
 
 -- the setting, the loads and the room are what a bound of the lengths under these loads is made of, each within its limits
 abbrev pub CanBeBounded : Network → Setting → List ℕ → BoundRoom → Type 0
@@ -88,19 +108,7 @@ CanBeBounded net setting loads room = IsSetting setting × (length loads ≡ len
 abbrev pub IsLesserUnder : Network → Setting → List ℕ → Option Bounded → Bounded → Type 0
 IsLesserUnder net setting loads earlier b = IsLesser net (lengths_of net setting loads) earlier b
 
--- the hands have routed each commodity once; history, limits and room allow that the phase is noted and a bound made of the loads
+-- the phase that the spare hands have routed can be noted, and a bound made of the loads
 pub record CanNotePhase (net : Network) (setting : Setting) (s : Search) : Type 0 where
-  pub rows : AreRowsFor net s.history.history s.history.rows
-  pub commodities : s.history.commodities ≡ length net.commodities
-  pub phases : phase_count s < MAX_PHASES
-  pub work : length net.commodities * (phase_count s + 1) ≤ MAX_WORK
-  pub hands : length s.hands.items ≤ MAX_WORKERS
-  pub routes : HaveRouted net s.hands.items
+  pub note : CanNote net s.spare.items s.history
   pub bound : CanBeBounded net setting s.loads.items s.room
-
--- the search has noted the phase that its hands routed: it stands last, rows and entries belong together, and there is room for a bound
-pub record HasNoted (net : Network) (old new : Search) : Type 0 where
-  pub rows : AreRowsFor net new.history.history new.history.rows
-  pub phases : (entries : List Routed) → IsRoutedOnce net old.hands.items entries
-      → phases_in new ≡ phases_in old ++ entries ∷ []
-  pub room : IsBoundRoom net new.room

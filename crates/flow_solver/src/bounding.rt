@@ -1,10 +1,11 @@
-//! The rows of a phase are noted, and a bound is made of its loads.
+//! The rows of a phase are noted, one phase more is routed, and a bound is made of its loads.
 
 ghost use Rattle.std.specs.Prelude.{◌≡◌, ◌<◌, ◌≤◌, IfOk, OnOk, max};
-ghost use Rattle.flow_solver.specs.Adding.{CanBeNoted, IsNoted};
-ghost use Rattle.flow_solver.specs.Search.{CanAddPhase, CanBeBounded, CanNotePhase, HasNoted, HasRouted, IsBoundRoom, IsLesserUnder, IsSearch};
+ghost use Rattle.flow_solver.specs.Adding.{CanBeNoted, HasNoted, IsNoted};
+ghost use Rattle.flow_solver.specs.Search.{CanAddPhase, CanBeBounded, CanNotePhase, HasAdded, IsBoundRoom, IsLesserUnder};
 
-use crate::filling::bound_beside;
+use crate::filling::bound_with;
+use crate::noting::note_routes_of;
 use crate::places::places_of;
 use crate::prepared::{Prepared, Run, Task};
 use crate::search::{BoundRoom, Search, route, route_with};
@@ -24,7 +25,7 @@ const PATHS_OF_A_THREAD: usize = 4_096;
 const WORK_OF_SEVERAL: usize = 1_000_000;
 
 /// The lesser of an earlier bound, if there is one, and that of the lengths of these loads.
-fn bound_of<R: Threads + Sync>(
+pub(crate) fn bound_of<R: Threads + Sync>(
     team: &Team<'_, R>,
     alloc: Global,
     on: &Prepared<'_>,
@@ -44,7 +45,7 @@ fn bound_of<R: Threads + Sync>(
 
 /// In how many threads rows are noted and a bound is made, of at most so many, where so many workers have routed: in one, where one
 /// worker has routed a network that is not large.
-fn threads_for(on: &Prepared<'_>, workers: usize, most: u16) -> u16
+pub(crate) fn threads_for(on: &Prepared<'_>, workers: usize, most: u16) -> u16
     ensures { result ≤ max most 1 }
 {
     let work = on.groups.count() as usize * on.net.cells().len();
@@ -66,45 +67,70 @@ fn threads_beside(paths: usize, threads: u16) -> u16
     threads.saturating_sub(1)
 }
 
-/// Notes the rows of the phase that the hands have routed, and gives the lesser of an earlier bound, if there is one, and that of the
-/// loads of all phases, in at most so many threads. Where that pays, and there may be several, one of them notes the rows meanwhile.
-/// `Err` is for want of memory, and then the search can't go on.
-pub(crate) fn note_and_bound<R: Threads + Sync>(
-    rt: &R,
-    alloc: Global,
-    on: &Prepared<'_>,
-    setting: &Setting,
+/// Notes the rows of the phase that the spare hands have routed, and then gives the lesser of an earlier bound, if there is one, and that
+/// of the loads of all phases. `Err` is for want of memory, and then the search can't go on.
+fn note_and_bound<G: Gate, R: Threads + Sync>(
+    team: &Team<'_, R>,
+    task: &Task<'_, G>,
     search: &mut Search,
-    threads: u16,
     earlier: Option<Bounded>,
 ) -> Result<Bounded, AllocError>
-    requires { CanNotePhase on.now.net.now setting.now search.old }
+    requires { CanNotePhase task.now.on.now.net.now task.now.setting search.old }
     ensures loads { search.new.loads ≡ search.old.loads }
     ensures hands { search.new.hands ≡ search.old.hands }
-    ensures commodities { search.new.history.commodities ≡ search.old.history.commodities }
-    ensures noted { OnOk result (HasNoted on.now.net.now search.old search.new) }
-    ensures bound { IfOk result (IsLesserUnder on.now.net.now setting.now search.old.loads.items earlier) }
+    ensures spare { search.new.spare ≡ search.old.spare }
+    ensures noted { OnOk result (HasNoted task.now.on.now.net.now search.old.spare.items
+        search.old.history search.new.history × IsBoundRoom task.now.on.now.net.now search.new.room) }
+    ensures bound { IfOk result
+        (IsLesserUnder task.now.on.now.net.now task.now.setting search.old.loads.items earlier) }
 {
+    let alloc = task.alloc;
+    let on = task.on;
+    let loads = search.loads.as_slice();
+    note_routes_of(
+        alloc,
+        on.net,
+        &search.spare,
+        &mut search.history,
+        &mut search.sought,
+    )?;
+    bound_of(
+        team,
+        alloc,
+        on,
+        &task.setting,
+        loads,
+        &mut search.room,
+        earlier,
+    )
+}
+
+/// As `note_and_bound`, with the rows noted in a thread of their own, beside the bound.
+fn note_beside_bound<G: Gate, R: Threads + Sync>(
+    team: &Team<'_, R>,
+    task: &Task<'_, G>,
+    search: &mut Search,
+    earlier: Option<Bounded>,
+) -> Result<Bounded, AllocError>
+    requires { CanNotePhase task.now.on.now.net.now task.now.setting search.old }
+    ensures loads { search.new.loads ≡ search.old.loads }
+    ensures hands { search.new.hands ≡ search.old.hands }
+    ensures spare { search.new.spare ≡ search.old.spare }
+    ensures noted { OnOk result (HasNoted task.now.on.now.net.now search.old.spare.items
+        search.old.history search.new.history × IsBoundRoom task.now.on.now.net.now search.new.room) }
+    ensures bound { IfOk result
+        (IsLesserUnder task.now.on.now.net.now task.now.setting search.old.loads.items earlier) }
+{
+    let alloc = task.alloc;
+    let on = task.on;
     let net = on.net;
-    let places = places_of(alloc, net, &search.hands)?;
+    let setting = &task.setting;
+    let places = places_of(alloc, net, &search.spare)?;
     let places = places.as_slice();
     let loads = search.loads.as_slice();
     let history = &mut search.history;
     let sought = &mut search.sought;
     let room = &mut search.room;
-    let threads = threads_for(on, search.hands.len(), threads);
-    let beside = threads_beside(places.len(), threads);
-    let in_turn = beside == 0;
-    if in_turn {
-        let team = Team { rt, threads };
-        history.note_phase(alloc, net, places, sought)?;
-        return bound_of(&team, alloc, on, setting, loads, room, earlier);
-    }
-    let team = Team {
-        rt,
-        threads: beside,
-    };
-    let team = &team;
     let mut earlier = earlier;
     let earlier = &mut earlier;
     let mut note = || -> Result<(), AllocError>
@@ -117,48 +143,14 @@ pub(crate) fn note_and_bound<R: Threads + Sync>(
         ensures { OnOk result (IsBoundRoom on.entry.now.net.now room.exit.now)
             × IfOk result (IsLesserUnder on.entry.now.net.now setting.entry.now loads.entry.now earlier.entry.now) }
     { bound_of(team, alloc, on, setting, loads, room, earlier.take()) };
-    let (noted, bounded) = join_mut(rt, &mut note, &mut bound);
+    let (noted, bounded) = join_mut(team.rt, &mut note, &mut bound);
     noted?;
     bounded
 }
 
-/// As `note_and_bound`, with so many parts of the rows of the bound in threads of the crew. `Err` is for want of memory, or where the crew
-/// gave up; and then the search can't go on.
-fn note_and_bound_with<'a, G: Gate>(
-    task: &Task<'a, G>,
-    crew: &mut Crew<'_, Share<'a, G>>,
-    parts: u16,
-    search: &mut Search,
-    earlier: Option<Bounded>,
-) -> Result<Bounded, AllocError>
-    requires { CanNotePhase task.now.on.now.net.now task.now.setting search.old }
-    ensures loads { search.new.loads ≡ search.old.loads }
-    ensures hands { search.new.hands ≡ search.old.hands }
-    ensures commodities { search.new.history.commodities ≡ search.old.history.commodities }
-    ensures noted { OnOk result (HasNoted task.now.on.now.net.now search.old search.new) }
-    ensures bound { IfOk result
-        (IsLesserUnder task.now.on.now.net.now task.now.setting search.old.loads.items earlier) }
-{
-    let alloc = task.alloc;
-    let net = task.on.net;
-    let places = places_of(alloc, net, &search.hands)?;
-    let places = places.as_slice();
-    let loads = search.loads.as_slice();
-    let history = &mut search.history;
-    let sought = &mut search.sought;
-    let mut note = || -> Result<(), AllocError>
-        requires { CanBeNoted net.now history.now places.now }
-        ensures { (history.exit.now.commodities ≡ history.entry.now.commodities)
-            × OnOk result (IsNoted net.entry.now places.entry.now history.entry.now history.exit.now) }
-    { history.note_phase(alloc, net, places, sought) };
-    let room = &mut search.room;
-    let (noted, bounded) = bound_beside(task, loads, room, crew, parts, earlier, &mut note);
-    noted?;
-    bounded
-}
-
-/// One phase more, and the lesser of an earlier bound, if there is one, and that of the loads after it, under the same setting. `Err`
-/// is for want of memory, and then the search can't go on.
+/// One phase more, and the lesser of an earlier bound, if there is one, and that of the loads after it, under the same setting; the phase
+/// before is noted, beside the bound where that pays and there may be several threads. `Err` is for want of memory, and then the search
+/// can't go on.
 fn phase_alone<G: Gate, R: Threads + Sync>(
     run: &Run<'_, G, R>,
     task: &Task<'_, G>,
@@ -166,22 +158,26 @@ fn phase_alone<G: Gate, R: Threads + Sync>(
     earlier: Option<Bounded>,
 ) -> Result<Bounded, AllocError>
     requires { CanAddPhase task.now.on.now.net.now task.now.setting search.old }
-    ensures search { OnOk result (IsSearch task.now.on.now.net.now search.new) }
-    ensures routed { OnOk result (HasRouted task.now.on.now.net.now task.now.setting search.old search.new) }
+    ensures added { OnOk result (HasAdded task.now.on.now.net.now task.now.setting search.old search.new) }
     ensures bound { IfOk result
         (IsLesserUnder task.now.on.now.net.now task.now.setting search.new.loads.items earlier) }
 {
-    let _cells = task.on.net.cells();
     route(run.rt, task, search)?;
-    note_and_bound(
-        run.rt,
-        task.alloc,
-        task.on,
-        &task.setting,
-        search,
-        run.threads,
-        earlier,
-    )
+    let threads = threads_for(task.on, search.hands.len(), run.threads);
+    let beside = threads_beside(task.on.net.commodities().len(), threads);
+    if beside == 0 {
+        let team = Team {
+            rt: run.rt,
+            threads,
+        };
+        note_and_bound(&team, task, search, earlier)
+    } else {
+        let team = Team {
+            rt: run.rt,
+            threads: beside,
+        };
+        note_beside_bound(&team, task, search, earlier)
+    }
 }
 
 /// As `phase_alone`, with a crew, in whose threads hands take their turns and rows of the bound are filled. `Err` is for want of
@@ -194,18 +190,18 @@ fn phase_by_crew<'a, G: Gate, R: Threads + Sync>(
     earlier: Option<Bounded>,
 ) -> Result<Bounded, AllocError>
     requires { CanAddPhase task.now.on.now.net.now task.now.setting search.old }
-    ensures search { OnOk result (IsSearch task.now.on.now.net.now search.new) }
-    ensures routed { OnOk result (HasRouted task.now.on.now.net.now task.now.setting search.old search.new) }
+    ensures added { OnOk result (HasAdded task.now.on.now.net.now task.now.setting search.old search.new) }
     ensures bound { IfOk result
         (IsLesserUnder task.now.on.now.net.now task.now.setting search.new.loads.items earlier) }
 {
-    let _cells = task.on.net.cells();
     route_with(run.rt, task, crew, search)?;
-    note_and_bound_with(task, crew, run.others(), search, earlier)
+    let loads = search.loads.as_slice();
+    bound_with(task, loads, &mut search.room, crew, run.others(), earlier)
 }
 
 /// One phase more, by a crew where there is one, and the lesser of an earlier bound, if there is one, and that of the loads after it,
-/// under the same setting. `Err` is for want of memory, or where the crew gave up; and then the search can't go on.
+/// under the same setting; the phase before is noted. `Err` is for want of memory, or where the crew gave up; and then the search can't go
+/// on.
 pub(crate) fn one_phase<'a, G: Gate, R: Threads + Sync>(
     run: &Run<'a, G, R>,
     task: &Task<'a, G>,
@@ -214,8 +210,7 @@ pub(crate) fn one_phase<'a, G: Gate, R: Threads + Sync>(
     earlier: Option<Bounded>,
 ) -> Result<Bounded, AllocError>
     requires { CanAddPhase task.now.on.now.net.now task.now.setting search.old }
-    ensures search { OnOk result (IsSearch task.now.on.now.net.now search.new) }
-    ensures routed { OnOk result (HasRouted task.now.on.now.net.now task.now.setting search.old search.new) }
+    ensures added { OnOk result (HasAdded task.now.on.now.net.now task.now.setting search.old search.new) }
     ensures bound { IfOk result
         (IsLesserUnder task.now.on.now.net.now task.now.setting search.new.loads.items earlier) }
 {

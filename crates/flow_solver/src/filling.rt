@@ -23,84 +23,55 @@ use std::alloc::{AllocError, Global};
 use std::mem;
 use std::sync::Arc;
 
-/// Noting the row of a path takes about as long as a search takes for so many cells.
-const CELLS_OF_A_NOTE: usize = 6;
-
-/// How many rows each of so many parts has, so that its thread takes about as long as the caller's, which notes the rows of all paths
-/// before it fills the rows that are left.
-fn part_size(net: &Net, rows: usize, parts: usize) -> usize {
-    let noted = net.commodities().len().saturating_mul(CELLS_OF_A_NOTE);
-    let searched = rows.saturating_mul(net.cells().len());
-    let each = noted.saturating_add(searched) / parts.saturating_add(1);
-    let own = each.saturating_sub(noted) / net.cells().len().max(1);
-    rows.saturating_sub(own).div_ceil(parts.max(1))
-}
-
-/// Works on the shares in threads of the crew; meanwhile, it calls `lead` and then fills the rows here. `false` where the crew gave up.
-fn work_and_fill<'a, G: Gate, T, F: FnMut() -> T>(
+/// Works on the shares in threads of the crew, and fills the rows here meanwhile. `false` where the crew gave up.
+fn work_and_fill<'a, G: Gate>(
     task: &Task<'a, G>,
     lengths: &[u64],
     rows: &mut [Row],
     crew: &mut Crew<'_, Share<'a, G>>,
     shares: &mut [Option<Share<'a, G>>],
-    lead: &mut F,
-) -> (bool, T)
+) -> bool
     requires lengths { AreLengths task.now.on.now.graph.now.cells lengths.now }
     requires rows { All (IsRoom task.now.on.now.graph.now.nodes) rows.old }
     requires shares { (k : ℕ) (d : _) → k < length shares.old → Waits CanBeDone (slice_index_or shares.old k d) }
-    requires lead { F.pre lead.old }
-    ensures done { IsTrue result.0 → (k : ℕ) (d : _) → k < length shares.old
+    ensures done { IsTrue result → (k : ℕ) (d : _) → k < length shares.old
         → IsWorked IsDoneOf (slice_index_or shares.old k d) (slice_index_or shares.new k d) }
-    ensures lead { F.step lead.old result.1 lead.new }
     ensures sources { sources_of rows.new ≡ sources_of rows.old }
     ensures distances { All (HasDistances task.now.on.now.graph.now lengths.now) rows.new }
 {
     let alloc = task.alloc;
     let graph = task.on.graph;
-    let mut both = || -> T
-        requires { F.pre lead.now × AreLengths graph.now.cells lengths.now × All (IsRoom graph.now.nodes) rows.now }
-        ensures { F.step lead.entry.now result lead.exit.now
-            × (sources_of rows.exit.now ≡ sources_of rows.entry.now)
+    let mut fill = ||
+        requires { AreLengths graph.now.cells lengths.now × All (IsRoom graph.now.nodes) rows.now }
+        ensures { (sources_of rows.exit.now ≡ sources_of rows.entry.now)
             × All (HasDistances graph.entry.now lengths.entry.now) rows.exit.now }
-    {
-        let made = lead();
-        refill_rows(alloc, graph, lengths, rows);
-        made
-    };
-    crew.work_beside(shares, &mut both)
+    { refill_rows(alloc, graph, lengths, rows) };
+    let (whole, ()) = crew.work_beside(shares, &mut fill);
+    whole
 }
 
 /// Fills the rows anew with distances, each search from the tree of the one before: so many parts of them in threads of the crew, and the
-/// others here, after a call of `lead`. `Err` is for want of memory, or where the crew gave up; and then rows are lost.
-fn fill_beside<'a, G: Gate, T, F: FnMut() -> T>(
+/// others, about as many as a part has, here. `Err` is for want of memory, or where the crew gave up; and then rows are lost.
+fn fill_with<'a, G: Gate>(
     task: &Task<'a, G>,
     lengths: &Arc<Vec<u64>, Global>,
     rows: &mut Vec<Row>,
     crew: &mut Crew<'_, Share<'a, G>>,
     parts: u16,
-    lead: &mut F,
-) -> (T, Result<(), AllocError>)
+) -> Result<(), AllocError>
     requires lengths { AreLengths task.now.on.now.graph.now.cells (arc_value lengths.now).items }
     requires rows { All (IsRoom task.now.on.now.graph.now.nodes) rows.old.items }
-    requires lead { F.pre lead.old }
-    ensures lead { F.step lead.old result.0 lead.new }
-    ensures sources { OnOk result.1 (sources_of rows.new.items ≡ sources_of rows.old.items) }
-    ensures distances { OnOk result.1
+    ensures sources { OnOk result (sources_of rows.new.items ≡ sources_of rows.old.items) }
+    ensures distances { OnOk result
         (All (HasDistances task.now.on.now.graph.now (arc_value lengths.now).items) rows.new.items) }
 {
-    let alloc = task.alloc;
-    let graph = task.on.graph;
     let parts = parts as usize;
-    let size = part_size(task.on.net, rows.len(), parts);
-    let mut shares = match parts_of(alloc, graph, lengths, rows, parts, size) {
-        Ok(shares) => shares,
-        Err(error) => return (lead(), Err(error)),
-    };
-    let (whole, made) = work_and_fill(task, lengths, rows, crew, &mut shares, lead);
-    if !whole {
-        return (made, Err(AllocError));
+    let size = rows.len().div_ceil(parts + 1);
+    let mut shares = parts_of(task.alloc, task.on.graph, lengths, rows, parts, size)?;
+    if !work_and_fill(task, lengths, rows, crew, &mut shares) {
+        return Err(AllocError);
     }
-    (made, append_parts(rows, shares))
+    append_parts(rows, shares)
 }
 
 /// The lesser of an earlier bound, if there is one, and that of rows that were filled under these lengths, which go back to their room.
@@ -127,35 +98,26 @@ fn bound_after(
     Ok(bounded)
 }
 
-/// As `bound_of`, with so many parts of the rows in threads of the crew. Before the others are filled here, it calls `lead`. `Err` is for
-/// want of memory, or where the crew gave up or a part shares the lengths still, which no run does.
-pub(crate) fn bound_beside<'a, G: Gate, T, F: FnMut() -> T>(
+/// As `bound_of`, with so many parts of the rows in threads of the crew. `Err` is for want of memory, or where the crew gave up or a part
+/// shares the lengths still, which no run does.
+pub(crate) fn bound_with<'a, G: Gate>(
     task: &Task<'a, G>,
     loads: &[u64],
     room: &mut BoundRoom,
     crew: &mut Crew<'_, Share<'a, G>>,
     parts: u16,
     earlier: Option<Bounded>,
-    lead: &mut F,
-) -> (T, Result<Bounded, AllocError>)
-    requires can { CanBeBounded task.now.on.now.net.now task.now.setting loads.now room.old }
-    requires lead { F.pre lead.old }
-    ensures lead { F.step lead.old result.0 lead.new }
-    ensures room { OnOk result.1 (IsBoundRoom task.now.on.now.net.now room.new) }
-    ensures bound { IfOk result.1 (IsLesserUnder task.now.on.now.net.now task.now.setting loads.now earlier) }
+) -> Result<Bounded, AllocError>
+    requires { CanBeBounded task.now.on.now.net.now task.now.setting loads.now room.old }
+    ensures room { OnOk result (IsBoundRoom task.now.on.now.net.now room.new) }
+    ensures bound { IfOk result (IsLesserUnder task.now.on.now.net.now task.now.setting loads.now earlier) }
 {
     let alloc = task.alloc;
     let on = task.on;
     on.powers
         .lengths(on.net, &task.setting, loads, &mut room.lengths);
     let lengths = mem::replace(&mut room.lengths, Vec::new(alloc));
-    let lengths = match Arc::new(alloc, lengths) {
-        Ok(lengths) => lengths,
-        Err(error) => return (lead(), Err(error.into())),
-    };
-    let (made, filled) = fill_beside(task, &lengths, &mut room.rows, crew, parts, lead);
-    match filled {
-        Ok(()) => (made, bound_after(alloc, on.net, lengths, room, earlier)),
-        Err(error) => (made, Err(error)),
-    }
+    let lengths = Arc::new(alloc, lengths)?;
+    fill_with(task, &lengths, &mut room.rows, crew, parts)?;
+    bound_after(alloc, on.net, lengths, room, earlier)
 }

@@ -10,6 +10,7 @@ ghost use Rattle.flow_solver.specs.Search.{phase_count};
 
 use crate::prepared::Run;
 use crate::reached::{Reached, is_met, next};
+use crate::search::count_phases;
 use crate::share::Share;
 use claimed_calls::{Crew, Mate, Post, Seats, stay_beside};
 use flow_model::Net;
@@ -30,7 +31,7 @@ fn goes_on(net: &Net, options: &SolveOptions, reached: &Reached) -> bool
     if is_met(net, options, reached) {
         return false;
     }
-    reached.search.history.phases() < options.phases
+    count_phases(&reached.search) < options.phases
 }
 
 /// One phase or more with this crew, until the gap is met, the budget is spent or a thread has left.

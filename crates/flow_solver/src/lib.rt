@@ -9,6 +9,7 @@ mod hands;
 mod history;
 mod leading;
 mod noted;
+mod noting;
 mod parts;
 mod places;
 mod prepared;

@@ -37,7 +37,7 @@ impl NotedRows {
         let mark = mark_of(path);
         let mut found = NO_ROW;
         for place in 0..NOTED_ROWS {
-            // no branch: which of them it is follows no pattern
+            // which of them it is follows no pattern
             found = select_unpredictable(self.marks[place] == mark, self.rows[place], found);
         }
         found

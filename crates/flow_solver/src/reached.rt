@@ -6,15 +6,15 @@ ghost use Rattle.flow_paths.specs.Evaluation.{fill};
 ghost use Rattle.flow_paths.specs.Fullness.{IsFill, fullness};
 ghost use Rattle.solver_run.specs.Options.{AreOptions};
 ghost use Rattle.flow_solver.specs.Leading.{CanGoOn};
-ghost use Rattle.flow_solver.specs.Reached.{IsMet, IsReached};
+ghost use Rattle.flow_solver.specs.Reached.{IsMet, IsReached, carried};
 ghost use Rattle.flow_solver.specs.Search.{phase_count};
 
-use crate::bounding::{note_and_bound, one_phase};
+use crate::bounding::{bound_of, one_phase, threads_for};
 use crate::prepared::{Run, Task};
-use crate::search::{Search, new_search, route};
+use crate::search::{Search, count_phases, new_search, route};
 use crate::share::Share;
 use claimed_calls::Crew;
-use dual_bound::Bounded;
+use dual_bound::{Bounded, Team};
 use flow_model::Net;
 use flow_paths::{Fill, fullest};
 use gap_fraction::Frac;
@@ -64,13 +64,17 @@ pub(crate) fn first<G: Gate, R: Threads + Sync>(run: &Run<'_, G, R>) -> Result<R
     route(run.rt, &task, &mut search)?;
     let fill = measured(on.net, &search.loads);
     let later = setting_after_first(fill, run.options.step);
-    let kept = note_and_bound(
-        run.rt,
+    let team = Team {
+        rt: run.rt,
+        threads: threads_for(on, search.hands.len(), run.threads),
+    };
+    let kept = bound_of(
+        &team,
         run.alloc,
         on,
         &later,
-        &mut search,
-        run.threads,
+        &search.loads,
+        &mut search.room,
         None,
     )?;
     Ok(Reached {
@@ -121,7 +125,7 @@ pub(crate) fn next<'a, G: Gate, R: Threads + Sync>(
 pub fn lower(phases: u32, fill: Fill) -> Frac
     requires phases { phases ≤ MAX_PHASES }
     requires fill { IsFill fill }
-    ensures value { result ≡ record { num = phases * fill.cap; den = fill.load } }
+    ensures value { result ≡ carried phases fill }
     ensures num { result.num ≤ MAX_LENGTH }
     ensures den { result.den ≤ MAX_LENGTH }
 {
@@ -139,6 +143,6 @@ pub fn is_met(net: &Net, options: &SolveOptions, reached: &Reached) -> bool
     ensures { IsTrue result ↔ IsMet net.now options.now reached.now }
 {
     let _cells = net.cells();
-    let carried = lower(reached.search.history.phases(), reached.fill);
+    let carried = lower(count_phases(&reached.search), reached.fill);
     Frac::within(&carried, &reached.kept.value, options.gap)
 }

@@ -9,11 +9,13 @@ ghost use Rattle.flow_core.specs.Phase.{terms_of};
 ghost use Rattle.phase_engine.specs.Hands.{HasRoomOf, IsFresh, AreSameWorkers};
 ghost use Rattle.phase_engine.specs.Routing.{IsRoutedPhase};
 ghost use Rattle.flow_solver.specs.Turns.{IsOver};
-ghost use Rattle.flow_solver.specs.Search.{IsRouted, IsSearch, phase_count};
+ghost use Rattle.flow_solver.specs.Adding.{CanNote, HasNoted};
+ghost use Rattle.flow_solver.specs.Search.{CanAddPhase, CanRoute, HasAdded, IsRouted, IsSearch, phase_count};
 
 use crate::PathHistory;
 use crate::hands::{forget_all, forget_turns, new_hands};
 use crate::noted::Sought;
+use crate::noting::note_routes_of;
 use crate::prepared::Task;
 use crate::share::Share;
 use crate::turn::{take_all, trees_of};
@@ -36,12 +38,15 @@ pub struct BoundRoom {
     pub rows: Vec<Row>,
 }
 
-/// What some phases have made: the load of each cell, and who routed what; room for bounds, and what was sought of the rows.
+/// What some phases have made: the load of each cell, and who routed what; room for bounds, and what was sought of the rows. The last phase
+/// stands in the hands alone: its rows are noted when the next one is routed, which threads do meanwhile. So each worker has two hands,
+/// which route in turn; the spare ones are free for the next phase.
 #[derive(Drop)]
 pub struct Search {
     pub loads: Vec<u64>,
     pub room: BoundRoom,
     pub hands: Vec<Hand>,
+    pub spare: Vec<Hand>,
     pub history: PathHistory,
     pub sought: Sought,
 }
@@ -58,7 +63,7 @@ fn zeros(alloc: Global, count: usize) -> Result<Vec<u64>, AllocError>
 pub fn new_search(alloc: Global, net: &Net, workers: u16) -> Result<Search, AllocError>
     requires some { 1 ≤ workers }
     requires few { workers ≤ MAX_WORKERS }
-    ensures search { IfOk result (λ s. IsSearch net.now s) }
+    ensures search { IfOk result (λ s. IsSearch net.now [] s) }
     ensures nothing { IfOk result (λ s. s.history.history ≡ []) }
     ensures hands { IfOk result (λ s. length s.hands.items ≡ workers) }
 {
@@ -70,9 +75,39 @@ pub fn new_search(alloc: Global, net: &Net, workers: u16) -> Result<Search, Allo
             rows: source_rows(alloc, net)?,
         },
         hands: new_hands(alloc, net, workers)?,
+        spare: new_hands(alloc, net, workers)?,
         history: PathHistory::new(alloc, net),
         sought: Sought::new(alloc),
     })
+}
+
+/// How many phases there are.
+pub(crate) fn count_phases(search: &Search) -> u32
+    requires { phase_count search.now ≤ MAX_PHASES }
+    ensures { result ≡ phase_count search.now }
+{
+    search.history.phases() + 1
+}
+
+/// The history of all phases: the rows of the last one are noted.
+pub(crate) fn whole_history(
+    alloc: Global,
+    net: &Net,
+    search: Search,
+) -> Result<PathHistory, AllocError>
+    requires { CanNote net.now search.hands.items search.history }
+    ensures { IfOk result (HasNoted net.now search.hands.items search.history) }
+{
+    let Search {
+        hands,
+        history,
+        sought,
+        ..
+    } = search;
+    let mut history = history;
+    let mut sought = sought;
+    note_routes_of(alloc, net, &hands, &mut history, &mut sought)?;
+    Ok(history)
 }
 
 /// One phase over words of its own. Searches begin at the trees of the rows, which the bound before has left. `Err` is for want of memory.
@@ -118,19 +153,17 @@ fn phase_over<G: Gate, R: Threads + Sync>(
     }
 }
 
-/// One phase more, whose rows are still to be noted. `Err` is for want of memory, and then the search can't go on.
+/// One phase more, by the spare hands. `Err` is for want of memory, and then the search can't go on.
 pub(crate) fn route<G: Gate, R: Threads + Sync>(
     rt: &R,
     task: &Task<'_, G>,
     search: &mut Search,
 ) -> Result<(), AllocError>
-    requires no_cut { HasNoCut task.now.on.now.net.now }
-    requires setting { IsSetting task.now.setting }
-    requires search { IsSearch task.now.on.now.net.now search.old }
-    requires phases { phase_count search.old < MAX_PHASES }
-    ensures routed { OnOk result (IsRouted task.now.on.now.net.now task.now.setting search.old search.new) }
+    requires { CanRoute task.now.on.now.net.now task.now.setting search.old }
+    ensures { OnOk result (IsRouted task.now.on.now.net.now task.now.setting search.old search.new) }
 {
     let _commodities = task.on.net.commodities();
+    mem::swap(&mut search.hands, &mut search.spare);
     forget_all(&mut search.hands);
     phase_over(
         rt,
@@ -180,15 +213,17 @@ fn end_over<G: Gate, R: Threads + Sync>(
     }
 }
 
-/// As `phase_over`, with the turns in the threads of a crew: the hands after it. `Err` is for want of memory, or where the crew gave up.
-fn phase_with<'a, G: Gate, R: Threads + Sync>(
+/// As `phase_over`, with the turns in the threads of a crew: what `lead` answers, which the caller's thread calls before it takes a turn,
+/// and the hands after the phase. `Err` is for want of memory, or where the crew gave up.
+fn phase_with<'a, G: Gate, R: Threads + Sync, T, F: FnMut() -> T>(
     rt: &R,
     task: &Task<'a, G>,
     crew: &mut Crew<'_, Share<'a, G>>,
     rows: &Arc<Vec<Row>, Global>,
     loads: &mut [u64],
     hands: Vec<Hand>,
-) -> Result<Vec<Hand>, AllocError>
+    lead: &mut F,
+) -> (T, Result<Vec<Hand>, AllocError>)
     requires start { IsStart record {
       net = task.now.on.now.net.now;
       setting = task.now.setting;
@@ -200,47 +235,69 @@ fn phase_with<'a, G: Gate, R: Threads + Sync>(
     requires no_cut { HasNoCut task.now.on.now.net.now }
     requires fresh { (k : ℕ) (d : _) → k < length hands.items
         → IsFresh task.now.on.now.net.now k (slice_index_or hands.items k d) }
-    ensures count { IfOk result (λ back. length back.items ≡ length hands.items) }
-    ensures ok { IfOk result (λ back.
+    requires lead { F.pre lead.old }
+    ensures lead { F.step lead.old result.0 lead.new }
+    ensures count { IfOk result.1 (λ back. length back.items ≡ length hands.items) }
+    ensures ok { IfOk result.1 (λ back.
         IsRoutedPhase task.now.on.now.net.now task.now.setting loads.old loads.new back.items) }
-    ensures back { IfOk result (λ back. AreSameWorkers hands.items back.items) }
-    ensures turns { IfOk result (λ back. (k : ℕ) (d : _) → k < length hands.items
+    ensures back { IfOk result.1 (λ back. AreSameWorkers hands.items back.items) }
+    ensures turns { IfOk result.1 (λ back. (k : ℕ) (d : _) → k < length hands.items
         → (slice_index_or back.items k d).turn ≡ None) }
-    ensures rooms { IfOk result (λ back. (k : ℕ) (d : _) → k < length hands.items
+    ensures rooms { IfOk result.1 (λ back. (k : ℕ) (d : _) → k < length hands.items
         → HasRoomOf task.now.on.now.net.now (slice_index_or back.items k d)) }
 {
     let on = task.on;
     let workers = hands.len() as u16;
-    let (table, first) = Loads::new(task.alloc, on.net, on.groups, task.setting, loads, workers)?;
+    let made = Loads::new(task.alloc, on.net, on.groups, task.setting, loads, workers);
+    let (table, first) = match made {
+        Ok(words) => words,
+        Err(error) => return (lead(), Err(error)),
+    };
     let mut hands = hands;
     hand_out(&table, first, &mut hands);
-    let words = Arc::new(task.alloc, table)?;
-    let mut back = take_all(task, crew, &words, rows, hands)?;
-    end_over(rt, task, rows, words, loads, &mut back)?;
-    Ok(back)
+    let words = match Arc::new(task.alloc, table) {
+        Ok(words) => words,
+        Err(error) => return (lead(), Err(error.into())),
+    };
+    let (answer, back) = take_all(task, crew, &words, rows, hands, lead);
+    let mut back = match back {
+        Ok(back) => back,
+        Err(error) => return (answer, Err(error)),
+    };
+    match end_over(rt, task, rows, words, loads, &mut back) {
+        Ok(()) => (answer, Ok(back)),
+        Err(error) => (answer, Err(error)),
+    }
 }
 
-/// As `route`, with a crew in whose threads the hands take their turns. `Err` is for want of memory, or where the crew gave up or a turn
-/// shares the rows still, which no run does; and then the search can't go on.
+/// As `route`, with a crew in whose threads the hands take their turns; and the rows of the phase before are noted meanwhile. `Err` is for
+/// want of memory, or where the crew gave up or a turn shares the rows still, which no run does; and then the search can't go on.
 pub(crate) fn route_with<'a, G: Gate, R: Threads + Sync>(
     rt: &R,
     task: &Task<'a, G>,
     crew: &mut Crew<'_, Share<'a, G>>,
     search: &mut Search,
 ) -> Result<(), AllocError>
-    requires no_cut { HasNoCut task.now.on.now.net.now }
-    requires setting { IsSetting task.now.setting }
-    requires search { IsSearch task.now.on.now.net.now search.old }
-    requires phases { phase_count search.old < MAX_PHASES }
-    ensures routed { OnOk result (IsRouted task.now.on.now.net.now task.now.setting search.old search.new) }
+    requires { CanAddPhase task.now.on.now.net.now task.now.setting search.old }
+    ensures { OnOk result (HasAdded task.now.on.now.net.now task.now.setting search.old search.new) }
 {
-    let _commodities = task.on.net.commodities();
     let alloc = task.alloc;
-    forget_all(&mut search.hands);
-    let hands = mem::replace(&mut search.hands, Vec::new(alloc));
+    let net = task.on.net;
+    let _commodities = net.commodities();
+    forget_all(&mut search.spare);
+    let hands = mem::replace(&mut search.spare, Vec::new(alloc));
     let rows = Arc::new(alloc, mem::replace(&mut search.room.rows, Vec::new(alloc)))?;
+    let before = search.hands.as_slice();
+    let history = &mut search.history;
+    let sought = &mut search.sought;
+    let mut note = || -> Result<(), AllocError>
+        requires { CanNote net.now before.now history.now }
+        ensures { OnOk result (HasNoted net.entry.now before.entry.now history.entry.now history.exit.now) }
+    { note_routes_of(alloc, net, before, history, sought) };
     let loads = search.loads.as_mut_slice();
-    search.hands = phase_with(rt, task, crew, &rows, loads, hands)?;
+    let (noted, back) = phase_with(rt, task, crew, &rows, loads, hands, &mut note);
+    noted?;
+    search.spare = mem::replace(&mut search.hands, back?);
     let Ok(rows) = Arc::try_unwrap(rows) else {
         return Err(AllocError);
     };

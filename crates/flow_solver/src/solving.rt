@@ -14,7 +14,7 @@ ghost use Rattle.flow_solver.specs.Search.{phase_count};
 use crate::leading::further;
 use crate::prepared::{Prepared, Run};
 use crate::reached::{Reached, first, is_met, lower, next};
-use crate::search::Search;
+use crate::search::{count_phases, whole_history};
 use crate::solved::Solved;
 use crate::{Entries, OrderedHistory};
 use dijkstra_paths::Graph;
@@ -70,7 +70,7 @@ fn all_phases<G: Gate, R: Threads + Sync>(run: &Run<'_, G, R>) -> Result<Ended, 
                 closed: true,
             });
         }
-        if reached.search.history.phases() >= run.options.phases {
+        if count_phases(&reached.search) >= run.options.phases {
             return Ok(Ended {
                 reached,
                 closed: false,
@@ -104,7 +104,7 @@ fn finished(
         kept,
         ..
     } = reached;
-    let Search { history, .. } = search;
+    let history = whole_history(alloc, net, search)?;
     let phases = history.phases();
     let OrderedHistory { paths, entries } = history.ordered(alloc)?;
     let Bounded { dual, value } = kept;

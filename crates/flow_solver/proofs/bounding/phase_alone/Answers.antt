@@ -1,17 +1,15 @@
 use Rattle.std.proofs.lemmas.Result.{on_ok_weaker}
-use Rattle.flow_solver.proofs.Routing.{noted-phase}
+use Rattle.flow_solver.proofs.Routing.{added-phase}
 use Rattle.flow_solver.proofs.bounding.phase_alone.Goals as goal
 
-pub returns-clause-search : goal.returns-clause-search
-returns-clause-search g c =
+pub returns-then-beside-eq0-clause-added : goal.returns-then-beside-eq0-clause-added
+returns-then-beside-eq0-clause-added g c =
     let e = c.note_and_bound.ensures in
     on_ok_weaker c.note_and_bound.result
-    (λ noted. (noted-phase c.args.task.now.on.now.net.now c.args.task.now.setting c.args.search.now c.route.new.search c.note_and_bound.new.search c.cells-cells.ensures.net c.requires.search_is
-    c.in_ok-route.ensures.routed e.loads e.hands e.commodities noted).0) e.noted
+    (λ noted. added-phase c.args.task.now.on.now.net.now c.args.task.now.setting c.args.search.now c.route.new.search c.note_and_bound.new.search c.in_ok-route.ensures e.loads e.hands e.spare noted.0 noted.1) e.noted
 
-pub returns-clause-routed : goal.returns-clause-routed
-returns-clause-routed g c =
-    let e = c.note_and_bound.ensures in
-    on_ok_weaker c.note_and_bound.result
-    (λ noted. (noted-phase c.args.task.now.on.now.net.now c.args.task.now.setting c.args.search.now c.route.new.search c.note_and_bound.new.search c.cells-cells.ensures.net c.requires.search_is
-    c.in_ok-route.ensures.routed e.loads e.hands e.commodities noted).1) e.noted
+pub returns-else-beside-eq0-clause-added : goal.returns-else-beside-eq0-clause-added
+returns-else-beside-eq0-clause-added g c =
+    let e = c.note_beside_bound.ensures in
+    on_ok_weaker c.note_beside_bound.result
+    (λ noted. added-phase c.args.task.now.on.now.net.now c.args.task.now.setting c.args.search.now c.route.new.search c.note_beside_bound.new.search c.in_ok-route.ensures e.loads e.hands e.spare noted.0 noted.1) e.noted

@@ -3,5 +3,5 @@ use denote.Param.Send.{arg_send, param_send, param_sync}
 use Rattle.flow_solver.proofs.Sent.{share-send}
 use Rattle.flow_solver.proofs.filling.work_and_fill.Goals as goal
 
-pub work_beside-requires-send-J : goal.work_beside-requires-send-J
-work_beside-requires-send-J g c κs within = param_send 0 _ (arg_send _ no _ (share-send _ _ (param_sync 0 _ c.type_bounds.sync-G)))
+pub work_beside-whole-requires-send-J : goal.work_beside-whole-requires-send-J
+work_beside-whole-requires-send-J g c κs within = param_send 0 _ (arg_send _ no _ (share-send _ _ (param_sync 0 _ c.type_bounds.sync-G)))

@@ -3,8 +3,7 @@ use Rattle.std.proofs.lemmas.List.{length-replicate}
 use Rattle.std.proofs.lemmas.List.Elements.{All-weaker}
 use Rattle.dual_bound.specs.Rows.{IsBlank, IsRoom}
 use Rattle.flow_model.specs.declared.net.Cell.{Cell}
-use Rattle.flow_solver.specs.Rows.{HistoryView, phases_kept, AreRowsFor}
-use Rattle.solver_run.specs.History.{loads_after}
+use Rattle.flow_solver.specs.Rows.{HistoryView, AreRowsFor}
 use Rattle.mcf_limits.specs.declared.TheConstants.{MAX_TOTAL}
 use Rattle.flow_solver.proofs.Routing.{no-loads, none-above, idle-hands}
 use Rattle.flow_solver.proofs.search.new_search.Goals as goal
@@ -17,9 +16,10 @@ returns-clause-search c =
     let zeros = c.in_ok-zeros.ensures in
     let cells = ap (λ (xs : List Cell). length xs) c.cells-cells.ensures.value in
     let count : length c.in_ok-new_hands.field-0.items ≡ c.args.workers = c.in_ok-new_hands.ensures.count in
+    let again : length c.in_ok-new_hands-2.field-0.items ≡ c.args.workers = c.in_ok-new_hands-2.ensures.count in
     record {
-      loads = subst (λ (h : HistoryView). items ≡ loads_after net (phases_kept h) (length h.history)) (sym value) (zeros ∙ no-loads net (length c.cells-cells.result.now) cells);
-      small = none-above items (length c.cells-cells.result.now) (length c.new.result.history * MAX_TOTAL) zeros;
+      loads = zeros ∙ no-loads net (length c.cells-cells.result.now) cells;
+      small = none-above items (length c.cells-cells.result.now) (0 * MAX_TOTAL) zeros;
       room = record {
         lengths = ap (λ (xs : List ℕ). length xs) c.in_ok-zeros-2.ensures ∙ length-replicate (length c.cells-cells.result.now) 0 ∙ cells;
         rows = record {
@@ -28,6 +28,8 @@ returns-clause-search c =
         };
       };
       hands = idle-hands net c.in_ok-new_hands.field-0.items (omega (arith, count)) (omega (arith, count)) (λ k d l. c.in_ok-new_hands.ensures.fresh k d (omega (arith, count)));
+      spare = idle-hands net c.in_ok-new_hands-2.field-0.items (omega (arith, again)) (omega (arith, again)) (λ k d l. c.in_ok-new_hands-2.ensures.fresh k d (omega (arith, again)));
+      pairs = again ∙ sym count;
       commodities = ap (λ (h : HistoryView). h.commodities) value;
       rows = subst (λ (h : HistoryView). AreRowsFor net h.history h.rows) (sym value) c.new.ensures.rows;
     }

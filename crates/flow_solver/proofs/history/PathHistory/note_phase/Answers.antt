@@ -19,7 +19,7 @@ returns-in_err-entries-clause-err c =
     let new = c.name_rows.new.self.rows in
     let h = c.args.self.now.history in
     on_err c.from_residual-in_err-entries.result
-    (ap (map (routed_in new)) c.name_rows.ensures.history ∙ same_phases old new h c.name_rows.ensures.keeps (names_below c.args.net.now old h c.requires.rows.entries))
+    (ap (map (routed_in new)) c.name_rows.ensures.history ∙ same_phases old new h c.name_rows.ensures.keeps (names_below c.args.net.now old h c.requires.can.rows.entries))
 
 pub returns-in_err-push-clause-err : goal.returns-in_err-push-clause-err
 returns-in_err-push-clause-err c =
@@ -29,7 +29,7 @@ returns-in_err-push-clause-err c =
     let r : c.self.inside.paths ≡ new = ap (λ (v : HistoryView). v.rows) c.self.view_is in
     let p : c.push.new.self.phases ≡ h = c.in_err-push.ensures.err ∙ ap (λ (v : HistoryView). v.history) c.self.view_is ∙ c.name_rows.ensures.history in
     on_err c.from_residual-in_err-push.result
-    (ap (λ (t : List Row). map (routed_in t) c.push.new.self.phases) r ∙ ap (map (routed_in new)) p ∙ same_phases old new h c.name_rows.ensures.keeps (names_below c.args.net.now old h c.requires.rows.entries))
+    (ap (λ (t : List Row). map (routed_in t) c.push.new.self.phases) r ∙ ap (map (routed_in new)) p ∙ same_phases old new h c.name_rows.ensures.keeps (names_below c.args.net.now old h c.requires.can.rows.entries))
 
 pub returns-clause-noted : goal.returns-clause-noted
 returns-clause-noted c = record {
@@ -50,7 +50,7 @@ returns-clause-noted c = record {
       let p : c.push.new.self.phases ≡ h ++ es ∷ [] = c.in_ok-push.ensures.ok ∙ ap (λ (t : List (List Entry)). t ++ c.deref.result.now ∷ []) (ap (λ (v : HistoryView). v.history) c.self.view_is ∙ c.name_rows.ensures.history) ∙ ap (λ (t : List Entry). h ++ t ∷ []) c.deref.ensures.value in
       let places = c.args.places.now in
       let named : AreNamed places new es = c.in_ok-entries.ensures.named in
-      ap (λ (t : List Row). map (routed_in t) c.push.new.self.phases) r ∙ ap (map (routed_in new)) p ∙ phase_added c.args.net.now hands places old new h es entries c.name_rows.ensures.keeps c.requires.rows.entries c.requires.count are c.in_ok-entries.ensures.count named once
+      ap (λ (t : List Row). map (routed_in t) c.push.new.self.phases) r ∙ ap (map (routed_in new)) p ∙ phase_added c.args.net.now hands places old new h es entries c.name_rows.ensures.keeps c.requires.can.rows.entries c.requires.count are c.in_ok-entries.ensures.count named once
       );
 }
 
