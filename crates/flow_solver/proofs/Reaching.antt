@@ -240,7 +240,7 @@ notes-phase net o r options is budget =
       phases = omega (arith, budget, options.phases);
       work = omega (arith, times, options.work);
     } in
-    (takes, is.search.hands.few, (is.made_are.last, is.made_are.routed))
+    (takes, is.search.hands.last.few, (is.made_are.last, is.made_are.routed))
 
 -- and with room in the budget one more can be added
 pub adds-phase : (net : Network) (o : SolveOptions) (r : Reached) (setting : Setting) → CanGoOn net o r → IsSetting setting → CanAddPhase net setting r.search

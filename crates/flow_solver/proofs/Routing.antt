@@ -149,8 +149,6 @@ search-more net setting phases old new n is h room commodities rows =
       small = subst (λ (i : ℕ). All (λ (x : ℕ). x ≤ i * MAX_TOTAL) new.loads.items) (sym more) small;
       room = room;
       hands = h.hands;
-      spare = h.spare;
-      pairs = h.pairs;
       commodities = commodities;
       rows = rows;
     }
@@ -175,10 +173,8 @@ routed-phase net setting old new n can p size hands spare same pairs =
       small = loads-within old.loads.items new.loads.items (load_of (amounts_along 0 net.commodities p.entries)) MAX_TOTAL MAX_LENGTH (omega arith) (λ c l. p.sums c (omega arith))
           (adds-few net setting old.loads.items new.loads.items new.hands.items n p) can.small;
       loaded = some-load net p.entries old.loads.items new.loads.items n (phase-paths net setting old.loads.items new.loads.items p.entries n p.phase) p.count p.sums;
-      hands = hands;
-      spare = spare;
+      hands = record { last = hands; spare = spare; pairs = pairs };
       same = same;
-      pairs = pairs;
     }
 
 -- a search with these loads and hands
@@ -194,10 +190,8 @@ routed-same net setting old mid new h loads hands spare =
       count = h.count;
       small = h.small;
       loaded = h.loaded;
-      hands = h.hands;
-      spare = h.spare;
+      hands = record { last = h.hands.last; spare = h.hands.spare; pairs = h.hands.pairs };
       same = h.same;
-      pairs = h.pairs;
     } in
     subst P (λ i. (sym loads i, sym hands i, sym spare i)) made
 
@@ -235,8 +229,6 @@ can-route net setting phases s no_cut setting_is is few = record {
   count = loads-size net phases s is;
   small = λ k d l. (let small : get_or s.loads.items k d ≤ length phases * MAX_TOTAL = is.small k d l in omega arith);
   hands = is.hands;
-  spare = is.spare;
-  pairs = is.pairs;
 }
 
 -- with the phase that is noted there is one more

@@ -29,6 +29,12 @@ pub record AreIdle (net : Network) (hands : List Hand) : Type 0 where
   pub few : length hands ≤ MAX_WORKERS
   pub each : (k : ℕ) (d : Hand) → k < length hands → IsIdle net k (slice_index_or hands k d)
 
+-- two idle hands for each worker: those that have routed the last phase, and the spare ones
+pub record HasHands (net : Network) (s : Search) : Type 0 where
+  pub last : AreIdle net s.hands.items
+  pub spare : AreIdle net s.spare.items
+  pub pairs : length s.spare.items ≡ length s.hands.items
+
 -- the phases that are noted
 abbrev pub phases_in : Search → List (List Routed)
 phases_in s = phases_kept s.history
@@ -47,9 +53,7 @@ pub record IsSearch (net : Network) (phases : List (List Routed)) (s : Search) :
   pub loads : s.loads.items ≡ loads_after net phases (length phases)
   pub small : All (λ (x : ℕ). x ≤ length phases * MAX_TOTAL) s.loads.items
   pub room : IsBoundRoom net s.room
-  pub hands : AreIdle net s.hands.items
-  pub spare : AreIdle net s.spare.items
-  pub pairs : length s.spare.items ≡ length s.hands.items
+  pub hands : HasHands net s
   pub commodities : s.history.commodities ≡ length net.commodities
   pub rows : AreRowsFor net s.history.history s.history.rows
 
@@ -65,9 +69,7 @@ pub record CanRoute (net : Network) (setting : Setting) (s : Search) : Type 0 wh
   pub setting_is : IsSetting setting
   pub count : length s.loads.items ≡ length net.cells
   pub small : All (λ (x : ℕ). x + MAX_TOTAL ≤ MAX_LENGTH) s.loads.items
-  pub hands : AreIdle net s.hands.items
-  pub spare : AreIdle net s.spare.items
-  pub pairs : length s.spare.items ≡ length s.hands.items
+  pub hands : HasHands net s
 
 -- the hands have routed one phase more under the setting: it has loaded some cell, loads are within their limit, and all hands, of which
 -- there are as many, are idle again
@@ -76,10 +78,8 @@ pub record HasRouted (net : Network) (setting : Setting) (old new : Search) : Ty
   pub count : length new.loads.items ≡ length net.cells
   pub small : All (λ (x : ℕ). x ≤ MAX_LENGTH) new.loads.items
   pub loaded : (c : ℕ) × (c < length net.cells) × (1 ≤ slice_index new.loads.items c)
-  pub hands : AreIdle net new.hands.items
-  pub spare : AreIdle net new.spare.items
+  pub hands : HasHands net new
   pub same : length new.hands.items ≡ length old.hands.items
-  pub pairs : length new.spare.items ≡ length new.hands.items
 
 -- so it is, and the hands that routed before are spare now; room and history are as before
 pub record IsRouted (net : Network) (setting : Setting) (old new : Search) : Type 0 where

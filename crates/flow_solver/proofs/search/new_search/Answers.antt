@@ -27,9 +27,11 @@ returns-clause-search c =
           each = All-weaker (IsBlank net.nodes) (IsRoom net.nodes) (λ row b. b.room) c.in_ok-source_rows.field-0.items c.in_ok-source_rows.ensures.blank;
         };
       };
-      hands = idle-hands net c.in_ok-new_hands.field-0.items (omega (arith, count)) (omega (arith, count)) (λ k d l. c.in_ok-new_hands.ensures.fresh k d (omega (arith, count)));
-      spare = idle-hands net c.in_ok-new_hands-2.field-0.items (omega (arith, again)) (omega (arith, again)) (λ k d l. c.in_ok-new_hands-2.ensures.fresh k d (omega (arith, again)));
-      pairs = again ∙ sym count;
+      hands = record {
+        last = idle-hands net c.in_ok-new_hands.field-0.items (omega (arith, count)) (omega (arith, count)) (λ k d l. c.in_ok-new_hands.ensures.fresh k d (omega (arith, count)));
+        spare = idle-hands net c.in_ok-new_hands-2.field-0.items (omega (arith, again)) (omega (arith, again)) (λ k d l. c.in_ok-new_hands-2.ensures.fresh k d (omega (arith, again)));
+        pairs = again ∙ sym count;
+      };
       commodities = ap (λ (h : HistoryView). h.commodities) value;
       rows = subst (λ (h : HistoryView). AreRowsFor net h.history h.rows) (sym value) c.new.ensures.rows;
     }

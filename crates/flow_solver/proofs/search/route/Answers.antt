@@ -20,7 +20,7 @@ phase_over-requires-clause-start g c κs within =
     let swapped = ap (λ (v : Vec Hand Global). length v.items) c.swap.ensures.x_after in
     let hands = with_items_is c.swap.new.x c.forget_all.new.hands (omega arith) in
     let now : c.deref_mut-3.result.now ≡ c.forget_all.new.hands = c.deref_mut-3.ensures.value ∙ hands in
-    let idle = c.requires.spare in
+    let idle = c.requires.hands.spare in
     let count = ap (λ (xs : List Hand). length xs) now in
     subst (λ (base : List ℕ). IsStart (record { net = net; setting = c.args.task.now.setting; base = base; workers = length c.deref_mut-3.result.now })) (sym c.deref_mut-2.ensures.value)
     (start-of net c.args.task.now.setting old (length c.deref_mut-3.result.now) c.commodities-commodities.ensures.net c.requires (omega (arith, idle.some)) (omega (arith, idle.few)))
@@ -32,7 +32,7 @@ phase_over-requires-clause-fresh g c κs within =
     let now : c.deref_mut-3.result.now ≡ c.forget_all.new.hands = c.deref_mut-3.ensures.value ∙ hands in
     let first : c.deref_mut.result.now ≡ c.args.search.now.spare.items = c.deref_mut.ensures.value ∙ ap (λ (v : Vec Hand Global). v.items) c.swap.ensures.x_after in
     subst (λ (hs : List Hand). (k : ℕ) (d : Hand) → k < length hs → IsFresh net k (get_or hs k d)) (sym now)
-    (fresh-hands net c.deref_mut.result.now c.forget_all.new.hands (subst (AreIdle net) (sym first) c.requires.spare) (omega arith) c.forget_all.ensures)
+    (fresh-hands net c.deref_mut.result.now c.forget_all.new.hands (subst (AreIdle net) (sym first) c.requires.hands.spare) (omega arith) c.forget_all.ensures)
 
 pub returns : goal.returns
 returns g c =
@@ -51,7 +51,7 @@ returns g c =
       history = old.history;
       sought = old.sought;
     } in
-    let idle = c.requires.spare in
+    let idle = c.requires.hands.spare in
     let start : c.deref_mut.result.now ≡ old.spare.items = c.deref_mut.ensures.value ∙ ap (λ (v : Vec Hand Global). v.items) c.swap.ensures.x_after in
     let fresh : (k : ℕ) (d : Hand) → k < length fresh_hands → IsFresh net k (get_or fresh_hands k d) =
     subst (λ (hs : List Hand). (k : ℕ) (d : Hand) → k < length hs → IsFresh net k (get_or hs k d)) (sym before)
@@ -60,7 +60,7 @@ returns g c =
     let start_count = ap (λ (xs : List Hand). length xs) start in
     let last_count = ap (λ (xs : List Hand). length xs) hands in
     let spare_count = ap (λ (v : Vec Hand Global). length v.items) c.swap.ensures.y_after in
-    let pairs = c.requires.pairs in
+    let pairs = c.requires.hands.pairs in
     let size = c.requires.count in
     on_ok_weaker c.phase_over.result (λ ok. record {
       routed =
@@ -71,7 +71,7 @@ returns g c =
           routed-phase net c.args.task.now.setting old new c.commodities-commodities.ensures.net c.requires routed
           (ap (λ (xs : List ℕ). length xs) loads ∙ omega (arith, size, c.phase_over.auto.loads, c.deref_mut-2.ensures.len))
           (subst (AreIdle net) (sym hands) (idle-again net fresh_hands c.phase_over.new.hands (omega (arith, idle.some)) (omega (arith, idle.few)) fresh (omega arith) c.phase_over.ensures.back c.phase_over.ensures.turns c.phase_over.ensures.rooms))
-          (subst (λ (v : Vec Hand Global). AreIdle net v.items) (sym c.swap.ensures.y_after) c.requires.hands)
+          (subst (λ (v : Vec Hand Global). AreIdle net v.items) (sym c.swap.ensures.y_after) c.requires.hands.last)
           (omega arith) (omega arith);
       spare = c.swap.ensures.y_after;
       room = refl;

@@ -21,7 +21,7 @@ phase_with-noted-requires-clause-start g c κs within =
     let old = c.args.search.now in
     let hands = c.replace-hands.result.items in
     let now : hands ≡ c.forget_all.new.hands = ap (λ (v : _). v.items) c.replace-hands.ensures.value ∙ with_items_is old.spare c.forget_all.new.hands (omega arith) in
-    let idle = c.requires.can.spare in
+    let idle = c.requires.can.hands.spare in
     let count = ap (λ (xs : List Hand). length xs) now in
     subst (λ (base : List ℕ). IsStart (record { net = net; setting = c.args.task.now.setting; base = base; workers = length hands })) (sym c.as_mut_slice-loads.ensures.value)
     (start-of net c.args.task.now.setting old (length hands) c.commodities-commodities.ensures.net c.requires.can (omega (arith, idle.some)) (omega (arith, idle.few)))
@@ -32,7 +32,7 @@ phase_with-noted-requires-clause-fresh g c κs within =
     let old = c.args.search.now in
     let now : c.replace-hands.result.items ≡ c.forget_all.new.hands = ap (λ (v : _). v.items) c.replace-hands.ensures.value ∙ with_items_is old.spare c.forget_all.new.hands (omega arith) in
     subst (λ (hs : List Hand). (k : ℕ) (d : Hand) → k < length hs → IsFresh net k (get_or hs k d)) (sym now)
-    (fresh-hands net c.deref_mut.result.now c.forget_all.new.hands (subst (AreIdle net) (sym c.deref_mut.ensures.value) c.requires.can.spare) (omega arith) c.forget_all.ensures)
+    (fresh-hands net c.deref_mut.result.now c.forget_all.new.hands (subst (AreIdle net) (sym c.deref_mut.ensures.value) c.requires.can.hands.spare) (omega arith) c.forget_all.ensures)
 
 pub returns : goal.returns
 returns g c =
@@ -54,14 +54,14 @@ returns g c =
       history = c.phase_with-noted.new.lead.3.now;
       sought = c.phase_with-noted.new.lead.4.now;
     } in
-    let idle = c.requires.can.spare in
+    let idle = c.requires.can.hands.spare in
     let fresh : (k : ℕ) (d : Hand) → k < length hands → IsFresh net k (get_or hands k d) =
     subst (λ (hs : List Hand). (k : ℕ) (d : Hand) → k < length hs → IsFresh net k (get_or hs k d)) (sym now)
     (fresh-hands net c.deref_mut.result.now c.forget_all.new.hands (subst (AreIdle net) (sym c.deref_mut.ensures.value) idle) (omega arith) c.forget_all.ensures) in
     let count = ap (λ (xs : List Hand). length xs) now in
     let start_count = ap (λ (xs : List Hand). length xs) c.deref_mut.ensures.value in
     let size = c.requires.can.count in
-    let pairs = c.requires.can.pairs in
+    let pairs = c.requires.can.hands.pairs in
     let base_count = ap (λ (xs : List ℕ). length xs) c.as_mut_slice-loads.ensures.value in
     let back_count = from-ok c.phase_with-noted.result.1 _ c.in_ok-back.field-0 c.in_ok-back.was c.phase_with-noted.ensures.count in
     let last_count = ap (λ (v : Vec Hand Global). length v.items) after in
@@ -75,7 +75,7 @@ returns g c =
           (ap (λ (xs : List ℕ). length xs) loads ∙ omega (arith, size, c.phase_with-noted.auto.loads, base_count))
           (subst (λ (v : Vec Hand Global). AreIdle net v.items) (sym after)
           (idle-again net hands back.items (omega (arith, idle.some)) (omega (arith, idle.few)) fresh back_count (from-ok c.phase_with-noted.result.1 _ c.in_ok-back.field-0 c.in_ok-back.was c.phase_with-noted.ensures.back) (from-ok c.phase_with-noted.result.1 _ c.in_ok-back.field-0 c.in_ok-back.was c.phase_with-noted.ensures.turns) (from-ok c.phase_with-noted.result.1 _ c.in_ok-back.field-0 c.in_ok-back.was c.phase_with-noted.ensures.rooms)))
-          (subst (λ (v : Vec Hand Global). AreIdle net v.items) (sym spare) c.requires.can.hands)
+          (subst (λ (v : Vec Hand Global). AreIdle net v.items) (sym spare) c.requires.can.hands.last)
           (omega arith) (omega arith);
       noted = subst (λ (hs : List Hand). HasNoted net hs old.history new.history) c.as_slice-before.ensures.value noted;
       room = record {
