@@ -49,22 +49,9 @@ impl<'a, J: Job> Crew<'a, J> {
         }
     }
 
-    /// Works on each job: on the first in the first thread that was taken on, and so on, and in the caller's thread on the last, on those
-    /// that are too many, and on each whose thread is not there. `false` where the caller has looked for a job 2^64 times, which no run
-    /// does; then that job is lost.
-    pub fn work_each(&mut self, jobs: &mut [Option<J>]) -> bool
-        requires { (k : ℕ) (d : _) → k < length jobs.old → Waits J.asks (slice_index_or jobs.old k d) }
-        ensures worked { IsTrue result → (k : ℕ) (d : _) → k < length jobs.old
-            → IsWorked J.does (slice_index_or jobs.old k d) (slice_index_or jobs.new k d) }
-        ensures lost { IsFalse result → Contains jobs.new None }
-    {
-        let others = jobs.len().saturating_sub(1).min(self.ends.len());
-        let (whole, ()) = work_from(&mut self.ends[..others], jobs, &mut || {});
-        whole
-    }
-
-    /// As `work_each`, of jobs of which none is for the caller's thread, which calls `lead` meanwhile, and then works on those that are too
-    /// many and on each whose thread is not there.
+    /// Works on each job: on the first in the first thread that was taken on, and so on. The caller's thread calls `lead` meanwhile, and
+    /// then works on those that are too many and on each whose thread is not there. `false` where the caller has looked for a job 2^64
+    /// times, which no run does; then that job is lost.
     pub fn work_beside<T, F: FnMut() -> T>(
         &mut self,
         jobs: &mut [Option<J>],

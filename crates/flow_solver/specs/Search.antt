@@ -39,7 +39,7 @@ pub record HasHands (net : Network) (s : Search) : Type 0 where
 abbrev pub phases_in : Search → List (List Routed)
 phases_in s = phases_kept s.history
 
--- how many phases there are: those that are noted, and the last one
+-- how many phases there are after one or more: those that are noted, and the last one
 abbrev pub phase_count : Search → ℕ
 phase_count s = length s.history.history + 1
 
@@ -109,6 +109,6 @@ abbrev pub IsLesserUnder : Network → Setting → List ℕ → Option Bounded �
 IsLesserUnder net setting loads earlier b = IsLesser net (lengths_of net setting loads) earlier b
 
 -- the phase that the spare hands have routed can be noted, and a bound made of the loads
-pub record CanNotePhase (net : Network) (setting : Setting) (s : Search) : Type 0 where
+pub record CanNoteAndBound (net : Network) (setting : Setting) (s : Search) : Type 0 where
   pub note : CanNote net s.spare.items s.history
   pub bound : CanBeBounded net setting s.loads.items s.room

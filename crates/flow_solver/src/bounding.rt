@@ -2,7 +2,7 @@
 
 ghost use Rattle.std.specs.Prelude.{◌≡◌, ◌<◌, ◌≤◌, IfOk, OnOk, max};
 ghost use Rattle.flow_solver.specs.Adding.{CanBeNoted, HasNoted, IsNoted};
-ghost use Rattle.flow_solver.specs.Search.{CanAddPhase, CanBeBounded, CanNotePhase, HasAdded, IsBoundRoom, IsLesserUnder};
+ghost use Rattle.flow_solver.specs.Search.{CanAddPhase, CanBeBounded, CanNoteAndBound, HasAdded, IsBoundRoom, IsLesserUnder};
 
 use crate::filling::bound_with;
 use crate::noting::note_routes_of;
@@ -43,7 +43,7 @@ pub(crate) fn bound_of<R: Threads + Sync>(
     lesser_in(team, alloc, on.net, on.graph, lengths, rows, earlier)
 }
 
-/// In how many threads rows are noted and a bound is made, of at most so many, where so many workers have routed: in one, where one
+/// In how many threads a bound is made, and rows are noted, of at most so many, where so many workers have routed: in one, where one
 /// worker has routed a network that is not large.
 pub(crate) fn threads_for(on: &Prepared<'_>, workers: usize, most: u16) -> u16
     ensures { result ≤ max most 1 }
@@ -75,7 +75,7 @@ fn note_and_bound<G: Gate, R: Threads + Sync>(
     search: &mut Search,
     earlier: Option<Bounded>,
 ) -> Result<Bounded, AllocError>
-    requires { CanNotePhase task.now.on.now.net.now task.now.setting search.old }
+    requires { CanNoteAndBound task.now.on.now.net.now task.now.setting search.old }
     ensures loads { search.new.loads ≡ search.old.loads }
     ensures hands { search.new.hands ≡ search.old.hands }
     ensures spare { search.new.spare ≡ search.old.spare }
@@ -112,7 +112,7 @@ fn note_beside_bound<G: Gate, R: Threads + Sync>(
     search: &mut Search,
     earlier: Option<Bounded>,
 ) -> Result<Bounded, AllocError>
-    requires { CanNotePhase task.now.on.now.net.now task.now.setting search.old }
+    requires { CanNoteAndBound task.now.on.now.net.now task.now.setting search.old }
     ensures loads { search.new.loads ≡ search.old.loads }
     ensures hands { search.new.hands ≡ search.old.hands }
     ensures spare { search.new.spare ≡ search.old.spare }

@@ -58,7 +58,7 @@ impl PathHistory {
         }
     }
 
-    /// How many phases there are.
+    /// How many phases are noted.
     pub fn phases(&self) -> u32
         ensures { result ≡ length self.now.history }
     {

@@ -39,7 +39,7 @@ pub struct BoundRoom {
 }
 
 /// What some phases have made: the load of each cell, and who routed what; room for bounds, and what was sought of the rows. The last phase
-/// stands in the hands alone: its rows are noted when the next one is routed, which threads do meanwhile. So each worker has two hands,
+/// stands in the hands alone: its rows are noted when the next one is routed, while other threads route it. So each worker has two hands,
 /// which route in turn; the spare ones are free for the next phase.
 #[derive(Drop)]
 pub struct Search {
@@ -81,7 +81,7 @@ pub fn new_search(alloc: Global, net: &Net, workers: u16) -> Result<Search, Allo
     })
 }
 
-/// How many phases there are.
+/// How many phases there are, after one or more: those that are noted, and the last one.
 pub(crate) fn count_phases(search: &Search) -> u32
     requires { phase_count search.now ≤ MAX_PHASES }
     ensures { result ≡ phase_count search.now }

@@ -104,7 +104,8 @@ fn work_on<'a>(
     count: u64,
 ) -> Result<bool, AllocError> {
     let mut jobs = three(alloc, begun, count)?;
-    Ok(crew.work_each(&mut jobs) && are_doubled(&jobs))
+    let (whole, ()) = crew.work_beside(&mut jobs, &mut || {});
+    Ok(whole && are_doubled(&jobs))
 }
 
 /// Whether the crew has worked on three jobs, of which the first waits for a call beside them, and has answered with what that found.
