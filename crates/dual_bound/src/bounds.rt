@@ -9,7 +9,7 @@ ghost use Rattle.dual_bound.specs.Bounds.{CanDivide, IsBounded, IsCutDual, IsCut
 ghost use Rattle.dual_bound.specs.Rows.{AreRoom, HasDistances, IsFilledWith, IsRoom, bounded_of, dual_of, sources_of};
 ghost use Rattle.flow_model.specs.Groups.{group_sources};
 
-use crate::dual::{are_filled, assembled};
+use crate::dual::{are_filled, assembled_in};
 use crate::rows::{Row, blank_all, fill_all, fill_rows, mark_all, source_rows};
 use crate::team::Team;
 use crate::value::upper;
@@ -30,7 +30,7 @@ pub struct Bounded {
 }
 
 /// The lesser of an earlier bound, if there is one, and that of these lengths and filled rows, whose dual is made only where it is the
-/// lesser. Its value is volume over weighted distance, not reduced.
+/// lesser, in the memory of the other one. Its value is volume over weighted distance, not reduced.
 fn lesser(
     alloc: Global,
     net: &Net,
@@ -44,12 +44,16 @@ fn lesser(
 {
     let _cells = net.cells();
     let value = upper(alloc, net, lengths, rows)?;
-    if let Some(earlier) = earlier {
-        if earlier.value.cmp(&value) != Ordering::Greater {
-            return Ok(earlier);
+    let room = match earlier {
+        Some(earlier) => {
+            if earlier.value.cmp(&value) != Ordering::Greater {
+                return Ok(earlier);
+            }
+            earlier.dual
         }
-    }
-    let dual = assembled(alloc, lengths, rows)?;
+        None => Dual::new(alloc),
+    };
+    let dual = assembled_in(room, alloc, lengths, rows)?;
     Ok(Bounded { dual, value })
 }
 

@@ -5,6 +5,7 @@ ghost use Rattle.std.specs.Prelude.{◌≡◌, ◌<◌};
 use mcf_limits::MAX_LENGTH;
 use std::alloc::{AllocError, Global};
 use std::marker::Model;
+use std::mem;
 
 #[derive(Clone, Copy)]
 struct LengthRow {
@@ -18,11 +19,13 @@ struct PotentialRow {
     values: Vec<u64>,
 }
 
-/// Rows of a cell and its length, and rows of a node and one potential per node.
+/// Rows of a cell and its length, and rows of a node and one potential per node. The memory of rows that were left out serves rows that
+/// come later.
 #[derive(Drop)]
 pub struct Dual {
     lengths: Vec<LengthRow>,
     potentials: Vec<PotentialRow>,
+    spare: Vec<PotentialRow>,
 }
 
 impl Model for Dual {
@@ -51,6 +54,26 @@ impl Dual {
         Dual {
             lengths: Vec::new(alloc),
             potentials: Vec::new(alloc),
+            spare: Vec::new(alloc),
+        }
+    }
+
+    /// Leaves out all rows, and keeps their memory.
+    pub fn clear(&mut self)
+        ensures { self.new ≡ record { lengths = []; potentials = [] } }
+    {
+        self.lengths.clear();
+        mem::swap(&mut self.potentials, &mut self.spare);
+        self.potentials.clear();
+    }
+
+    /// Memory for a row of potentials, if there is any to spare.
+    fn spare_values(&mut self, alloc: Global) -> Vec<u64>
+        ensures { self.new ≡ self.old }
+    {
+        match self.spare.pop() {
+            Some(row) => row.values,
+            None => Vec::new(alloc),
         }
     }
 
@@ -78,11 +101,10 @@ impl Dual {
         }) }
         ensures err { OnErr result (self.new ≡ self.old) }
     {
-        let row = PotentialRow {
-            node,
-            values: Vec::from_slice(alloc, values)?,
-        };
-        self.potentials.push(row)?;
+        let mut room = self.spare_values(alloc);
+        room.clear();
+        room.extend_from_slice(values)?;
+        self.potentials.push(PotentialRow { node, values: room })?;
         Ok(())
     }
 
