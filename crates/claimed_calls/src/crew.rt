@@ -39,6 +39,12 @@ impl<'a, J: Job> Crew<'a, J> {
         self.ends.iter().all(|end| end.is_free())
     }
 
+    /// Whether the caller's thread had to wait for a job when jobs were last worked on: it was done with its own before a thread was with
+    /// another. No proof rests on what this tells.
+    pub fn has_waited(&self) -> bool {
+        self.ends.iter().any(|end| end.has_waited())
+    }
+
     /// Waits until all threads are there, but not without end: one that can't be started never comes.
     pub fn wait_until_there(&self) {
         'looks: for looks in 0..START {
