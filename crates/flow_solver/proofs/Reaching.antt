@@ -28,6 +28,8 @@ use Rattle.solver_run.specs.Run.{no_dual, least_dual, IsClosedAfter, ArePhases}
 use Rattle.flow_solver.specs.declared.search.Search.{Search}
 use Rattle.flow_solver.specs.declared.reached.Reached.{Reached}
 use Rattle.flow_solver.specs.Adding.{CanNote, CanTakePhase}
+use Rattle.flow_solver.proofs.Named.{none_routed}
+use Rattle.flow_solver.proofs.OneMore.{begins}
 use Rattle.flow_solver.specs.Leading.{CanGoOn}
 use Rattle.flow_solver.specs.Search.{ArePhasesOf, CanAddPhase, HasAdded, HasRouted, IsSearch, phase_count, phases_in}
 use Rattle.flow_solver.specs.Reached.{AllDivide, IsMet, IsReached, carried}
@@ -231,16 +233,22 @@ next-reached net o r new f later kept n is unmet a same fits bound shows value l
     }
 
 -- within the budget the last phase can be noted
-pub notes-phase : (net : Network) (o : SolveOptions) (r : Reached) → AreOptions net o → IsReached net o r → phase_count r.search ≤ o.phases → CanNote net r.search.hands.items r.search.history
+pub notes-phase : (net : Network) (o : SolveOptions) (r : Reached) → AreOptions net o → IsReached net o r → phase_count r.search ≤ o.phases → CanNote net r.search.hands.items r.search.history []
 notes-phase net o r options is budget =
     let times = mul-le-mul_left (length net.commodities) budget in
-    let takes : CanTakePhase net r.search.history = record {
+    let takes : CanTakePhase net r.search.history [] = record {
       commodities = is.search.commodities;
-      rows = is.search.rows;
+      begun = begins net r.search.history.history [] r.search.history.rows refl is.search.rows;
+      few = omega arith;
       phases = omega (arith, budget, options.phases);
       work = omega (arith, times, options.work);
     } in
-    (takes, is.search.hands.last.few, (is.made_are.last, is.made_are.routed))
+    record {
+      can = takes;
+      few = is.search.hands.last.few;
+      routed = (is.made_are.last, is.made_are.routed);
+      routed_as = none_routed r.search.hands.items r.search.history.rows [] refl;
+    }
 
 -- and with room in the budget one more can be added
 pub adds-phase : (net : Network) (o : SolveOptions) (r : Reached) (setting : Setting) → CanGoOn net o r → IsSetting setting → CanAddPhase net setting r.search

@@ -28,8 +28,9 @@ use Rattle.solver_run.specs.History.{routed_in, loads_after}
 use Rattle.solver_run.proofs.Paths.{phase-paths}
 use Rattle.flow_solver.specs.declared.search.Search.{Search}
 use Rattle.flow_solver.specs.declared.places.Place.{Place}
-use Rattle.flow_solver.specs.Adding.{ArePlaces, HasNoted, IsNoted}
-use Rattle.flow_solver.specs.Search.{AreIdle, CanRoute, HasAdded, HasRouted, IsBoundRoom, IsRouted, IsSearch, phases_in}
+use Rattle.solver_run.specs.declared.options.Entry.{Entry}
+use Rattle.flow_solver.specs.Adding.{ArePlaces, HasBegun, HasNoted, IsNoted}
+use Rattle.flow_solver.specs.Search.{AreIdle, CanRoute, HasAdded, HasRouted, HasRoutedBeside, IsBoundRoom, IsRouted, IsSearch, phases_in}
 use Rattle.flow_solver.proofs.Loads.{loads-more, loads-small, loads-within, once, phase-adds, phase-loads, total-amounts, room-above}
 
 -- hands
@@ -179,7 +180,7 @@ routed-phase net setting old new n can p size hands spare same pairs =
 
 -- a search with these loads and hands
 abbrev with_hands : Search → Vec ℕ Global × Vec Hand Global × Vec Hand Global → Search
-with_hands s t = record { loads = t.0; room = s.room; hands = t.1; spare = t.2; history = s.history; sought = s.sought }
+with_hands s t = record { loads = t.0; room = s.room; hands = t.1; spare = t.2; history = s.history; sought = s.sought; pace = s.pace }
 
 -- of history and room nothing is said
 pub routed-same : (net : Network) (setting : Setting) (old mid new : Search) → HasRouted net setting old mid → new.loads ≡ mid.loads → new.hands ≡ mid.hands → new.spare ≡ mid.spare → HasRouted net setting old new
@@ -203,21 +204,29 @@ noted-by net hands places old new same noted are = record {
   phases = λ entries once. noted.phases hands entries are once;
 }
 
+-- a phase of which the first commodities have their entries, and then the others
+pub noted-then : (net : Network) (hands : List Hand) (old mid new : HistoryView) (entries : List Entry) → HasBegun net hands old mid entries → HasNoted net hands mid new → HasNoted net hands old new
+noted-then net hands old mid new entries begun noted = record {
+  commodities = noted.commodities ∙ begun.commodities;
+  rows = noted.rows;
+  phases = λ last once. noted.phases last once ∙ ap (λ (t : List (List Routed)). t ++ last ∷ []) begun.phases;
+}
+
+-- one phase more beside the first entries of the one before, which is noted then
+pub added-beside : (net : Network) (setting : Setting) (old mid new : Search) (entries : List Entry) → HasRoutedBeside net setting old mid → HasBegun net old.hands.items old.history mid.history entries → new.loads ≡ mid.loads → new.hands ≡ mid.hands → new.spare ≡ mid.spare
+    → HasNoted net mid.spare.items mid.history new.history → IsBoundRoom net new.room → HasAdded net setting old new
+added-beside net setting old mid new entries is begun loads hands spare noted room = record {
+  routed = routed-same net setting old mid new is.routed loads hands spare;
+  noted = noted-then net old.hands.items old.history mid.history new.history entries begun (subst (λ (hs : Vec Hand Global). HasNoted net hs.items mid.history new.history) is.spare noted);
+  room = room;
+}
+
 -- one phase more, and the one before it is noted
 pub added-phase : (net : Network) (setting : Setting) (old mid new : Search) → IsRouted net setting old mid → new.loads ≡ mid.loads → new.hands ≡ mid.hands → new.spare ≡ mid.spare
     → HasNoted net mid.spare.items mid.history new.history → IsBoundRoom net new.room → HasAdded net setting old new
 added-phase net setting old mid new is loads hands spare noted room = record {
   routed = routed-same net setting old mid new is.routed loads hands spare;
   noted = subst (λ (h : HistoryView). HasNoted net old.hands.items h new.history) is.history (subst (λ (hs : Vec Hand Global). HasNoted net hs.items mid.history new.history) is.spare noted);
-  room = room;
-}
-
--- whatever room for a bound is left
-pub added-again : (net : Network) (setting : Setting) (old mid new : Search) → HasAdded net setting old mid → new.loads ≡ mid.loads → new.hands ≡ mid.hands → new.spare ≡ mid.spare → new.history ≡ mid.history
-    → IsBoundRoom net new.room → HasAdded net setting old new
-added-again net setting old mid new a loads hands spare history room = record {
-  routed = routed-same net setting old mid new a.routed loads hands spare;
-  noted = subst (λ (h : HistoryView). HasNoted net old.hands.items old.history h) (sym history) a.noted;
   room = room;
 }
 

@@ -37,20 +37,37 @@ pub record CanBeAdded (rows : List Row) (k : ℕ) (path : List ℕ) (amount : �
   pub small : amount ≤ MAX_LENGTH
   pub weight : (n : ℕ) → IsFirstRow rows k path n → (row_at rows n).weight + amount ≤ MAX_LENGTH
 
--- rows and entries belong together, and with one phase more they stay within their limits
-pub record CanTakePhase (net : Network) (h : HistoryView) : Type 0 where
+-- the phases and the first entries of one more have these rows
+pub record AreBegun (net : Network) (history : List (List Entry)) (entries : List Entry) (rows : List Row) : Type 0 where
+  pub apart : AreApart rows
+  pub before : All (NamesRows net rows) history
+  pub begun : (k : ℕ) (e : Entry) → slice_get entries k ≡ Some e → (e.row < length rows) × ((row_at rows e.row).commodity ≡ k)
+  pub weighed : (n : ℕ) (row : Row) → slice_get rows n ≡ Some row → IsWeighed net (history ++ entries ∷ []) n row
+  pub few : length rows ≤ length net.commodities * length history + length entries
+
+-- each entry's worker has routed its commodity along the path of its row
+pub record AreRoutedAs (hands : List Hand) (rows : List Row) (entries : List Entry) : Type 0 where
+  pub each : (k : ℕ) (e : Entry) → slice_get entries k ≡ Some e → HasRouted hands e.worker k (path_named rows e)
+
+-- the first commodities of one phase more have these entries, which belong together with the rows and all entries before; and with that
+-- phase whole they stay within their limits
+pub record CanTakePhase (net : Network) (h : HistoryView) (entries : List Entry) : Type 0 where
   pub commodities : h.commodities ≡ length net.commodities
-  pub rows : AreRowsFor net h.history h.rows
+  pub begun : AreBegun net h.history entries h.rows
+  pub few : length entries ≤ length net.commodities
   pub phases : length h.history < MAX_PHASES
   pub work : length net.commodities * (length h.history + 1) ≤ MAX_WORK
 
--- the phase that these hands have routed can be noted
-abbrev pub CanNote : Network → List Hand → HistoryView → Type 0
-CanNote net hands h = CanTakePhase net h × (length hands ≤ MAX_WORKERS) × HaveRouted net hands
+-- the phase that these hands have routed can be noted, of which the first commodities have these entries
+pub record CanNote (net : Network) (hands : List Hand) (h : HistoryView) (entries : List Entry) : Type 0 where
+  pub can : CanTakePhase net h entries
+  pub few : length hands ≤ MAX_WORKERS
+  pub routed : HaveRouted net hands
+  pub routed_as : AreRoutedAs hands h.rows entries
 
 -- the phase of which these are the places can be noted
 pub record CanBeNoted (net : Network) (h : HistoryView) (places : List Place) : Type 0 where
-  pub can : CanTakePhase net h
+  pub can : CanTakePhase net h []
   pub count : length places ≡ length net.commodities
   pub few : length places ≤ MAX_DEMANDS
 
@@ -65,25 +82,14 @@ pub record HasNoted (net : Network) (hands : List Hand) (old new : HistoryView) 
   pub rows : AreRowsFor net new.history new.rows
   pub phases : (entries : List Routed) → IsRoutedOnce net hands entries → phases_kept new ≡ phases_kept old ++ entries ∷ []
 
+-- the first commodities of the phase that these hands have routed have these entries, and the phases before are as they were
+pub record HasBegun (net : Network) (hands : List Hand) (old new : HistoryView) (entries : List Entry) : Type 0 where
+  pub commodities : new.commodities ≡ old.commodities
+  pub phases : phases_kept new ≡ phases_kept old
+  pub can : CanNote net hands new entries
+
 -- rows are appended, and the old ones keep their commodity and path
 pub record KeepsRows (old new : List Row) : Type 0 where
   pub more : length old ≤ length new
   pub commodity : (n : ℕ) → n < length old → (row_at new n).commodity ≡ (row_at old n).commodity
   pub walk : (n : ℕ) → n < length old → (row_at new n).walk ≡ (row_at old n).walk
-
--- the phases and the first entries of one more have these rows
-pub record AreBegun (net : Network) (history : List (List Entry)) (entries : List Entry) (rows : List Row) : Type 0 where
-  pub apart : AreApart rows
-  pub before : All (NamesRows net rows) history
-  pub begun : (k : ℕ) (e : Entry) → slice_get entries k ≡ Some e → (e.row < length rows) × ((row_at rows e.row).commodity ≡ k)
-  pub weighed : (n : ℕ) (row : Row) → slice_get rows n ≡ Some row → IsWeighed net (history ++ entries ∷ []) n row
-  pub few : length rows ≤ length net.commodities * length history + length entries
-
--- the entry's worker is the hand at its commodity's place, and its row is of the path there
-pub record IsNamedAt (places : List Place) (rows : List Row) (k : ℕ) (e : Entry) : Type 0 where
-  pub worker : e.worker ≡ (slice_index_or places k no_place).hand
-  pub path : path_named rows e ≡ path_at places k
-
--- so for each entry
-pub record AreNamed (places : List Place) (rows : List Row) (entries : List Entry) : Type 0 where
-  pub each : (k : ℕ) (e : Entry) → slice_get entries k ≡ Some e → IsNamedAt places rows k e

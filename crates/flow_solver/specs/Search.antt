@@ -8,6 +8,7 @@ use Rattle.phase_engine.specs.declared.hand.Hand.{Hand}
 use Rattle.phase_engine.specs.Hands.{HasRoomOf}
 use Rattle.phase_engine.specs.Routing.{IsRoutedPhase}
 use Rattle.flow_solver.specs.Adding.{CanNote, HasNoted}
+use Rattle.solver_run.specs.declared.options.Entry.{Entry}
 use Rattle.flow_solver.specs.Routes.{IsRoutedOnce}
 use Rattle.flow_solver.specs.Rows.{phases_kept, AreRowsFor}
 use Rattle.solver_run.specs.History.{loads_after}
@@ -91,13 +92,19 @@ pub record IsRouted (net : Network) (setting : Setting) (old new : Search) : Typ
 -- one phase more can be routed and bounded under the setting, and the phase that the hands have routed can be noted
 pub record CanAddPhase (net : Network) (setting : Setting) (s : Search) : Type 0 where
   pub can : CanRoute net setting s
-  pub note : CanNote net s.hands.items s.history
+  pub note : CanNote net s.hands.items s.history []
   pub room : IsBoundRoom net s.room
 
 -- the hands have routed one phase more under the setting, and the one before is noted; there is room for a bound
 pub record HasAdded (net : Network) (setting : Setting) (old new : Search) : Type 0 where
   pub routed : HasRouted net setting old new
   pub noted : HasNoted net old.hands.items old.history new.history
+  pub room : IsBoundRoom net new.room
+
+-- the hands have routed one phase more under the setting; those that routed the one before are spare now, and there is room for a bound
+pub record HasRoutedBeside (net : Network) (setting : Setting) (old new : Search) : Type 0 where
+  pub routed : HasRouted net setting old new
+  pub spare : new.spare ≡ old.hands
   pub room : IsBoundRoom net new.room
 
 -- the setting, the loads and the room are what a bound of the lengths under these loads is made of, each within its limits
@@ -108,7 +115,7 @@ CanBeBounded net setting loads room = IsSetting setting × (length loads ≡ len
 abbrev pub IsLesserUnder : Network → Setting → List ℕ → Option Bounded → Bounded → Type 0
 IsLesserUnder net setting loads earlier b = IsLesser net (lengths_of net setting loads) earlier b
 
--- the phase that the spare hands have routed can be noted, and a bound made of the loads
-pub record CanNoteAndBound (net : Network) (setting : Setting) (s : Search) : Type 0 where
-  pub note : CanNote net s.spare.items s.history
+-- the phase that the spare hands have routed can be noted, of which the first commodities have these entries, and a bound made of the loads
+pub record CanNoteAndBound (net : Network) (setting : Setting) (s : Search) (entries : List Entry) : Type 0 where
+  pub note : CanNote net s.spare.items s.history entries
   pub bound : CanBeBounded net setting s.loads.items s.room

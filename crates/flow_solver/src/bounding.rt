@@ -1,7 +1,7 @@
 //! The rows of a phase are noted, one phase more is routed, and a bound is made of its loads.
 
-ghost use Rattle.std.specs.Prelude.{◌≡◌, ◌<◌, ◌≤◌, IfOk, OnOk, max};
-ghost use Rattle.flow_solver.specs.Adding.{CanBeNoted, HasNoted, IsNoted};
+ghost use Rattle.std.specs.Prelude.{◌≡◌, ◌<◌, ◌≤◌, [], IfOk, OnOk, max};
+ghost use Rattle.flow_solver.specs.Adding.{CanBeNoted, CanNote, HasNoted, IsNoted};
 ghost use Rattle.flow_solver.specs.Search.{CanAddPhase, CanBeBounded, CanNoteAndBound, HasAdded, IsBoundRoom, IsLesserUnder};
 
 use crate::filling::bound_with;
@@ -14,6 +14,7 @@ use claimed_calls::Crew;
 use dual_bound::{Bounded, Team, lesser_in};
 use flow_model::Setting;
 use mcf_base::Gate;
+use solver_run::Entry;
 use std::alloc::{AllocError, Global};
 use std::thread::{Threads, join_mut};
 
@@ -75,7 +76,7 @@ fn note_and_bound<G: Gate, R: Threads + Sync>(
     search: &mut Search,
     earlier: Option<Bounded>,
 ) -> Result<Bounded, AllocError>
-    requires { CanNoteAndBound task.now.on.now.net.now task.now.setting search.old }
+    requires { CanNoteAndBound task.now.on.now.net.now task.now.setting search.old [] }
     ensures loads { search.new.loads ≡ search.old.loads }
     ensures hands { search.new.hands ≡ search.old.hands }
     ensures spare { search.new.spare ≡ search.old.spare }
@@ -87,12 +88,14 @@ fn note_and_bound<G: Gate, R: Threads + Sync>(
     let alloc = task.alloc;
     let on = task.on;
     let loads = search.loads.as_slice();
+    let mut entries = Vec::with_capacity(alloc, on.net.commodities().len())?;
     note_routes_of(
         alloc,
         on.net,
         &search.spare,
         &mut search.history,
         &mut search.sought,
+        &mut entries,
     )?;
     bound_of(
         team,
@@ -112,7 +115,7 @@ fn note_beside_bound<G: Gate, R: Threads + Sync>(
     search: &mut Search,
     earlier: Option<Bounded>,
 ) -> Result<Bounded, AllocError>
-    requires { CanNoteAndBound task.now.on.now.net.now task.now.setting search.old }
+    requires { CanNoteAndBound task.now.on.now.net.now task.now.setting search.old [] }
     ensures loads { search.new.loads ≡ search.old.loads }
     ensures hands { search.new.hands ≡ search.old.hands }
     ensures spare { search.new.spare ≡ search.old.spare }
@@ -180,6 +183,44 @@ fn phase_alone<G: Gate, R: Threads + Sync>(
     }
 }
 
+/// As `note_and_bound`, with some rows of the bound filled by so many threads of the crew. The first commodities of the phase have these
+/// entries; the others are noted by the caller's thread, before it fills rows of the bound too. `Err` is for want of memory, or where the
+/// crew gave up; and then the search can't go on.
+fn note_with_bound<'a, G: Gate>(
+    task: &Task<'a, G>,
+    crew: &mut Crew<'_, Share<'a, G>>,
+    search: &mut Search,
+    entries: &mut Vec<Entry>,
+    parts: u16,
+    earlier: Option<Bounded>,
+) -> Result<Bounded, AllocError>
+    requires { CanNoteAndBound task.now.on.now.net.now task.now.setting search.old entries.old.items }
+    ensures loads { search.new.loads ≡ search.old.loads }
+    ensures hands { search.new.hands ≡ search.old.hands }
+    ensures spare { search.new.spare ≡ search.old.spare }
+    ensures noted { OnOk result (HasNoted task.now.on.now.net.now search.old.spare.items
+        search.old.history search.new.history × IsBoundRoom task.now.on.now.net.now search.new.room) }
+    ensures bound { IfOk result
+        (IsLesserUnder task.now.on.now.net.now task.now.setting search.old.loads.items earlier) }
+{
+    let alloc = task.alloc;
+    let net = task.on.net;
+    let split = search.pace.split(search.room.rows.len(), parts);
+    let loads = search.loads.as_slice();
+    let hands = search.spare.as_slice();
+    let history = &mut search.history;
+    let sought = &mut search.sought;
+    let room = &mut search.room;
+    let mut note = || -> Result<(), AllocError>
+        requires { CanNote net.now hands.now history.now entries.now.items }
+        ensures { OnOk result (HasNoted net.entry.now hands.entry.now history.entry.now history.exit.now) }
+    { note_routes_of(alloc, net, hands, history, sought, entries) };
+    let (noted, bounded) = bound_with(task, loads, room, crew, split, earlier, &mut note);
+    search.pace = search.pace.after_bound(crew.has_waited());
+    noted?;
+    bounded
+}
+
 /// As `phase_alone`, with a crew, in whose threads hands take their turns and rows of the bound are filled. `Err` is for want of
 /// memory, or where the crew gave up; and then the search can't go on.
 fn phase_by_crew<'a, G: Gate, R: Threads + Sync>(
@@ -194,9 +235,9 @@ fn phase_by_crew<'a, G: Gate, R: Threads + Sync>(
     ensures bound { IfOk result
         (IsLesserUnder task.now.on.now.net.now task.now.setting search.new.loads.items earlier) }
 {
-    route_with(run.rt, task, crew, search)?;
-    let loads = search.loads.as_slice();
-    bound_with(task, loads, &mut search.room, crew, run.others(), earlier)
+    let mut entries = Vec::with_capacity(task.alloc, task.on.net.commodities().len())?;
+    route_with(run.rt, task, crew, search, &mut entries)?;
+    note_with_bound(task, crew, search, &mut entries, run.others(), earlier)
 }
 
 /// One phase more, by a crew where there is one, and the lesser of an earlier bound, if there is one, and that of the loads after it,

@@ -7,7 +7,7 @@ use crate::noted::{NotedRows, Sought, noted_row};
 use crate::places::Place;
 use flow_model::Net;
 use flow_paths::{PathStore, new_numbers, order_of, stored};
-use mcf_limits::{MAX_PHASES, MAX_WORK};
+use mcf_limits::MAX_PHASES;
 use solver_run::Entry;
 use std::alloc::{AllocError, Global};
 use std::marker::Model;
@@ -40,12 +40,13 @@ impl Model for PathHistory {
 }
 
 impl PathHistory {
-    ghost use Rattle.std.specs.Prelude.{◌≡◌, ℕ, ◌+◌, ◌*◌, ◌<◌, ◌≤◌, [], OnOk, OnErr, IfOk, length, map};
+    ghost use Rattle.std.specs.Prelude.{◌≡◌, ℕ, ◌<◌, ◌≤◌, ◌++◌, ◌∷◌, List, [], OnOk, OnErr, IfOk, length, map};
     ghost use Rattle.flow_model.specs.Network.{Network};
     ghost use Rattle.flow_paths.specs.PathRows.{Adds};
     ghost use Rattle.solver_run.specs.History.{routed_in, AreRowsOf};
     ghost use Rattle.flow_solver.specs.Rows.{phases_kept, AreRowsFor};
-    ghost use Rattle.flow_solver.specs.Adding.{CanBeAdded, CanBeNoted, IsNoted, KeepsRows, AreBegun, AreNamed};
+    ghost use Rattle.flow_solver.specs.Adding.{CanBeAdded, CanBeNoted, CanTakePhase, IsNoted, KeepsRows, AreBegun, ArePlaces, AreRoutedAs};
+    ghost use Rattle.phase_engine.specs.declared.hand.Hand.{Hand};
 
     /// No phase and no row, for the commodities of the network.
     pub fn new(alloc: Global, net: &Net) -> Self
@@ -116,31 +117,33 @@ impl PathHistory {
         Ok(row)
     }
 
-    /// Adds the path of each commodity to the rows, and answers the entries.
-    fn name_rows(
+    /// Adds the paths of the next commodities to the rows, and their entries to those of the first ones, until there are so many. `Err` is for
+    /// want of memory: the phases are as before, but weights may have grown, so nothing more can be added.
+    pub(crate) fn name_rows(
         &mut self,
-        alloc: Global,
         net: &Net,
         places: &[Place],
         last: &mut [u32],
         noted: &mut [NotedRows],
-    ) -> Result<Vec<Entry>, AllocError>
-        requires rows { AreRowsFor net.now self.old.history self.old.rows }
-        requires phases { length self.old.history < MAX_PHASES }
-        requires work { length net.now.commodities * (length self.old.history + 1) ≤ MAX_WORK }
+        entries: &mut Vec<Entry>,
+        until: usize,
+    ) -> Result<(), AllocError>
+        requires can { CanTakePhase net.now self.old entries.old.items }
         requires count { length places.now ≡ length net.now.commodities }
         requires last { length last.old ≡ length net.now.commodities }
         requires noted { length noted.old ≡ length net.now.commodities }
+        requires until { until ≤ length net.now.commodities }
+        requires more { length entries.old.items ≤ until }
         ensures commodities { self.new.commodities ≡ self.old.commodities }
         ensures history { self.new.history ≡ self.old.history }
         ensures keeps { KeepsRows self.old.rows self.new.rows }
-        ensures count { IfOk result (λ v. length v.items ≡ length net.now.commodities) }
-        ensures begun { IfOk result (λ v. AreBegun net.now self.old.history v.items self.new.rows) }
-        ensures named { IfOk result (λ v. AreNamed places.now self.new.rows v.items) }
+        ensures count { OnOk result (length entries.new.items ≡ until) }
+        ensures begun { OnOk result (AreBegun net.now self.old.history entries.new.items self.new.rows) }
+        ensures named { OnOk result ((hands : List Hand) → ArePlaces net.now hands places.now
+            → AreRoutedAs hands self.old.rows entries.old.items → AreRoutedAs hands self.new.rows entries.new.items) }
     {
         let commodities = net.commodities();
-        let mut entries = Vec::with_capacity(alloc, commodities.len())?;
-        for k in 0..commodities.len() {
+        for k in entries.len()..until {
             let row = self.add_path(
                 &mut last[k],
                 &mut noted[k],
@@ -153,7 +156,24 @@ impl PathHistory {
                 row,
             })?;
         }
-        Ok(entries)
+        Ok(())
+    }
+
+    /// Appends the phase whose entries these are. `Err` is for want of memory: the phases are as before.
+    pub(crate) fn append_phase(&mut self, _net: &Net, entries: &[Entry]) -> Result<(), AllocError>
+        requires commodities { self.old.commodities ≡ length _net.now.commodities }
+        requires phases { length self.old.history < MAX_PHASES }
+        requires begun { AreBegun _net.now self.old.history entries.now self.old.rows }
+        requires count { length entries.now ≡ length _net.now.commodities }
+        ensures ok { OnOk result (self.new ≡ record {
+          commodities = self.old.commodities;
+          rows = self.old.rows;
+          history = self.old.history ++ entries.now ∷ [];
+        }) }
+        ensures err { OnErr result (self.new ≡ self.old) }
+    {
+        self.entries.push(entries)?;
+        Ok(())
     }
 
     /// Appends the phase that hands have routed, with each commodity's place: its path is found among the rows, which grow by the
@@ -173,9 +193,9 @@ impl PathHistory {
     {
         sought.make_room(alloc, places.len())?;
         let Sought { last, noted } = sought;
-        let entries = self.name_rows(alloc, net, places, last, noted)?;
-        self.entries.push(&entries)?;
-        Ok(())
+        let mut entries = Vec::with_capacity(alloc, places.len())?;
+        self.name_rows(net, places, last, noted, &mut entries, places.len())?;
+        self.append_phase(net, &entries)
     }
 
     /// The same phases, with the rows in ascending order of commodity and then cells.

@@ -10,6 +10,7 @@ mod history;
 mod leading;
 mod noted;
 mod noting;
+mod pace;
 mod parts;
 mod places;
 mod prepared;

@@ -1,12 +1,13 @@
 //! The rows of a bound in parts, which any thread may fill.
 
-ghost use Rattle.std.specs.Prelude.{◌≡◌, ◌++◌, All, IfOk, OnOk};
+ghost use Rattle.std.specs.Prelude.{◌≡◌, ◌-◌, ◌++◌, [], All, IfOk, OnOk, length};
 ghost use Rattle.std.specs.Arc.{arc_value};
 ghost use Rattle.flow_model.specs.Lengths.{AreLengths};
 ghost use Rattle.dual_bound.specs.Rows.{IsRoom};
 ghost use Rattle.flow_solver.specs.Parts.{CanBeFilled, IsFilled, IsPartOf};
 ghost use Rattle.flow_solver.specs.Shares.{IsShareOf, rows_at, rows_in};
 
+use crate::pace::Split;
 use crate::share::Share;
 use dijkstra_paths::Graph;
 use dual_bound::{Row, refill_rows};
@@ -55,6 +56,7 @@ fn last_part<'a>(
     requires rows { All (IsRoom graph.now.nodes) rows.old.items }
     ensures part { IfOk result (IsPartOf graph.now (arc_value lengths.now).items) }
     ensures rows { IfOk result (λ part. rows.new.items ++ part.rows.items ≡ rows.old.items) }
+    ensures left { OnOk result (length rows.new.items ≡ length rows.old.items - size) }
     ensures room { OnOk result (All (IsRoom graph.now.nodes) rows.new.items) }
 {
     let at = rows.len().saturating_sub(size);
@@ -66,27 +68,29 @@ fn last_part<'a>(
     })
 }
 
-/// So many parts of so many rows each, from the last row on; the first rows are left. Where there are too few, the last parts have fewer or
-/// none. `Err` is for want of memory.
+/// All rows in parts: so many of so many rows each, from the last row on, and one of the first rows, which are left. Where there are too
+/// few, the last parts have fewer or none. `Err` is for want of memory.
 pub(crate) fn parts_of<'a, G>(
     alloc: Global,
     graph: &'a Graph,
     lengths: &Arc<Vec<u64>, Global>,
     rows: &mut Vec<Row>,
-    count: usize,
-    size: usize,
+    split: Split,
 ) -> Result<Vec<Option<Share<'a, G>>>, AllocError>
     requires lengths { AreLengths graph.now.cells (arc_value lengths.now).items }
     requires rows { All (IsRoom graph.now.nodes) rows.old.items }
     ensures parts { IfOk result (λ parts. All (IsShareOf graph.now (arc_value lengths.now).items) parts.items) }
-    ensures rows { IfOk result (λ parts. rows.new.items ++ rows_in parts.items ≡ rows.old.items) }
-    ensures room { OnOk result (All (IsRoom graph.now.nodes) rows.new.items) }
+    ensures rows { IfOk result (λ parts. rows_in parts.items ≡ rows.old.items) }
+    ensures none { OnOk result (rows.new.items ≡ []) }
 {
-    let mut parts = Vec::with_capacity(alloc, count)?;
-    for _ in 0..count {
-        let part = last_part(alloc, graph, lengths, rows, size)?;
+    let mut parts = Vec::new(alloc);
+    for _ in 0..split.parts {
+        let part = last_part(alloc, graph, lengths, rows, split.size)?;
         parts.push(Some(Share::Part(part)))?;
     }
+    let left = rows.len();
+    let rest = last_part(alloc, graph, lengths, rows, left)?;
+    parts.push(Some(Share::Part(rest)))?;
     Ok(parts)
 }
 

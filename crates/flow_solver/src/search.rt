@@ -9,13 +9,14 @@ ghost use Rattle.flow_core.specs.Phase.{terms_of};
 ghost use Rattle.phase_engine.specs.Hands.{HasRoomOf, IsFresh, AreSameWorkers};
 ghost use Rattle.phase_engine.specs.Routing.{IsRoutedPhase};
 ghost use Rattle.flow_solver.specs.Turns.{IsOver};
-ghost use Rattle.flow_solver.specs.Adding.{CanNote, HasNoted};
-ghost use Rattle.flow_solver.specs.Search.{CanAddPhase, CanRoute, HasAdded, IsRouted, IsSearch, phase_count};
+ghost use Rattle.flow_solver.specs.Adding.{CanNote, HasBegun, HasNoted};
+ghost use Rattle.flow_solver.specs.Search.{CanAddPhase, CanRoute, HasRoutedBeside, IsRouted, IsSearch, phase_count};
 
 use crate::PathHistory;
 use crate::hands::{forget_all, forget_turns, new_hands};
 use crate::noted::Sought;
-use crate::noting::note_routes_of;
+use crate::noting::{name_routes_of, note_routes_of};
+use crate::pace::Pace;
 use crate::prepared::Task;
 use crate::share::Share;
 use crate::turn::{take_all, trees_of};
@@ -26,6 +27,7 @@ use load_table::Loads;
 use mcf_base::Gate;
 use mcf_limits::{MAX_PHASES, MAX_WORKERS};
 use phase_engine::{Hand, PhaseInput, finish, hand_out, phase};
+use solver_run::Entry;
 use std::alloc::{AllocError, Global};
 use std::mem;
 use std::sync::Arc;
@@ -38,9 +40,9 @@ pub struct BoundRoom {
     pub rows: Vec<Row>,
 }
 
-/// What some phases have made: the load of each cell, and who routed what; room for bounds, and what was sought of the rows. The last phase
-/// stands in the hands alone: its rows are noted when the next one is routed, while other threads route it. So each worker has two hands,
-/// which route in turn; the spare ones are free for the next phase.
+/// What some phases have made: the load of each cell, and who routed what; room for bounds, what was sought of the rows, and how work is
+/// shared out with other threads. The last phase stands in the hands alone: its rows are noted when the next one has been routed or, where
+/// other threads route it, beside that. So each worker has two hands, which route in turn; the spare ones are free for the next phase.
 #[derive(Drop)]
 pub struct Search {
     pub loads: Vec<u64>,
@@ -49,6 +51,7 @@ pub struct Search {
     pub spare: Vec<Hand>,
     pub history: PathHistory,
     pub sought: Sought,
+    pub pace: Pace,
 }
 
 /// So many zeros.
@@ -78,6 +81,7 @@ pub fn new_search(alloc: Global, net: &Net, workers: u16) -> Result<Search, Allo
         spare: new_hands(alloc, net, workers)?,
         history: PathHistory::new(alloc, net),
         sought: Sought::new(alloc),
+        pace: Pace::new(workers),
     })
 }
 
@@ -95,7 +99,7 @@ pub(crate) fn whole_history(
     net: &Net,
     search: Search,
 ) -> Result<PathHistory, AllocError>
-    requires { CanNote net.now search.hands.items search.history }
+    requires { CanNote net.now search.hands.items search.history [] }
     ensures { IfOk result (HasNoted net.now search.hands.items search.history) }
 {
     let Search {
@@ -106,7 +110,8 @@ pub(crate) fn whole_history(
     } = search;
     let mut history = history;
     let mut sought = sought;
-    note_routes_of(alloc, net, &hands, &mut history, &mut sought)?;
+    let mut entries = Vec::with_capacity(alloc, net.commodities().len())?;
+    note_routes_of(alloc, net, &hands, &mut history, &mut sought, &mut entries)?;
     Ok(history)
 }
 
@@ -270,37 +275,54 @@ fn phase_with<'a, G: Gate, R: Threads + Sync, T, F: FnMut() -> T>(
     }
 }
 
-/// As `route`, with a crew in whose threads the hands take their turns; and the rows of the phase before are noted meanwhile. `Err` is for
-/// want of memory, or where the crew gave up or a turn shares the rows still, which no run does; and then the search can't go on.
+/// Whether the last of these hands, whose turn the caller's thread takes, has routed nothing.
+fn was_late(hands: &[Hand]) -> bool {
+    match hands.last() {
+        Some(hand) => hand.routes.len() == 0,
+        None => true,
+    }
+}
+
+/// As `route`, with a crew in whose threads the hands take their turns; meanwhile the rows of the first commodities of the phase before are
+/// noted, and their entries appended to none. `Err` is for want of memory, or where the crew gave up or a turn shares the rows still, which no run
+/// does; and then the search can't go on.
 pub(crate) fn route_with<'a, G: Gate, R: Threads + Sync>(
     rt: &R,
     task: &Task<'a, G>,
     crew: &mut Crew<'_, Share<'a, G>>,
     search: &mut Search,
+    entries: &mut Vec<Entry>,
 ) -> Result<(), AllocError>
-    requires { CanAddPhase task.now.on.now.net.now task.now.setting search.old }
-    ensures { OnOk result (HasAdded task.now.on.now.net.now task.now.setting search.old search.new) }
+    requires can { CanAddPhase task.now.on.now.net.now task.now.setting search.old }
+    requires none { entries.old.items ≡ [] }
+    ensures routed { OnOk result (HasRoutedBeside task.now.on.now.net.now task.now.setting search.old search.new) }
+    ensures begun { OnOk result (HasBegun task.now.on.now.net.now search.old.hands.items
+        search.old.history search.new.history entries.new.items) }
 {
     let alloc = task.alloc;
     let net = task.on.net;
-    let _commodities = net.commodities();
+    let commodities = net.commodities();
+    let first = search.pace.first_of(commodities.len());
     forget_all(&mut search.spare);
     let hands = mem::replace(&mut search.spare, Vec::new(alloc));
     let rows = Arc::new(alloc, mem::replace(&mut search.room.rows, Vec::new(alloc)))?;
     let before = search.hands.as_slice();
     let history = &mut search.history;
     let sought = &mut search.sought;
-    let mut note = || -> Result<(), AllocError>
-        requires { CanNote net.now before.now history.now }
-        ensures { OnOk result (HasNoted net.entry.now before.entry.now history.entry.now history.exit.now) }
-    { note_routes_of(alloc, net, before, history, sought) };
+    let mut name = || -> Result<(), AllocError>
+        requires { CanNote net.now before.now history.now entries.now.items
+            × (first ≤ length net.now.commodities) × (length entries.now.items ≤ first) }
+        ensures { OnOk result (HasBegun net.entry.now before.entry.now
+            history.entry.now history.exit.now entries.exit.now.items) }
+    { name_routes_of(alloc, net, before, history, sought, entries, first) };
     let loads = search.loads.as_mut_slice();
-    let (noted, back) = phase_with(rt, task, crew, &rows, loads, hands, &mut note);
-    noted?;
+    let (begun, back) = phase_with(rt, task, crew, &rows, loads, hands, &mut name);
+    begun?;
     search.spare = mem::replace(&mut search.hands, back?);
     let Ok(rows) = Arc::try_unwrap(rows) else {
         return Err(AllocError);
     };
     search.room.rows = rows;
+    search.pace = search.pace.after_routing(was_late(&search.hands));
     Ok(())
 }

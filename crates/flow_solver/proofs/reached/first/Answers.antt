@@ -20,7 +20,7 @@ returns-clause-reached g c =
     let o = c.args.run.now.options.now in
     let old = c.in_ok-search.search in
     let mid = c.route.new.search in
-    let new : Search = record { loads = mid.loads; room = c.bound_of.new.room; hands = mid.hands; spare = mid.spare; history = mid.history; sought = mid.sought } in
+    let new : Search = record { loads = mid.loads; room = c.bound_of.new.room; hands = mid.hands; spare = mid.spare; history = mid.history; sought = mid.sought; pace = mid.pace } in
     let f = c.measured-fill.result in
     let kept = c.in_ok-kept.kept in
     let setting : Setting = record { first = true; ref_cap = 0; ref_load = 1; step = o.step } in

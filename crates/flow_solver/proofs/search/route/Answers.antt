@@ -50,6 +50,7 @@ returns g c =
       spare = c.swap.new.y;
       history = old.history;
       sought = old.sought;
+      pace = old.pace;
     } in
     let idle = c.requires.hands.spare in
     let start : c.deref_mut.result.now ≡ old.spare.items = c.deref_mut.ensures.value ∙ ap (λ (v : Vec Hand Global). v.items) c.swap.ensures.x_after in
