@@ -117,8 +117,8 @@ impl PathHistory {
         Ok(row)
     }
 
-    /// Adds the paths of the next commodities to the rows, and their entries to those of the first ones, until there are so many. `Err` is for
-    /// want of memory: the phases are as before, but weights may have grown, so nothing more can be added.
+    /// Adds the paths of the next commodities to the rows, and their entries to those of the first ones, until there are so many. `Err` is
+    /// for want of memory: the phases are as before, but weights may have grown, so nothing more can be added.
     pub(crate) fn name_rows(
         &mut self,
         net: &Net,
@@ -140,7 +140,8 @@ impl PathHistory {
         ensures count { OnOk result (length entries.new.items ≡ until) }
         ensures begun { OnOk result (AreBegun net.now self.old.history entries.new.items self.new.rows) }
         ensures named { OnOk result ((hands : List Hand) → ArePlaces net.now hands places.now
-            → AreRoutedAs hands self.old.rows entries.old.items → AreRoutedAs hands self.new.rows entries.new.items) }
+            → AreRoutedAs hands self.old.rows entries.old.items
+            → AreRoutedAs hands self.new.rows entries.new.items) }
     {
         let commodities = net.commodities();
         for k in entries.len()..until {

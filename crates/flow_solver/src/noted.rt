@@ -1,55 +1,78 @@
 //! The rows that a commodity was found at of late: hints, of which no contract speaks.
 
-ghost use Rattle.std.specs.Prelude.{⊤, MatchOption};
+ghost use Rattle.std.specs.Prelude.{⊤, ◌<◌, MatchOption};
 ghost use Rattle.flow_solver.specs.Rows.{IsRowOf};
 
 use flow_paths::PathStore;
 use std::alloc::{AllocError, Global};
 use std::hint::select_unpredictable;
 
-/// How many rows are noted of a commodity.
-const NOTED_ROWS: usize = 8;
+/// How many rows are noted of a commodity in each of so many sets.
+const ROWS_OF_A_SET: usize = 8;
+
+const SETS: usize = 4;
 
 /// A row number that stands for none.
 const NO_ROW: u32 = u32::MAX;
 
-/// Rows of a commodity, each with the mark of its path, and the place of the next one. They are hints: a row is looked at before
-/// it is taken.
+/// Some rows of a commodity, each with the mark of its path, which lie side by side.
+#[derive(Clone, Copy)]
+struct NotedSet {
+    marks: [u32; ROWS_OF_A_SET],
+    rows: [u32; ROWS_OF_A_SET],
+}
+
+/// Rows of a commodity, in sets by the marks of their paths, and the place of the next one in each. They are hints: a row is looked at
+/// before it is taken.
 #[derive(Clone, Copy)]
 pub struct NotedRows {
-    marks: [u32; NOTED_ROWS],
-    rows: [u32; NOTED_ROWS],
-    next: u8,
+    sets: [NotedSet; SETS],
+    next: [u8; SETS],
 }
 
 impl NotedRows {
     /// No rows.
     pub fn new() -> Self {
+        let none = NotedSet {
+            marks: [0; ROWS_OF_A_SET],
+            rows: [NO_ROW; ROWS_OF_A_SET],
+        };
         NotedRows {
-            marks: [0; NOTED_ROWS],
-            rows: [NO_ROW; NOTED_ROWS],
-            next: 0,
+            sets: [none; SETS],
+            next: [0; SETS],
         }
     }
 
     /// The last row with the mark of this path.
     pub(crate) fn row_of(&self, path: &[u16]) -> u32 {
         let mark = mark_of(path);
+        let set = &self.sets[set_of(mark)];
         let mut found = NO_ROW;
-        for place in 0..NOTED_ROWS {
+        for place in 0..ROWS_OF_A_SET {
             // which of them it is follows no pattern
-            found = select_unpredictable(self.marks[place] == mark, self.rows[place], found);
+            found = select_unpredictable(set.marks[place] == mark, set.rows[place], found);
         }
         found
     }
 
-    /// Notes a row of this path, in the place of that which was noted first.
+    /// Notes a row of this path, in the place of that which was noted first in its set.
     pub(crate) fn note(&mut self, path: &[u16], row: u32) {
-        let place = self.next as usize % NOTED_ROWS;
-        self.marks[place] = mark_of(path);
-        self.rows[place] = row;
-        self.next = (place as u8 + 1) % NOTED_ROWS as u8;
+        let mark = mark_of(path);
+        let at = set_of(mark);
+        let place = self.next[at] as usize % ROWS_OF_A_SET;
+        let set = &mut self.sets[at];
+        set.marks[place] = mark;
+        set.rows[place] = row;
+        self.next[at] = (place as u8 + 1) % ROWS_OF_A_SET as u8;
     }
+}
+
+/// The set of a mark.
+#[inline(always)]
+fn set_of(mark: u32) -> usize
+    ensures { result < 4 }
+{
+    (mark >> 30) as usize % SETS
 }
 
 /// A mark of a path: others mostly have another one. It is made of five of its cells and their number alone, so that it takes the

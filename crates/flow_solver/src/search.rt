@@ -283,9 +283,9 @@ fn was_late(hands: &[Hand]) -> bool {
     }
 }
 
-/// As `route`, with a crew in whose threads the hands take their turns; meanwhile the rows of the first commodities of the phase before are
-/// noted, and their entries appended to none. `Err` is for want of memory, or where the crew gave up or a turn shares the rows still, which no run
-/// does; and then the search can't go on.
+/// As `route`, with a crew in whose threads the hands take their turns; meanwhile the first commodities of the phase before are
+/// noted, whose entries stand in `entries` then. `Err` is for want of memory, or where the crew gave up or a turn shares the rows still,
+/// which no run does; and then the search can't go on.
 pub(crate) fn route_with<'a, G: Gate, R: Threads + Sync>(
     rt: &R,
     task: &Task<'a, G>,
