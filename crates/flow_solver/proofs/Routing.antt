@@ -30,7 +30,7 @@ use Rattle.flow_solver.specs.declared.search.Search.{Search}
 use Rattle.flow_solver.specs.declared.places.Place.{Place}
 use Rattle.solver_run.specs.declared.options.Entry.{Entry}
 use Rattle.flow_solver.specs.Adding.{ArePlaces, HasBegun, HasNoted, IsNoted}
-use Rattle.flow_solver.specs.Search.{AreIdle, CanRoute, HasAdded, HasRouted, HasRoutedBeside, IsBoundRoom, IsRouted, IsSearch, phases_in}
+use Rattle.flow_solver.specs.Search.{AreIdle, CanRoute, HasAdded, HasRouted, IsBoundRoom, IsRouted, IsRoutedByCrew, IsSearch, phases_in}
 use Rattle.flow_solver.proofs.Loads.{loads-more, loads-small, loads-within, once, phase-adds, phase-loads, total-amounts, room-above}
 
 -- hands
@@ -213,7 +213,7 @@ noted-then net hands old mid new entries begun noted = record {
 }
 
 -- one phase more beside the first entries of the one before, which is noted then
-pub added-beside : (net : Network) (setting : Setting) (old mid new : Search) (entries : List Entry) → HasRoutedBeside net setting old mid → HasBegun net old.hands.items old.history mid.history entries → new.loads ≡ mid.loads → new.hands ≡ mid.hands → new.spare ≡ mid.spare
+pub added-beside : (net : Network) (setting : Setting) (old mid new : Search) (entries : List Entry) → IsRoutedByCrew net setting old mid → HasBegun net old.hands.items old.history mid.history entries → new.loads ≡ mid.loads → new.hands ≡ mid.hands → new.spare ≡ mid.spare
     → HasNoted net mid.spare.items mid.history new.history → IsBoundRoom net new.room → HasAdded net setting old new
 added-beside net setting old mid new entries is begun loads hands spare noted room = record {
   routed = routed-same net setting old mid new is.routed loads hands spare;

@@ -101,8 +101,9 @@ pub record HasAdded (net : Network) (setting : Setting) (old new : Search) : Typ
   pub noted : HasNoted net old.hands.items old.history new.history
   pub room : IsBoundRoom net new.room
 
--- the hands have routed one phase more under the setting; those that routed the one before are spare now, and there is room for a bound
-pub record HasRoutedBeside (net : Network) (setting : Setting) (old new : Search) : Type 0 where
+-- so it is by a crew: the hands have routed one phase more under the setting, those that routed the one before are spare now, and there is
+-- room for a bound
+pub record IsRoutedByCrew (net : Network) (setting : Setting) (old new : Search) : Type 0 where
   pub routed : HasRouted net setting old new
   pub spare : new.spare ≡ old.hands
   pub room : IsBoundRoom net new.room

@@ -191,7 +191,7 @@ fn note_with_bound<'a, G: Gate>(
     crew: &mut Crew<'_, Share<'a, G>>,
     search: &mut Search,
     entries: &mut Vec<Entry>,
-    parts: u16,
+    threads: u16,
     earlier: Option<Bounded>,
 ) -> Result<Bounded, AllocError>
     requires { CanNoteAndBound task.now.on.now.net.now task.now.setting search.old entries.old.items }
@@ -205,7 +205,9 @@ fn note_with_bound<'a, G: Gate>(
 {
     let alloc = task.alloc;
     let net = task.on.net;
-    let split = search.pace.split(search.room.rows.len(), parts);
+    let others = search.hands.len().saturating_sub(1);
+    let idle = others.saturating_sub(threads as usize);
+    let split = search.pace.split(search.room.rows.len(), threads, idle);
     let loads = search.loads.as_slice();
     let hands = search.spare.as_slice();
     let history = &mut search.history;
@@ -216,7 +218,7 @@ fn note_with_bound<'a, G: Gate>(
         ensures { OnOk result (HasNoted net.entry.now hands.entry.now history.entry.now history.exit.now) }
     { note_routes_of(alloc, net, hands, history, sought, entries) };
     let (noted, bounded) = bound_with(task, loads, room, crew, split, earlier, &mut note);
-    search.pace = search.pace.after_bound(crew.has_waited());
+    search.pace = search.pace.after_bound(threads, crew.has_waited());
     noted?;
     bounded
 }

@@ -67,12 +67,12 @@ impl NotedRows {
     }
 }
 
-/// The set of a mark.
+/// The set of a mark, by bits of it that all of its cells have a part in.
 #[inline(always)]
 fn set_of(mark: u32) -> usize
-    ensures { result < 4 }
+    ensures { result < SETS }
 {
-    (mark >> 30) as usize % SETS
+    (mark >> 16) as usize % SETS
 }
 
 /// A mark of a path: others mostly have another one. It is made of five of its cells and their number alone, so that it takes the

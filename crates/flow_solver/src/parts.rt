@@ -68,8 +68,7 @@ fn last_part<'a>(
     })
 }
 
-/// All rows in parts: so many of so many rows each, from the last row on, and one of the first rows, which are left. Where there are too
-/// few, the last parts have fewer or none. `Err` is for want of memory.
+/// All rows in parts: one for each thread, from the last row on, and one of the first rows, which are left. `Err` is for want of memory.
 pub(crate) fn parts_of<'a, G>(
     alloc: Global,
     graph: &'a Graph,
@@ -84,8 +83,8 @@ pub(crate) fn parts_of<'a, G>(
     ensures none { OnOk result (rows.new.items ≡ []) }
 {
     let mut parts = Vec::new(alloc);
-    for _ in 0..split.parts {
-        let part = last_part(alloc, graph, lengths, rows, split.size)?;
+    for i in 0..split.threads.saturating_add(split.idle) {
+        let part = last_part(alloc, graph, lengths, rows, split.rows_of(i))?;
         parts.push(Some(Share::Part(part)))?;
     }
     let left = rows.len();

@@ -10,7 +10,7 @@ ghost use Rattle.phase_engine.specs.Hands.{HasRoomOf, IsFresh, AreSameWorkers};
 ghost use Rattle.phase_engine.specs.Routing.{IsRoutedPhase};
 ghost use Rattle.flow_solver.specs.Turns.{IsOver};
 ghost use Rattle.flow_solver.specs.Adding.{CanNote, HasBegun, HasNoted};
-ghost use Rattle.flow_solver.specs.Search.{CanAddPhase, CanRoute, HasRoutedBeside, IsRouted, IsSearch, phase_count};
+ghost use Rattle.flow_solver.specs.Search.{CanAddPhase, CanRoute, IsRouted, IsRoutedByCrew, IsSearch, phase_count};
 
 use crate::PathHistory;
 use crate::hands::{forget_all, forget_turns, new_hands};
@@ -42,7 +42,7 @@ pub struct BoundRoom {
 
 /// What some phases have made: the load of each cell, and who routed what; room for bounds, what was sought of the rows, and how work is
 /// shared out with other threads. The last phase stands in the hands alone: its rows are noted when the next one has been routed or, where
-/// other threads route it, beside that. So each worker has two hands, which route in turn; the spare ones are free for the next phase.
+/// other threads route it, beside that and beside the bound after it. So each worker has two hands, which route in turn; the spare ones are free for the next phase.
 #[derive(Drop)]
 pub struct Search {
     pub loads: Vec<u64>,
@@ -81,7 +81,7 @@ pub fn new_search(alloc: Global, net: &Net, workers: u16) -> Result<Search, Allo
         spare: new_hands(alloc, net, workers)?,
         history: PathHistory::new(alloc, net),
         sought: Sought::new(alloc),
-        pace: Pace::new(workers),
+        pace: Pace::new(),
     })
 }
 
@@ -275,14 +275,6 @@ fn phase_with<'a, G: Gate, R: Threads + Sync, T, F: FnMut() -> T>(
     }
 }
 
-/// Whether the last of these hands, whose turn the caller's thread takes, has routed nothing.
-fn was_late(hands: &[Hand]) -> bool {
-    match hands.last() {
-        Some(hand) => hand.routes.len() == 0,
-        None => true,
-    }
-}
-
 /// As `route`, with a crew in whose threads the hands take their turns; meanwhile the first commodities of the phase before are
 /// noted, whose entries stand in `entries` then. `Err` is for want of memory, or where the crew gave up or a turn shares the rows still,
 /// which no run does; and then the search can't go on.
@@ -295,7 +287,7 @@ pub(crate) fn route_with<'a, G: Gate, R: Threads + Sync>(
 ) -> Result<(), AllocError>
     requires can { CanAddPhase task.now.on.now.net.now task.now.setting search.old }
     requires none { entries.old.items ≡ [] }
-    ensures routed { OnOk result (HasRoutedBeside task.now.on.now.net.now task.now.setting search.old search.new) }
+    ensures routed { OnOk result (IsRoutedByCrew task.now.on.now.net.now task.now.setting search.old search.new) }
     ensures begun { OnOk result (HasBegun task.now.on.now.net.now search.old.hands.items
         search.old.history search.new.history entries.new.items) }
 {
@@ -323,6 +315,6 @@ pub(crate) fn route_with<'a, G: Gate, R: Threads + Sync>(
         return Err(AllocError);
     };
     search.room.rows = rows;
-    search.pace = search.pace.after_routing(was_late(&search.hands));
+    search.pace = search.pace.after_routing(crew.has_waited());
     Ok(())
 }

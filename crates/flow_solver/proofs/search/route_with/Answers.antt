@@ -12,6 +12,9 @@ use Rattle.flow_solver.specs.declared.search.Search.{Search}
 use Rattle.flow_solver.specs.Search.{AreIdle}
 use Rattle.flow_solver.proofs.Routing.{start-of, fresh-hands, idle-again, routed-phase}
 use Rattle.flow_solver.proofs.Phasing.{from-ok}
+use Rattle.flow_solver.proofs.Sent.{share-send}
+use denote.Exit.{no}
+use denote.Param.Send.{arg_send, param_send, param_sync}
 use Rattle.flow_solver.proofs.search.route_with.Goals as goal
 
 pub phase_with-begun-requires-clause-start : goal.phase_with-begun-requires-clause-start
@@ -32,6 +35,9 @@ phase_with-begun-requires-clause-fresh g c κs within =
     let now : c.replace-hands.result.items ≡ c.forget_all.new.hands = ap (λ (v : _). v.items) c.replace-hands.ensures.value ∙ with_items_is old.spare c.forget_all.new.hands (omega arith) in
     subst (λ (hs : List Hand). (k : ℕ) (d : Hand) → k < length hs → IsFresh net k (get_or hs k d)) (sym now)
     (fresh-hands net c.deref_mut.result.now c.forget_all.new.hands (subst (AreIdle net) (sym c.deref_mut.ensures.value) c.requires.can.can.hands.spare) (omega arith) c.forget_all.ensures)
+
+pub has_waited-requires-send-J : goal.has_waited-requires-send-J
+has_waited-requires-send-J g c κs within = param_send 0 _ (arg_send _ no _ (share-send _ _ (param_sync 0 _ c.type_bounds.sync-G)))
 
 pub returns-clause-routed : goal.returns-clause-routed
 returns-clause-routed g c =
