@@ -47,7 +47,7 @@ pub struct Seats<J: Job> {
     ghost mate_is: { mate.me ≡ (Serves, []) },
 }
 
-/// What the owner of jobs has of a post, whether a job of its is out, and whether it had to wait for the last one that came back.
+/// What the owner of jobs has of a post, whether a job of its is out, and whether the one that it offered last went out and had to be waited for.
 #[derive(Drop)]
 pub(crate) struct End<'a, J: Job> {
     post: &'a Post<J>,
@@ -96,7 +96,8 @@ impl<'a, J: Job> End<'a, J> {
         }
     }
 
-    /// Whether the last job that came back was waited for: it was not done when it was first looked for. No proof rests on what this tells.
+    /// Whether the job that was offered last went out and was waited for: it was not done when it was first looked for. No proof rests on what
+    /// this tells.
     pub(crate) fn has_waited(&self) -> bool {
         self.has_waited
     }
@@ -115,6 +116,7 @@ impl<'a, J: Job> End<'a, J> {
         if self.out {
             return Err(job);
         }
+        self.has_waited = false;
         let shared = &self.post.table.shared;
         drop(shared.exchange(&mut self.seat, 0, Some(job)));
         if shared.compare_exchange::<Leave>(&mut self.seat, 0, FREE, HANDED) == FREE {

@@ -55,7 +55,7 @@ numbers-below a n (x ∷ xs) l = go (numbers-below (a + 1) n xs (omega arith))
     go h (suc k) d m = h k d (omega arith)
 
 -- each commodity's source has one row
-one-row : (net : Network) (rows : List Row) (i : ℕ) (d : Commodity) → IsNetwork net → sources_of rows ≡ group_sources net → i < length net.commodities
+pub one-row : (net : Network) (rows : List Row) (i : ℕ) (d : Commodity) → IsNetwork net → sources_of rows ≡ group_sources net → i < length net.commodities
     → count_by (λ r. eqb r.node (get_or net.commodities i d).from) (potentials_of rows) ≡ 1
 one-row net rows i d n e l =
     let fits : IsCommodity net.nodes (get_or net.commodities i d) = n.commodities i d l in

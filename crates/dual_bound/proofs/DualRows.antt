@@ -2,7 +2,6 @@
 use Rattle.std.proofs.Common.{◌≡◌, ◌≢◌, inl, inr, ℕ, zero, suc, ◌+◌, ◌<◌, ◌≤◌, List, [], ◌∷◌, Bool, true, false, cond, eqb, length, get_or, map, Some, refl, sym, ap, subst, ◌∙◌, arith}
 use Rattle.std.specs.Prelude.{All, count_by, find}
 use Rattle.std.specs.List.{filter, range_with_len}
-use Rattle.std.proofs.lemmas.List.{get_or-map, length-map}
 use Rattle.std.proofs.lemmas.List.Sums.{sum_by-cons}
 use Rattle.std.proofs.lemmas.List.FromFn.{fill_by_all}
 use Rattle.std.proofs.lemmas.Bool.{cases_eq, eq-eqb, ne_eqb}
@@ -110,7 +109,3 @@ row-found P (r ∷ rows) v h e = elim (cases_eq r.node v) [
       let found = row-found P rows v (All-tail P r rows h) (count-rest r rows v test e) in
       (found.0, rw test found.1, found.2, found.3)
 ]
-
--- what holds of each of a list's images
-pub all_unmapped : {A B : Type 0} (P : B → Type 0) (f : A → B) (xs : List A) → All P (map f xs) → All (λ x. P (f x)) xs
-all_unmapped P f xs h = λ k d l. subst P (get_or-map f xs k d (f d) l) (h k (f d) (let n = length-map xs f in omega arith))

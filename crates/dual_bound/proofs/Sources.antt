@@ -1,17 +1,7 @@
 -- The sources of commodities, in the order of nodes.
-use Rattle.std.proofs.Common.{◌≡◌, ℕ, zero, suc, ◌+◌, List, [], ◌∷◌, ◌++◌, Bool, true, false, cond, refl, sym, ap, ◌∙◌, arith, add-one}
-use Rattle.std.specs.Prelude.{◌||◌}
-use Rattle.std.specs.List.{filter, list_any, range_with_len}
+use Rattle.std.proofs.Common.{◌≡◌, ℕ, zero, suc, ◌+◌, List, [], ◌∷◌, ◌++◌, Bool, cond, refl, sym, ap, ◌∙◌, arith, add-one}
+use Rattle.std.specs.List.{filter, range_with_len}
 use Rattle.std.proofs.lemmas.List.Elements.{filter-append}
-use Rattle.flow_model.specs.declared.net.Commodity.{Commodity}
-
-any-append : (p : Commodity → Bool) (xs ys : List Commodity) → list_any p (xs ++ ys) ≡ (list_any p xs || list_any p ys)
-any-append p [] ys = refl
-any-append p (x ∷ xs) ys = step (p x) (list_any p xs) (list_any p (xs ++ ys)) (list_any p ys) (any-append p xs ys)
-  where
-    step : (a b c d : Bool) → c ≡ (b || d) → (a || c) ≡ ((a || b) || d)
-    step true b c d e = refl
-    step false b c d e = e
 
 range-more : (a n : ℕ) → range_with_len a (suc n) ≡ range_with_len a n ++ (a + n) ∷ []
 range-more a zero = let e : a + 0 ≡ a = omega arith in rw e refl

@@ -1,15 +1,14 @@
 //! The bound of lengths, and the bound of a cut.
 
-ghost use Rattle.std.specs.Prelude.{◌≡◌, ℕ, ◌≤◌, IfOk, OnOk, All, length};
+ghost use Rattle.std.specs.Prelude.{◌≡◌, ℕ, ◌^◌, ◌<◌, ◌≤◌, IfOk, OnOk, All, length, slice_index_or};
 ghost use Rattle.flow_model.specs.Lengths.{AreLengths};
 ghost use Rattle.fixed_exp.specs.Far.{EmptyAreFar};
 ghost use Rattle.dijkstra_paths.specs.Reach.{IsFirstCut};
 ghost use Rattle.flow_paths.specs.Certificate.{upper_of};
 ghost use Rattle.dual_bound.specs.Bounds.{CanDivide, IsBounded, IsCutDual, IsCutPotential, IsLesser, ShowsBound, cut_lengths, lesser};
-ghost use Rattle.dual_bound.specs.Rows.{AreRoom, HasDistances, IsFilledWith, IsRoom, bounded_of, dual_of, sources_of};
-ghost use Rattle.flow_model.specs.Groups.{group_sources};
+ghost use Rattle.dual_bound.specs.Rows.{AreRoom, AreWeighted, HasDistances, IsFilledWith, IsRoom, KeepsRoom, bounded_of, demands_in, demands_of, dual_of, weight_of};
 
-use crate::dual::{are_filled, assembled_in};
+use crate::dual::{are_filled, assembled_from};
 use crate::rows::{Row, blank_all, fill_all, fill_rows, mark_all, source_rows};
 use crate::team::Team;
 use crate::value::upper;
@@ -30,20 +29,24 @@ pub struct Bounded {
 }
 
 /// The lesser of an earlier bound, if there is one, and that of these lengths and filled rows, whose dual is made only where it is the
-/// lesser, in the memory of the other one. Its value is volume over weighted distance, not reduced.
+/// lesser: the rows give it their numbers, get the memory of the earlier one's rows, or new room, and are blank then. Its value is volume over weighted distance, not reduced.
 fn lesser(
     alloc: Global,
     net: &Net,
     lengths: &[u64],
-    rows: &[Row],
+    rows: &mut [Row],
     earlier: Option<Bounded>,
 ) -> Result<Bounded, AllocError>
-    requires rows { All (λ row. All (λ n. n ≤ MAX_LENGTH) row.values.items) rows.now }
-    requires divides { CanDivide net.now lengths.now (dual_of lengths.now rows.now) }
-    ensures { IfOk result (λ b. b ≡ lesser earlier (bounded_of net.now lengths.now rows.now)) }
+    requires rows { All (λ row. All (λ n. n ≤ MAX_LENGTH) row.values.items) rows.old }
+    requires divides { CanDivide net.now lengths.now (dual_of lengths.now rows.old) }
+    requires weighted { AreWeighted net.now rows.old }
+    requires limit { weight_of rows.old ≤ 2 ^ 108 }
+    ensures lesser { IfOk result (λ b. b ≡ lesser earlier (bounded_of net.now lengths.now rows.old)) }
+    ensures rows { OnOk result ((k : ℕ) (d : _) → k < length rows.old
+        → KeepsRoom (slice_index_or rows.old k d) (slice_index_or rows.new k d)) }
 {
     let _cells = net.cells();
-    let value = upper(alloc, net, lengths, rows)?;
+    let value = upper(net, lengths, rows);
     let room = match earlier {
         Some(earlier) => {
             if earlier.value.cmp(&value) != Ordering::Greater {
@@ -53,7 +56,7 @@ fn lesser(
         }
         None => Dual::new(alloc),
     };
-    let dual = assembled_in(room, alloc, lengths, rows)?;
+    let dual = assembled_from(alloc, room, lengths, rows)?;
     Ok(Bounded { dual, value })
 }
 
@@ -67,7 +70,7 @@ fn refill<R: Threads + Sync>(
 )
     requires lengths { AreLengths graph.now.cells lengths.now }
     requires rows { All (IsRoom graph.now.nodes) rows.old }
-    ensures sources { sources_of rows.new ≡ sources_of rows.old }
+    ensures demands { demands_of rows.new ≡ demands_of rows.old }
     ensures distances { All (HasDistances graph.now lengths.now) rows.new }
 {
     blank_all(rows);
@@ -79,27 +82,28 @@ fn refill<R: Threads + Sync>(
 pub fn refill_rows(alloc: Global, graph: &Graph, lengths: &[u64], rows: &mut [Row])
     requires lengths { AreLengths graph.now.cells lengths.now }
     requires rows { All (IsRoom graph.now.nodes) rows.old }
-    ensures sources { sources_of rows.new ≡ sources_of rows.old }
+    ensures demands { demands_of rows.new ≡ demands_of rows.old }
     ensures distances { All (HasDistances graph.now lengths.now) rows.new }
 {
     blank_all(rows);
     fill_rows(alloc, graph, lengths, rows);
 }
 
-/// The bound of these lengths, of rows that were filled with distances, or an earlier one that is not greater. `Err` is for want of
-/// memory, which a row that is not filled stands for.
+/// The bound of these lengths, of rows that were filled with distances, or an earlier one that is not greater. After an
+/// `Ok` the rows are room for the next bound; what they hold is not said. `Err` is for want of memory, which a row that is not filled
+/// stands for; then the rows are of no more use, and the earlier bound is gone too.
 pub fn lesser_of_rows(
     alloc: Global,
     net: &Net,
     lengths: &[u64],
-    rows: &[Row],
+    rows: &mut [Row],
     earlier: Option<Bounded>,
 ) -> Result<Bounded, AllocError>
     requires lengths { AreLengths net.now.cells lengths.now }
     requires empty { EmptyAreFar net.now.cells lengths.now }
-    requires sources { sources_of rows.now ≡ group_sources net.now }
-    requires distances { All (HasDistances net.now lengths.now) rows.now }
-    ensures rows { OnOk result (AreRoom net.now rows.now) }
+    requires demands { demands_of rows.old ≡ demands_in net.now }
+    requires distances { All (HasDistances net.now lengths.now) rows.old }
+    ensures rows { OnOk result (AreRoom net.now rows.new) }
     ensures lesser { IfOk result (IsLesser net.now lengths.now earlier) }
 {
     let _cells = net.cells();
@@ -113,7 +117,7 @@ pub fn lesser_of_rows(
 /// A row of marks for each source: 0 for what it reaches, 1 for what it does not.
 fn cut_rows(alloc: Global, net: &Net, graph: &Graph) -> Result<Vec<Row>, AllocError>
     requires graph { graph.now ≡ net.now }
-    ensures sources { IfOk result (λ rows. sources_of rows.items ≡ group_sources net.now) }
+    ensures demands { IfOk result (λ rows. demands_of rows.items ≡ demands_in net.now) }
     ensures filled { IfOk result (λ rows. All
         (IsFilledWith net.now.nodes (IsCutPotential net.now.cells)) rows.items) }
 {
@@ -177,8 +181,8 @@ pub fn cut_bound(alloc: Global, net: &Net, graph: &Graph) -> Result<Bounded, All
     ensures zero { IfOk result (λ b. b.value.num ≡ 0) }
 {
     let lengths = lengths_of_cut(alloc, net.cells())?;
-    let rows = cut_rows(alloc, net, graph)?;
-    lesser(alloc, net, &lengths, &rows, None)
+    let mut rows = cut_rows(alloc, net, graph)?;
+    lesser(alloc, net, &lengths, &mut rows, None)
 }
 
 /// 1 for a cell without capacity, 0 for every other.

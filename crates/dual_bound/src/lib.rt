@@ -9,5 +9,5 @@ mod value;
 
 pub use bounds::{Bounded, bound, cut_bound, lesser_in, lesser_of_rows, refill_rows};
 pub use dual::{are_filled, assembled};
-pub use rows::{Row, blank_row, fill_rows, mark_all, source_rows};
+pub use rows::{Row, Target, blank_row, fill_rows, mark_all, source_rows};
 pub use team::Team;

@@ -1,83 +1,102 @@
 //! A row for each source of a commodity, in the order of nodes.
 
-ghost use Rattle.std.specs.Prelude.{◌≡◌, ℕ, max, ◌<◌, ◌≤◌, ◌++◌, ◌∷◌, [], All, IfOk, OnOk, length, slice_index, slice_index_or, false, if◌then◌else◌};
-ghost use Rattle.flow_model.specs.Groups.{group_sources, is_source};
+ghost use Rattle.std.specs.Prelude.{◌≡◌, ℕ, max, ◌<◌, ◌≤◌, [], All, IfOk, OnOk, length, map, slice_index, slice_index_or, false, if◌then◌else◌};
+ghost use Rattle.std.specs.List.{sum_by};
 ghost use Rattle.flow_model.specs.Lengths.{AreLengths};
 ghost use Rattle.dijkstra_paths.specs.Searched.{dist_at};
 ghost use Rattle.flow_model.specs.Least.{far_or};
-ghost use Rattle.dual_bound.specs.Rows.{Fills, IsBlank, IsFilledWith, IsMadeBlank, mark_at, sources_of};
+ghost use Rattle.dual_bound.specs.Rows.{Fills, IsBlank, IsFilledWith, IsMadeBlank, demands_in, demands_of, mark_at, target_at, weighted_from};
 ghost use Rattle.dual_bound.specs.Bounds.{IsCutPotential};
 
 use crate::team::Team;
 use dijkstra_paths::{Graph, Scratch, Tree};
-use flow_model::{Commodity, Net};
-use mcf_limits::{MAX_LENGTH, MAX_NODES};
+use flow_model::{Commodity, Groups, Net};
+use mcf_limits::{MAX_LENGTH, MAX_NODES, MAX_TOTAL};
 use std::alloc::{AllocError, Global};
 use std::thread::Threads;
 
 /// From this product of rows and cells on the searches take longer than the start of a few threads.
 const WORK_OF_A_START: usize = 1 << 15;
 
-/// A source with a number for each node: a distance or a mark, of at most 2^62. A row that is not filled is blank. The tree is
-/// what the last search for its distances left, where the next one begins.
+/// A node that a commodity goes to, and the commodity's amount.
+#[derive(Clone, Copy)]
+pub struct Target {
+    pub to: u16,
+    pub amount: u64,
+}
+
+/// A source with a number for each node: a distance or a mark, of at most 2^62. A row that is not filled is blank. It may have targets;
+/// `weighted` of a filled row is the sum over them of amount times the target's number less the source's, or 0 where that is negative. The
+/// tree is what the last search for distances left, where the next one begins.
 #[derive(Drop)]
 pub struct Row {
     pub source: u16,
+    pub targets: Vec<Target>,
     pub is_filled: bool,
     pub values: Vec<u64>,
+    pub weighted: u128,
     pub tree: Tree,
 }
 
-/// A blank row of the source, over so many nodes.
-pub fn blank_row(alloc: Global, source: u16, nodes: u16) -> Result<Row, AllocError>
-    requires { source < nodes }
+/// A blank row of the source with these targets, over so many nodes.
+fn row_with(alloc: Global, source: u16, nodes: u16, targets: Vec<Target>) -> Result<Row, AllocError>
+    requires source { source < nodes }
+    requires targets { All (λ t. t.to < nodes) targets.items }
+    requires total { sum_by (λ t. t.amount) targets.items ≤ MAX_TOTAL }
     ensures source { IfOk result (λ row. row.source ≡ source) }
+    ensures targets { IfOk result (λ row. row.targets.items ≡ targets.items) }
     ensures blank { IfOk result (IsBlank nodes) }
 {
     Ok(Row {
         source,
+        targets,
         is_filled: false,
         values: vec![in alloc; 0; nodes as usize]?,
+        weighted: 0,
         tree: Tree::new(alloc, nodes)?,
     })
 }
 
-/// Which nodes are the source of a commodity.
-fn source_marks(
-    alloc: Global,
-    nodes: u16,
-    commodities: &[Commodity],
-) -> Result<Vec<bool>, AllocError>
-    requires { All (λ k. k.from < nodes) commodities.now }
-    ensures count { IfOk result (λ marks. length marks.items ≡ nodes) }
-    ensures each { IfOk result (λ marks. (v : ℕ) → v < nodes
-        → mark_at marks.items v ≡ is_source commodities.now v) }
+/// A blank row of the source, over so many nodes, without targets.
+pub fn blank_row(alloc: Global, source: u16, nodes: u16) -> Result<Row, AllocError>
+    requires { source < nodes }
+    ensures source { IfOk result (λ row. row.source ≡ source) }
+    ensures targets { IfOk result (λ row. row.targets.items ≡ []) }
+    ensures blank { IfOk result (IsBlank nodes) }
 {
-    let mut marks = vec![in alloc; false; nodes as usize]?;
-    for commodity in commodities {
-        marks[commodity.from as usize] = true;
-    }
-    Ok(marks)
+    row_with(alloc, source, nodes, Vec::new(alloc))
 }
 
-/// Appends a blank row, if the node is a source.
-fn append_row(
+/// Where the commodities of these numbers go to.
+fn targets_at(
     alloc: Global,
-    rows: &mut Vec<Row>,
-    is_source: bool,
-    source: u16,
-    nodes: u16,
-) -> Result<(), AllocError>
-    requires { source < nodes }
-    ensures sources { OnOk result (sources_of rows.new.items
-        ≡ sources_of rows.old.items ++ (if is_source then source ∷ [] else [])) }
-    ensures blank { OnOk result (All (IsBlank nodes) rows.old.items → All (IsBlank nodes) rows.new.items) }
+    commodities: &[Commodity],
+    members: &[u32],
+) -> Result<Vec<Target>, AllocError>
+    requires { All (λ k. k < length commodities.now) members.now }
+    ensures { IfOk result (λ targets. targets.items ≡ map (target_at commodities.now) members.now) }
 {
-    if !is_source {
-        return Ok(());
+    let mut targets = Vec::with_capacity(alloc, members.len())?;
+    for k in members {
+        let Commodity { to, amount, .. } = commodities[*k as usize];
+        targets.push(Target { to, amount })?;
     }
-    rows.push(blank_row(alloc, source, nodes)?)?;
-    Ok(())
+    Ok(targets)
+}
+
+/// A blank row for each node that is the source of a commodity, in the order of nodes, with the commodities of the source as targets.
+pub fn source_rows(alloc: Global, net: &Net) -> Result<Vec<Row>, AllocError>
+    ensures demands { IfOk result (λ rows. demands_of rows.items ≡ demands_in net.now) }
+    ensures blank { IfOk result (λ rows. All (IsBlank net.now.nodes) rows.items) }
+{
+    let groups = Groups::new(alloc, net)?;
+    let commodities = net.commodities();
+    let mut rows = Vec::with_capacity(alloc, groups.count() as usize)?;
+    for g in 0..groups.count() {
+        let targets = targets_at(alloc, commodities, groups.members(g))?;
+        rows.push(row_with(alloc, groups.source(g), net.nodes(), targets)?)?;
+    }
+    Ok(rows)
 }
 
 fn make_blank(row: &mut Row)
@@ -86,7 +105,7 @@ fn make_blank(row: &mut Row)
     row.is_filled = false;
 }
 
-/// Makes the rows blank, and keeps their trees.
+/// Makes the rows blank, and keeps their targets and trees.
 pub fn blank_all(rows: &mut [Row])
     ensures { (k : ℕ) (d : _) → k < length rows.old
         → IsMadeBlank (slice_index_or rows.old k d) (slice_index_or rows.new k d) }
@@ -94,20 +113,6 @@ pub fn blank_all(rows: &mut [Row])
     for row in rows.iter_mut() {
         make_blank(row);
     }
-}
-
-/// A blank row for each node that is the source of a commodity, in the order of nodes.
-pub fn source_rows(alloc: Global, net: &Net) -> Result<Vec<Row>, AllocError>
-    ensures sources { IfOk result (λ rows. sources_of rows.items ≡ group_sources net.now) }
-    ensures blank { IfOk result (λ rows. All (IsBlank net.now.nodes) rows.items) }
-{
-    let nodes = net.nodes();
-    let marks = source_marks(alloc, nodes, net.commodities())?;
-    let mut rows = Vec::new(alloc);
-    for v in 0..nodes {
-        append_row(alloc, &mut rows, marks[v as usize], v, nodes)?;
-    }
-    Ok(rows)
 }
 
 /// Puts each node's distance in its place, and 2^62 where there is none.
@@ -122,6 +127,23 @@ fn put_distances(scratch: &Scratch, values: &mut [u64])
     }
 }
 
+/// Amount times the target's number less the source's, or 0 where that is negative, over all targets.
+fn weighted_sum(source: u16, targets: &[Target], values: &[u64]) -> u128
+    requires source { source < length values.now }
+    requires targets { All (λ t. t.to < length values.now) targets.now }
+    requires total { sum_by (λ t. t.amount) targets.now ≤ MAX_TOTAL }
+    requires small { All (λ n. n ≤ MAX_LENGTH) values.now }
+    ensures { result ≡ weighted_from source values.now targets.now }
+{
+    let from = values[source as usize];
+    let mut total = 0u128;
+    for target in targets {
+        let far = values[target.to as usize].saturating_sub(from);
+        total += u128::from(target.amount) * u128::from(far);
+    }
+    total
+}
+
 fn fill_row(scratch: &mut Scratch, graph: &Graph, lengths: &[u64], row: &mut Row)
     requires lengths { AreLengths graph.now.cells lengths.now }
     requires scratch { scratch.old.nodes ≡ graph.now.nodes }
@@ -132,6 +154,7 @@ fn fill_row(scratch: &mut Scratch, graph: &Graph, lengths: &[u64], row: &mut Row
     let _nodes = graph.nodes();
     scratch.search_from(graph, lengths, row.source, &mut row.tree);
     put_distances(scratch, &mut row.values);
+    row.weighted = weighted_sum(row.source, &row.targets, &row.values);
     row.is_filled = true;
 }
 
@@ -213,11 +236,13 @@ fn put_marks(reached: &[bool], values: &mut [u64])
 fn mark_row(alloc: Global, graph: &Graph, row: &mut Row) -> Result<(), AllocError>
     requires { IsBlank graph.now.nodes row.old }
     ensures source { OnOk result (row.new.source ≡ row.old.source) }
+    ensures targets { OnOk result (row.new.targets ≡ row.old.targets) }
     ensures marks { OnOk result (IsFilledWith graph.now.nodes (IsCutPotential graph.now.cells) row.new) }
 {
     let _nodes = graph.nodes();
     let reached = graph.reach(alloc, row.source)?;
     put_marks(&reached, &mut row.values);
+    row.weighted = weighted_sum(row.source, &row.targets, &row.values);
     row.is_filled = true;
     Ok(())
 }
@@ -228,6 +253,8 @@ pub fn mark_all(alloc: Global, graph: &Graph, rows: &mut [Row]) -> Result<(), Al
     requires rows { (k : ℕ) (d : _) → k < length rows.old → IsBlank graph.now.nodes (slice_index_or rows.old k d) }
     ensures sources { OnOk result ((k : ℕ) (d : _) → k < length rows.old
         → (slice_index_or rows.new k d).source ≡ (slice_index_or rows.old k d).source) }
+    ensures targets { OnOk result ((k : ℕ) (d : _) → k < length rows.old
+        → (slice_index_or rows.new k d).targets ≡ (slice_index_or rows.old k d).targets) }
     ensures marks { OnOk result (All (IsFilledWith graph.now.nodes (IsCutPotential graph.now.cells)) rows.new) }
 {
     for row in rows.iter_mut() {

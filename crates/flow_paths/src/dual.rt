@@ -65,6 +65,8 @@ impl Dual {
         self.lengths.clear();
         mem::swap(&mut self.potentials, &mut self.spare);
         self.potentials.clear();
+        // the first row to come takes the memory of the first one
+        self.spare.reverse();
     }
 
     /// Memory for a row of potentials, if there is any to spare.
@@ -105,6 +107,36 @@ impl Dual {
         room.clear();
         room.extend_from_slice(values)?;
         self.potentials.push(PotentialRow { node, values: room })?;
+        Ok(())
+    }
+
+    /// As `push_row`, with the memory of the values, in place of which as many others are left, whatever they are: those of a row that was
+    /// left out, if there is one. `Err` is for want of memory.
+    pub fn push_taken(
+        &mut self,
+        alloc: Global,
+        node: u16,
+        values: &mut Vec<u64>,
+    ) -> Result<(), AllocError>
+        requires { All (λ p. p ≤ MAX_LENGTH) values.old.items }
+        ensures ok { OnOk result (self.new ≡ record {
+          lengths = self.old.lengths;
+          potentials = self.old.potentials ++ record
+              { node = node; values = values.old.items } ∷ [];
+        }) }
+        ensures left { OnOk result (length values.new.items ≡ length values.old.items) }
+        ensures err { OnErr result ((self.new ≡ self.old) × (values.new ≡ values.old)) }
+    {
+        let mut others = self.spare_values(alloc);
+        if others.len() != values.len() {
+            others = vec![in alloc; 0; values.len()]?;
+        }
+        self.potentials.reserve(1)?;
+        let taken = mem::replace(values, others);
+        self.potentials.push(PotentialRow {
+            node,
+            values: taken,
+        })?;
         Ok(())
     }
 

@@ -5,6 +5,7 @@ use denote.Param.SendFields.{declared_send, variants_send}
 use Rattle.std.proofs.Crossing.{crosses}
 use Rattle.dijkstra_paths.specs.contracts.graph.Graph as graph
 use Rattle.dual_bound.specs.contracts.rows.Row as row
+use Rattle.dual_bound.specs.contracts.rows.Target as target
 use Rattle.fixed_exp.specs.contracts.powers.Powers as powers
 use Rattle.flow_model.specs.contracts.groups.Groups as groups
 use Rattle.flow_model.specs.contracts.net.Net as net
@@ -15,11 +16,17 @@ use Rattle.flow_solver.specs.contracts.turn.Turn as turn
 use Rattle.flow_solver.specs.contracts.parts.Part as part
 use Rattle.flow_solver.specs.contracts.share.Share as share
 
+target-send : IsSend target.the_row
+target-send = search (sendable, crosses) depth 20
+
+target-sync : IsSync target.the_row
+target-sync = search (sendable, crosses) depth 20
+
 row-send : IsSend row.the_row
-row-send = search (sendable, crosses) depth 20
+row-send = search (sendable, crosses, target-send) depth 40
 
 row-sync : IsSync row.the_row
-row-sync = search (sendable, crosses) depth 20
+row-sync = search (sendable, crosses, target-sync) depth 40
 
 net-sync : IsSync net.the_row
 net-sync = search (sendable, crosses) depth 20

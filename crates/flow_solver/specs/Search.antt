@@ -116,6 +116,16 @@ CanBeBounded net setting loads room = IsSetting setting × (length loads ≡ len
 abbrev pub IsLesserUnder : Network → Setting → List ℕ → Option Bounded → Bounded → Type 0
 IsLesserUnder net setting loads earlier b = IsLesser net (lengths_of net setting loads) earlier b
 
+-- the loads and all hands are as before
+pub record KeepsLoadsAndHands (old new : Search) : Type 0 where
+  pub loads : new.loads ≡ old.loads
+  pub hands : new.hands ≡ old.hands
+  pub spare : new.spare ≡ old.spare
+
+-- the phase that the spare hands had routed is noted, and there is room for a bound
+abbrev pub HasNotedSpare : Network → Search → Search → Type 0
+HasNotedSpare net old new = HasNoted net old.spare.items old.history new.history × IsBoundRoom net new.room
+
 -- the phase that the spare hands have routed can be noted, of which the first commodities have these entries, and a bound made of the loads
 pub record CanNoteAndBound (net : Network) (setting : Setting) (s : Search) (entries : List Entry) : Type 0 where
   pub note : CanNote net s.spare.items s.history entries

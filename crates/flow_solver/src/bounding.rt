@@ -2,7 +2,7 @@
 
 ghost use Rattle.std.specs.Prelude.{◌≡◌, ◌<◌, ◌≤◌, [], IfOk, OnOk, max};
 ghost use Rattle.flow_solver.specs.Adding.{CanBeNoted, CanNote, HasNoted, IsNoted};
-ghost use Rattle.flow_solver.specs.Search.{CanAddPhase, CanBeBounded, CanNoteAndBound, HasAdded, IsBoundRoom, IsLesserUnder};
+ghost use Rattle.flow_solver.specs.Search.{CanAddPhase, CanBeBounded, CanNoteAndBound, HasAdded, HasNotedSpare, IsBoundRoom, IsLesserUnder, KeepsLoadsAndHands};
 
 use crate::filling::bound_with;
 use crate::noting::note_routes_of;
@@ -77,11 +77,8 @@ fn note_and_bound<G: Gate, R: Threads + Sync>(
     earlier: Option<Bounded>,
 ) -> Result<Bounded, AllocError>
     requires { CanNoteAndBound task.now.on.now.net.now task.now.setting search.old [] }
-    ensures loads { search.new.loads ≡ search.old.loads }
-    ensures hands { search.new.hands ≡ search.old.hands }
-    ensures spare { search.new.spare ≡ search.old.spare }
-    ensures noted { OnOk result (HasNoted task.now.on.now.net.now search.old.spare.items
-        search.old.history search.new.history × IsBoundRoom task.now.on.now.net.now search.new.room) }
+    ensures kept { KeepsLoadsAndHands search.old search.new }
+    ensures noted { OnOk result (HasNotedSpare task.now.on.now.net.now search.old search.new) }
     ensures bound { IfOk result
         (IsLesserUnder task.now.on.now.net.now task.now.setting search.old.loads.items earlier) }
 {
@@ -116,11 +113,8 @@ fn note_beside_bound<G: Gate, R: Threads + Sync>(
     earlier: Option<Bounded>,
 ) -> Result<Bounded, AllocError>
     requires { CanNoteAndBound task.now.on.now.net.now task.now.setting search.old [] }
-    ensures loads { search.new.loads ≡ search.old.loads }
-    ensures hands { search.new.hands ≡ search.old.hands }
-    ensures spare { search.new.spare ≡ search.old.spare }
-    ensures noted { OnOk result (HasNoted task.now.on.now.net.now search.old.spare.items
-        search.old.history search.new.history × IsBoundRoom task.now.on.now.net.now search.new.room) }
+    ensures kept { KeepsLoadsAndHands search.old search.new }
+    ensures noted { OnOk result (HasNotedSpare task.now.on.now.net.now search.old search.new) }
     ensures bound { IfOk result
         (IsLesserUnder task.now.on.now.net.now task.now.setting search.old.loads.items earlier) }
 {
@@ -195,11 +189,8 @@ fn note_with_bound<'a, G: Gate>(
     earlier: Option<Bounded>,
 ) -> Result<Bounded, AllocError>
     requires { CanNoteAndBound task.now.on.now.net.now task.now.setting search.old entries.old.items }
-    ensures loads { search.new.loads ≡ search.old.loads }
-    ensures hands { search.new.hands ≡ search.old.hands }
-    ensures spare { search.new.spare ≡ search.old.spare }
-    ensures noted { OnOk result (HasNoted task.now.on.now.net.now search.old.spare.items
-        search.old.history search.new.history × IsBoundRoom task.now.on.now.net.now search.new.room) }
+    ensures kept { KeepsLoadsAndHands search.old search.new }
+    ensures noted { OnOk result (HasNotedSpare task.now.on.now.net.now search.old search.new) }
     ensures bound { IfOk result
         (IsLesserUnder task.now.on.now.net.now task.now.setting search.old.loads.items earlier) }
 {

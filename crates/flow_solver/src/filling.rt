@@ -3,10 +3,9 @@
 ghost use Rattle.std.specs.Prelude.{◌≡◌, All, IfOk, OnOk};
 ghost use Rattle.std.specs.Arc.{arc_value};
 ghost use Rattle.flow_model.specs.Lengths.{AreLengths};
-ghost use Rattle.flow_model.specs.Groups.{group_sources};
 ghost use Rattle.fixed_exp.specs.Far.{EmptyAreFar};
 ghost use Rattle.dual_bound.specs.Bounds.{IsLesser};
-ghost use Rattle.dual_bound.specs.Rows.{HasDistances, IsRoom, sources_of};
+ghost use Rattle.dual_bound.specs.Rows.{HasDistances, IsRoom, demands_in, demands_of};
 ghost use Rattle.flow_solver.specs.Search.{CanBeBounded, IsBoundRoom, IsLesserUnder};
 
 use crate::pace::Split;
@@ -37,7 +36,7 @@ fn fill_with<'a, G: Gate, T, F: FnMut() -> T>(
     requires rows { All (IsRoom task.now.on.now.graph.now.nodes) rows.old.items }
     requires lead { F.pre lead.old }
     ensures lead { F.step lead.old result.0 lead.new }
-    ensures sources { OnOk result.1 (sources_of rows.new.items ≡ sources_of rows.old.items) }
+    ensures demands { OnOk result.1 (demands_of rows.new.items ≡ demands_of rows.old.items) }
     ensures distances { OnOk result.1
         (All (HasDistances task.now.on.now.graph.now (arc_value lengths.now).items) rows.new.items) }
 {
@@ -64,12 +63,12 @@ fn bound_after(
 ) -> Result<Bounded, AllocError>
     requires lengths { AreLengths net.now.cells (arc_value lengths).items }
     requires empty { EmptyAreFar net.now.cells (arc_value lengths).items }
-    requires sources { sources_of room.old.rows.items ≡ group_sources net.now }
+    requires demands { demands_of room.old.rows.items ≡ demands_in net.now }
     requires distances { All (HasDistances net.now (arc_value lengths).items) room.old.rows.items }
     ensures room { OnOk result (IsBoundRoom net.now room.new) }
     ensures lesser { IfOk result (IsLesser net.now (arc_value lengths).items earlier) }
 {
-    let bounded = lesser_of_rows(alloc, net, &lengths, &room.rows, earlier)?;
+    let bounded = lesser_of_rows(alloc, net, &lengths, &mut room.rows, earlier)?;
     match Arc::try_unwrap(lengths) {
         Ok(lengths) => room.lengths = lengths,
         Err(_) => return Err(AllocError),

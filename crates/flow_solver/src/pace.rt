@@ -34,7 +34,7 @@ impl Split {
 }
 
 impl Pace {
-    /// As if all rows were noted beside the routing, and the caller's thread had as many rows of the bound as each other.
+    /// To begin with, all commodities are noted beside the routing, and the caller's thread fills as many rows of the bound as each other.
     pub(crate) fn new() -> Self {
         Pace {
             first: PARTS,

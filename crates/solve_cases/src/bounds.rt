@@ -24,7 +24,7 @@ const LATER: Setting = Setting {
     step: 65536,
 };
 
-/// The bound under a load of 10, made twice in the same rows.
+/// The bound under a load of 10, made three times in the same rows, the last time in the memory of the one before.
 fn bound_in_kept_rows<R: Abort + Threads + Sync>(
     rt: &R,
     alloc: Global,
@@ -44,8 +44,14 @@ fn bound_in_kept_rows<R: Abort + Threads + Sync>(
     assert_eq!(rt; first.value.num(), 20266198323167226);
     let again = lesser_in(&team, alloc, net, graph, lengths, rows, None)?;
     assert_eq!(rt; again.value.num(), 20266198323167226);
-    assert_eq!(rt; again.dual.rows(), 1);
-    assert_eq!(rt; again.dual.row(0), [0, 1930114126015926].as_slice());
+    let earlier = Bounded {
+        dual: again.dual,
+        value: Frac::new(20266198323167227, 19301141260159260),
+    };
+    let lesser = lesser_in(&team, alloc, net, graph, lengths, rows, Some(earlier))?;
+    assert_eq!(rt; lesser.value.num(), 20266198323167226);
+    assert_eq!(rt; lesser.dual.rows(), 1);
+    assert_eq!(rt; lesser.dual.row(0), [0, 1930114126015926].as_slice());
     Ok(())
 }
 

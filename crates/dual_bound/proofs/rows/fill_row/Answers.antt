@@ -4,6 +4,7 @@ use Rattle.std.proofs.lemmas.List.{with_items_is}
 use Rattle.mcf_limits.specs.declared.TheConstants.{MAX_LENGTH}
 use Rattle.dijkstra_paths.specs.Searched.{dist_at}
 use Rattle.dual_bound.specs.Bounds.{IsDistance}
+use Rattle.dual_bound.specs.Rows.{weighted_from}
 use Rattle.dual_bound.proofs.rows.fill_row.Goals as goal
 
 pub returns-clause-row : goal.returns-clause-row
@@ -17,6 +18,7 @@ returns-clause-row c =
     let same = with_items_is row.values values whole in
     record {
       source = refl;
+      targets = refl;
       filled = λ on. record {
         node = c.requires.row.room.source;
         count = ap (λ (xs : List ℕ). length xs) same ∙ many;
@@ -24,5 +26,6 @@ returns-clause-row c =
         each = λ v l.
             let inside : v < c.search_from.new.self.nodes = omega (arith, c.search_from.ensures.nodes, c.requires.scratch) in
             subst (λ (xs : List ℕ). IsDistance net.cells lengths row.source v (get_or xs v 0)) (sym same) (dist_at c.search_from.new.self v, c.search_from.ensures.least v inside, c.put_distances.ensures.each v inside);
+        weighted = c.weighted_sum-row.ensures ∙ (ap (weighted_from row.source c.deref-2.result.now) c.deref.ensures.value ∙ ap (λ (vs : List ℕ). weighted_from row.source vs row.targets.items) c.deref-2.ensures.value);
       };
     }

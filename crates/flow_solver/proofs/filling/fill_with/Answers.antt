@@ -16,8 +16,8 @@ use Rattle.flow_solver.proofs.filling.fill_with.Goals as goal
 pub work_beside-whole-requires-send-J : goal.work_beside-whole-requires-send-J
 work_beside-whole-requires-send-J g c κs within = param_send 0 _ (arg_send _ no _ (share-send _ _ (param_sync 0 _ c.type_bounds.sync-G)))
 
-pub returns-clause-sources : goal.returns-clause-sources
-returns-clause-sources g c =
+pub returns-clause-demands : goal.returns-clause-demands
+returns-clause-demands g c =
     let net = c.args.task.now.on.now.graph.now in
     let lengths = (arc_value c.args.lengths.now).items in
     let parts = c.in-Ok.parts in

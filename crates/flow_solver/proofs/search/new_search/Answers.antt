@@ -23,7 +23,7 @@ returns-clause-search c =
       room = record {
         lengths = ap (λ (xs : List ℕ). length xs) c.in_ok-zeros-2.ensures ∙ length-replicate (length c.cells-cells.result.now) 0 ∙ cells;
         rows = record {
-          sources = c.in_ok-source_rows.ensures.sources;
+          demands = c.in_ok-source_rows.ensures.demands;
           each = All-weaker (IsBlank net.nodes) (IsRoom net.nodes) (λ row b. b.room) c.in_ok-source_rows.field-0.items c.in_ok-source_rows.ensures.blank;
         };
       };
