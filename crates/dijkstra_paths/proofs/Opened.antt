@@ -1,6 +1,6 @@
 -- The nodes from which a way on is shorter are opened.
 use Rattle.std.proofs.Common.{◌≡◌, ◌≢◌, ◌⊎◌, inl, inr, ℕ, map, ap, ◌+◌, ◌<◌, ◌≤◌, Bool, true, false, cond, List, length, length-set, get_or, set, refl, sym, subst, ◌∙◌, arith}
-use Rattle.std.specs.Prelude.{IsTrue, ◌==◌, if◌then◌else◌, slice_get, Some}
+use Rattle.std.specs.Prelude.{IsTrue, ◌==◌, if◌then◌else◌}
 use Rattle.std.proofs.lemmas.Option.{slice_get_within, slice_get-get_or, get_or_from_slice_get}
 use Rattle.std.proofs.lemmas.List.{get_or-map, get_or_default, length-map}
 use Rattle.std.proofs.lemmas.Bool.Decides.{nat_tests}
@@ -8,7 +8,7 @@ use Rattle.std.proofs.lemmas.Bool.{cases_eq}
 use Rattle.flow_model.specs.declared.net.Cell.{Cell}
 use Rattle.flow_model.specs.Network.{Network, IsCell, IsNetwork}
 use Rattle.flow_model.specs.Lengths.{AreLengths}
-use Rattle.flow_model.specs.Walk.{Goes, PassesOver}
+use Rattle.flow_model.specs.Walk.{PassesOver}
 use Rattle.dijkstra_paths.specs.declared.graph.CellEnds.{CellEnds}
 use Rattle.dijkstra_paths.specs.Arcs.{ends_of}
 use Rattle.dijkstra_paths.specs.declared.search.Step.{Step}
@@ -150,12 +150,9 @@ AreTaken cells lengths dist place count passed = (c u x : ℕ) → c < passed �
 
 -- one cell more
 pub taken-more : (cells : List Cell) (lengths dist place place' : List ℕ) (count count' n : ℕ) → AreTaken cells lengths dist place count n → ((v : ℕ) → v < length dist → get_or place v 0 < count → get_or place' v 0 < count')
-    → ((u x : ℕ) → 1 ≤ (get_or cells n no_cell).cap → Goes (get_or cells n no_cell) u x → IsTaken dist place' count' u x (get_or lengths n 0)) → AreTaken cells lengths dist place' count' (n + 1)
+    → ((u x : ℕ) → PassesOver cells n u x → IsTaken dist place' count' u x (get_or lengths n 0)) → AreTaken cells lengths dist place' count' (n + 1)
 taken-more cells lengths dist place place' count count' n before stays now c u x less inside p = elim (cases_eq c n) [
-  | inl e ↦
-      let is : get_or cells n no_cell ≡ p.0 = get_or_from_slice_get cells n p.0 no_cell (subst (λ (k : ℕ). slice_get cells k ≡ Some p.0) e p.1) in
-      subst (λ (k : ℕ). IsTaken dist place' count' u x (get_or lengths k 0)) (sym e)
-      (now u x (subst (λ (k : Cell). 1 ≤ k.cap) (sym is) p.2) (subst (λ (k : Cell). Goes k u x) (sym is) p.3))
+  | inl e ↦ subst (λ (k : ℕ). IsTaken dist place' count' u x (get_or lengths k 0)) (sym e) (now u x (subst (λ (k : ℕ). PassesOver cells k u x) e p))
   | inr ne ↦ elim (before c u x (omega arith) inside p) [
     | inl near ↦ inl near
     | inr opened ↦ inr (stays u inside opened)

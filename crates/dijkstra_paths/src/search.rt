@@ -1,6 +1,6 @@
 //! The search: nodes are opened as they come nearer, and each goes on to the nodes after it.
 
-ghost use Rattle.std.specs.Prelude.{◌≡◌, ◌⊎◌, ℕ, ◌+◌, ◌*◌, ◌^◌, ◌<◌, ◌≤◌, if◌then◌else◌, length, slice_index, IsFalse};
+ghost use Rattle.std.specs.Prelude.{◌≡◌, ◌⊎◌, ℕ, ◌+◌, ◌*◌, ◌^◌, ◌<◌, ◌≤◌, if◌then◌else◌, length, slice_index, IsFalse, IfSome, Some};
 ghost use Rattle.std.specs.List.{sum_by};
 ghost use Rattle.flow_model.specs.declared.net.Cell.{Cell};
 ghost use Rattle.flow_model.specs.Walk.{Goes, PassesOver};
@@ -12,7 +12,6 @@ ghost use Rattle.dijkstra_paths.specs.Tree.{AreFront, AreOpen, AreSameSlices, Go
 use crate::graph::CellEnds;
 use crate::queue::{pop, put};
 use crate::{Arc, Graph};
-use flow_model::Cell;
 use mcf_limits::{MAX_LENGTH, MAX_NODES};
 use std::hint::select_unpredictable;
 
@@ -319,42 +318,57 @@ fn are_apart(ends: CellEnds, long: u64, dist: &[u64]) -> bool
     ahead.wrapping_sub(dist[ends.head as usize]) > long.wrapping_add(long)
 }
 
-/// Opens the node from which the way over the cell is shorter than what is known, if it is a positive cell with such a
-/// way, and gives the number of open nodes. It is a function of its own, since it is called for few cells.
+/// The node from which the way over the cell of that number is shorter than what is known, if it is a positive cell with such a way. It
+/// is a function of its own, and takes the number, since it is called for few cells: so the loop over all of them has no pointer to each.
 #[inline(never)]
-fn open_over(
-    cell: &Cell,
-    long: u64,
+fn nearer_from(graph: &Graph, lengths: &[u64], number: usize, dist: &[u64]) -> Option<u16>
+    requires lengths { AreLengths graph.now.cells lengths.now }
+    requires nodes { length dist.now ≡ graph.now.nodes }
+    requires bound { (v : ℕ) → v < length dist.now → slice_index dist.now v ≤ MAX_LENGTH }
+    requires number { number < length graph.now.cells }
+    ensures inside { IfSome result (λ u. u < length dist.now) }
+    ensures near { IfSome result (λ u. slice_index dist.now u < MAX_LENGTH) }
+    ensures way { (u x : ℕ) → PassesOver graph.now.cells number u x
+        → (slice_index dist.now x ≤ slice_index dist.now u + slice_index lengths.now number) ⊎ (result ≡ Some u) }
+{
+    let cell = &graph.cells()[number];
+    if cell.cap == 0 {
+        return None;
+    }
+    let long = lengths[number];
+    let tail = dist[cell.tail as usize];
+    let head = dist[cell.head as usize];
+    if tail + long < head {
+        return Some(cell.tail);
+    }
+    if cell.both && head + long < tail {
+        return Some(cell.head);
+    }
+    None
+}
+
+/// Opens the node, which has a distance, and gives the number of open nodes. It is a function of its own, since it is called for few
+/// cells.
+#[inline(never)]
+fn open(
+    node: u16,
     dist: &[u64],
     order: &mut [u16],
     place: &mut [u16],
     keys: &mut [u64],
     count: usize,
 ) -> usize
-    requires ends { (cell.now.tail < length dist.now) × (cell.now.head < length dist.now) }
-    requires long { 1 ≤ cell.now.cap → long ≤ 2 ^ 52 }
-    requires bound { (v : ℕ) → v < length dist.now → slice_index dist.now v ≤ MAX_LENGTH }
+    requires node { node < length dist.now }
+    requires near { slice_index dist.now node < MAX_LENGTH }
     requires small { length dist.now ≤ MAX_NODES }
     requires keys { length keys.old ≡ length dist.now }
     requires state { AreOpen dist.now order.old place.old count }
     ensures keys { length keys.new ≡ length dist.now }
     ensures state { AreOpen dist.now order.new place.new result }
     ensures stays { (v : ℕ) → v < length dist.now → slice_index place.old v < count → slice_index place.new v < result }
-    ensures way { (u x : ℕ) → 1 ≤ cell.now.cap → Goes cell.now u x
-        → (slice_index dist.now x ≤ slice_index dist.now u + long) ⊎ (slice_index place.new u < result) }
+    ensures opened { slice_index place.new node < result }
 {
-    if cell.cap == 0 {
-        return count;
-    }
-    let tail = dist[cell.tail as usize];
-    let head = dist[cell.head as usize];
-    if tail + long < head {
-        return put(order, place, keys, count, cell.tail, tail);
-    }
-    if cell.both && head + long < tail {
-        return put(order, place, keys, count, cell.head, head);
-    }
-    count
+    put(order, place, keys, count, node, dist[node as usize])
 }
 
 /// Opens each node from which a way on is shorter than what is known, and gives the number of open nodes.
@@ -377,13 +391,14 @@ fn open_nodes(
     ensures done { (u : ℕ) → result ≤ slice_index place.new u → IsDone graph.now.cells lengths.now dist.now u }
     ensures keys { length keys.new ≡ length dist.now }
 {
-    let cells = graph.cells();
+    let _cells = graph.cells();
     let ends = graph.ends();
     let mut count = 0;
     for number in 0..ends.len() {
-        let long = lengths[number];
-        if are_apart(ends[number], long, dist) {
-            count = open_over(&cells[number], long, dist, order, place, keys, count);
+        if are_apart(ends[number], lengths[number], dist) {
+            if let Some(node) = nearer_from(graph, lengths, number, dist) {
+                count = open(node, dist, order, place, keys, count);
+            }
         }
     }
     count

@@ -1,13 +1,12 @@
-use Rattle.std.proofs.Common.{◌≡◌, inl, inr, ℕ, ◌<◌, ◌≤◌, List, arith, length, get_or, ap, subst}
+use Rattle.std.proofs.Common.{◌≡◌, inl, inr, ℕ, ◌<◌, ◌≤◌, arith, length, get_or, ap, ◌∙◌, subst}
 use Rattle.std.proofs.lemmas.List.{length-map}
-use Rattle.std.proofs.lemmas.Option.{slice_get-get_or}
-use Rattle.flow_model.specs.declared.net.Cell.{Cell}
+use Rattle.std.proofs.lemmas.Option.{get_or_from_slice_get}
+use Rattle.std.specs.Prelude.{Some}
 use Rattle.dijkstra_paths.specs.Arcs.{ends_of}
 use Rattle.dijkstra_paths.proofs.Relaxed.{pass-inside}
-use Rattle.flow_model.specs.Walk.{Goes}
-use Rattle.dijkstra_paths.proofs.Opened.{IsTaken, ends-at, ends-inside, pass-from, no_cell, no_ends, taken-more}
+use Rattle.dijkstra_paths.proofs.Opened.{ends-at, ends-inside, pass-from, no_cell, no_ends, taken-more}
 use Rattle.dijkstra_paths.proofs.search.open_nodes.Goals as goal
-use Rattle.dijkstra_paths.proofs.search.open_nodes.Goals.{then-are_apart, else-are_apart}
+use Rattle.dijkstra_paths.proofs.search.open_nodes.Goals.{then-are_apart+in-Some, then-are_apart+in_default, else-are_apart}
 
 pub are_apart-requires-clause-ends : goal.are_apart-requires-clause-ends
 are_apart-requires-clause-ends c =
@@ -17,42 +16,50 @@ are_apart-requires-clause-ends c =
     let inside = ends-inside c.args.graph.now c.ends-ends.result.now c.loop-number.number c.ends-ends.ensures.net is within in
     (omega (arith, inside.0, c.requires.nodes), omega (arith, inside.1, c.requires.nodes))
 
-pub open_over-count-requires-clause-long : goal.open_over-count-requires-clause-long
-open_over-count-requires-clause-long c cap =
-    let cells = c.args.graph.now.cells in
-    let n = c.loop-number.number in
-    let is = c.ends-ends.ensures.value in
-    let within : n < length cells = omega (arith, ap length is, length-map cells ends_of, c.loop-number-test.true) in
-    c.requires.lengths.high n (get_or cells n no_cell) (slice_get-get_or cells n no_cell within) (subst (λ (cs : List Cell). 1 ≤ (get_or cs n no_cell).cap) c.cells-cells.ensures.value cap)
-
 pub loop-number-preserved : goal.loop-number-preserved
 loop-number-preserved c =
     let cells = c.args.graph.now.cells in
-    let seen = c.cells-cells.result.now in
     let lengths = c.args.lengths.now in
     let dist = c.args.dist.now in
     let n = c.loop-number.number in
     let count = c.loop-number.count in
     let place = c.loop-number.place in
+    let before = c.loop-number.invariant in
     let is = c.ends-ends.ensures.value in
     let within : n < length cells = omega (arith, ap length is, length-map cells ends_of, c.loop-number-test.true) in
     let ends : get_or c.ends-ends.result.now n no_ends ≡ ends_of (get_or cells n no_cell) = ends-at cells c.ends-ends.result.now n is within in
     elim c.if-are_apart.branch [
-      | then-are_apart w ↦
-          let o = w.open_over-count in
+      | then-are_apart+in-Some w ↦
+          let o = w.open-count in
           rw (w.order-is, w.place-is, w.keys-is, w.count-is) (record {
             state = o.ensures.state;
             keys = o.ensures.keys;
-            taken = taken-more cells lengths dist place _ count _ n c.loop-number.invariant.taken o.ensures.stays
-                (subst (λ (cs : List Cell). (u x : ℕ) → 1 ≤ (get_or cs n no_cell).cap → Goes (get_or cs n no_cell) u x → IsTaken dist o.new.place o.result u x (get_or lengths n 0)) c.cells-cells.ensures.value o.ensures.way);
+            taken = taken-more cells lengths dist place _ count _ n before.taken o.ensures.stays
+                (λ u x p. elim (w.nearer_from.ensures.way u x p) [
+                  | inl near ↦ inl near
+                  | inr is ↦
+                      let told : w.nearer_from.result ≡ Some w.in-Some.node = w.in-Some.is in
+                      let same : w.in-Some.node ≡ u = cc in
+                      inr (subst (λ (k : ℕ). get_or o.new.place k 0 < o.result) same o.ensures.opened)
+                ]);
+          })
+      | then-are_apart+in_default w ↦
+          rw (w.order-is, w.place-is, w.keys-is, w.count-is) (record {
+            state = before.state;
+            keys = before.keys;
+            taken = taken-more cells lengths dist place place count count n before.taken (λ v l o. o)
+                (λ u x p. elim (w.nearer_from.ensures.way u x p) [
+                  | inl near ↦ inl near
+                  | inr is ↦ absurd (w.in_default.not-Some u is)
+                ]);
           })
       | else-are_apart w ↦
           rw (w.order-is, w.place-is, w.keys-is, w.count-is) (record {
-            state = c.loop-number.invariant.state;
-            keys = c.loop-number.invariant.keys;
-            taken = taken-more cells lengths dist place place count count n c.loop-number.invariant.taken (λ v l o. o)
-                (λ u x cap goes. inl (c.are_apart.ensures (get_or cells n no_cell) u x w.if-are_apart.false ends
-                (c.requires.lengths.high n (get_or cells n no_cell) (slice_get-get_or cells n no_cell within) cap) cap goes));
+            state = before.state;
+            keys = before.keys;
+            taken = taken-more cells lengths dist place place count count n before.taken (λ v l o. o)
+                (λ u x p. inl (c.are_apart.ensures p.0 u x w.if-are_apart.false
+                (ends ∙ ap ends_of (get_or_from_slice_get cells n p.0 no_cell p.1)) (c.requires.lengths.high n p.0 p.1 p.2) p.2 p.3));
           })
     ]
 
