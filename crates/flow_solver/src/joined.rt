@@ -53,7 +53,8 @@ pub(crate) fn joined_entries(
     requires width { first.now.commodities + second.now.commodities < 2 ^ 32 }
     requires rows { All (All (λ (e : _). before + e.row < 2 ^ 32)) second.now.phases }
     ensures commodities { IfOk result (λ e. e.commodities ≡ first.now.commodities + second.now.commodities) }
-    ensures phases { IfOk result (λ e. e.phases ≡ beside first.now.phases (map (map (behind before)) second.now.phases)) }
+    ensures phases { IfOk result (λ e.
+        e.phases ≡ beside first.now.phases (map (map (behind before)) second.now.phases)) }
 {
     let mut joined = Entries::new(alloc, first.commodities() + second.commodities());
     let mut entries = Vec::new(alloc);

@@ -114,7 +114,8 @@ pub(crate) fn parts_of<'a, G>(
     requires lengths { AreLengths basis.now.graph.now.cells (lengths_for basis.now) }
     requires rows { All (IsRoom basis.now.graph.now.nodes) rows.old.items }
     requires sections { CanNoteIn (routes_for basis.now) sections.old.items }
-    ensures parts { IfOk result (λ parts. All (IsShareOf basis.now.graph.now (lengths_for basis.now) (routes_for basis.now)) parts.items) }
+    ensures parts { IfOk result (λ parts.
+        All (IsShareOf basis.now.graph.now (lengths_for basis.now) (routes_for basis.now)) parts.items) }
     ensures rows { IfOk result (λ parts. rows_in parts.items ≡ rows.old.items) }
     ensures sections { IfOk result (λ parts. sections_in parts.items ≡ sections.old.items) }
     ensures no_rows { OnOk result (rows.new.items ≡ []) }
