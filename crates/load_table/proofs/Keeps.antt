@@ -1,5 +1,5 @@
 -- Each step keeps the rule.
-use Rattle.std.proofs.Common.{◌≡◌, ◌≢◌, ℕ, zero, suc, ◌+◌, ◌*◌, ◌%◌, ◌^◌, ◌<◌, ◌≤◌, Bool, true, false, nat_eq, nat_lt, List, [], ◌∷◌, ◌++◌, length, get_or, set, min, refl, sym, ap, ◌∙◌, subst, ⊎_elim, arith, add-one, get_or-set_same, get_or-set_other, length-set, length-append, eq-eqb, ne_eqb}
+use Rattle.std.proofs.Common.{◌≡◌, ◌≢◌, ℕ, zero, suc, ◌+◌, ◌%◌, ◌^◌, ◌<◌, ◌≤◌, Bool, true, false, nat_eq, nat_lt, List, [], ◌∷◌, ◌++◌, length, get_or, set, min, refl, sym, ap, ◌∙◌, subst, ⊎_elim, arith, add-one, get_or-set_same, get_or-set_other, length-set, length-append, eq-eqb, ne_eqb}
 use Rattle.std.specs.Prelude.{◌==◌, if◌then◌else◌}
 use Rattle.std.proofs.lemmas.Bool.Decides.{nat_tests}
 use Rattle.std.proofs.lemmas.List.{get_or_default, set-get_or, length-map}
@@ -22,8 +22,10 @@ use Rattle.load_table.specs.declared.view.Hand.{Hand}
 use Rattle.load_table.specs.declared.view.Known.{Known}
 use Rattle.load_table.specs.Views.{hand, known, first_known, times_in, hands_of, made_of, splits_of, first_works, with_work, keeps_known, cuts_known, joins_known, spent_known}
 use Rattle.flow_model.specs.declared.net.Commodity.{Commodity}
-use Rattle.load_table.specs.Rule.{AllFallBelow, AllFit, FitsView, Kept, Holds, words_of, IsStep, first_number, M, HasClaimed, HasRead, HasAdded, HasApart, MayClaim, LastReads, MayRead, MayAdd, MayClose, Closes}
+use Rattle.load_table.specs.Rule.{AllFallBelow, AllFit, FitsView, Kept, Holds, words_of, IsStep, first_number, M, HasClaimed, HasRead, HasAdded, HasPlaced, MayClaim, LastReads, MayRead, MayAdd, MayClose, Closes}
+use Rattle.load_table.specs.Places.{is_wide, place}
 use Rattle.load_table.specs.Seen.{shared_cells}
+use Rattle.load_table.proofs.Placing.{place-zero, placed_set}
 use Rattle.load_table.proofs.Totals.{total-put, total-snoc, total-append, total-of, total-two, total-whole, same_lists}
 
 abbrev St : Type 0
@@ -193,17 +195,6 @@ claim_moves t s count found h c f inside is going complete = record {
 abbrev pub Can : Terms → St → ℕ → M → ℕ → ℕ → (M → Type 0) → Type 0
 Can t s id me i n tells = (w : Known) × Kept t record { words = set s.words i n; homes = s.homes; views = set s.views id w } × tells (w, me.1) × (words_of w.seen ≡ set s.words i n)
 
--- the words stay apart where one of them changes
-apart_set : (table words : List ℕ) (i x : ℕ) → i < length words → HasApart table words → HasApart (set table (8 * i) x) (set words i x)
-apart_set table words i x inside apart = record {
-  room = (let a = length-set table (8 * i) x in let b = length-set words i x in let r = apart.room in omega arith);
-  each = λ k l. dite (ℕ_discrete k i)
-      (λ same. subst (λ (j : ℕ). get_or (set table (8 * i) x) (8 * j) 0 ≡ get_or (set words i x) j 0) (sym same)
-      (get_or-set_same table (8 * i) x 0 (let r = apart.room in omega arith) ∙ sym (get_or-set_same words i x 0 inside)))
-      (λ other. get_or-set_other table (8 * i) (8 * k) x 0 (λ e. other (let f : 8 * k ≡ 8 * i = e in omega arith))
-      ∙ (apart.each k (let b = length-set words i x in omega arith) ∙ sym (get_or-set_other words i k x 0 other)));
-}
-
 -- how many words there are
 kept_count : (t : Terms) (s : St) → Kept t s → length s.words ≡ cell_count t + 1
 kept_count t s k =
@@ -214,20 +205,21 @@ kept_count t s k =
 -- what `Allows` asks of several workers, of the word at this place
 pub several : (t : Terms) (slots id : ℕ) (me : M) (i : ℕ) (f : ℕ → ℕ) (tells : ℕ → M → Type 0) → 1 < t.workers → i < cell_count t + 1
     → ((s : St) → Kept t s → get_elem? s.views id ≡ some me.0 → Can t s id me i (f (get_or s.words i 0)) (tells (get_or s.words i 0)))
-    → Allows (Holds t) slots id me (8 * i) f tells
+    → Allows (Holds t) slots id me (place (is_wide t) i) f tells
 several t slots id me i f tells more inside can s h _ at small =
     let a = h.several more in
     let ws : List ℕ = a.0 in
     let here : St = record { words = ws; homes = s.homes; views = s.views } in
     let long : i < length ws = (let n = kept_count t here a.2 in omega arith) in
-    let same : get_or ws i 0 ≡ get_or s.words (8 * i) 0 = sym (a.1.each i long) in
+    let same : get_or ws i 0 ≡ get_or s.words (place (is_wide t) i) 0 = sym (a.1.each i long) in
     let r = can here a.2 at in
     let x : ℕ = f (get_or ws i 0) in
-    let y : ℕ = f (get_or s.words (8 * i) 0) in
+    let y : ℕ = f (get_or s.words (place (is_wide t) i) 0) in
     let now : x ≡ y = ap f same in
     let P : ℕ → Type 0 = λ z. tells z (r.0, me.1) in
-    let apart : HasApart (set s.words (8 * i) y) (set ws i x) = subst (λ (z : ℕ). HasApart (set s.words (8 * i) z) (set ws i x)) now (apart_set s.words ws i x long a.1) in
-    (r.0, keeps, tt, record { one = λ is. absurd (omega arith); several = λ _. (set ws i x, apart, r.1) }, subst P same r.2)
+    let p : ℕ = place (is_wide t) i in
+    let placed : HasPlaced (is_wide t) (set s.words p y) (set ws i x) = subst (λ (z : ℕ). HasPlaced (is_wide t) (set s.words p z) (set ws i x)) now (placed_set (is_wide t) s.words ws i x long a.1) in
+    (r.0, keeps, tt, record { one = λ is. absurd (omega arith); several = λ _. (set ws i x, placed, r.1) }, subst P same r.2)
 
 pub claims_of : (t : Terms) (id : ℕ) (me : M) (s : St) (k : Kept t s) → get_elem? s.views id ≡ some me.0 → me.0.view.terms ≡ t → (hs : List Hand) → me.0.view.hands ≡ hs → MayClaim t hs
     → Can t s id me 0 ((get_or s.words 0 0 + 1) % 18446744073709551616) (HasClaimed me (get_or s.words 0 0))
@@ -252,7 +244,8 @@ claims_of t id me s k at same (h ∷ []) is may =
     )
 
 pub claims : (t : Terms) (slots id : ℕ) (me : M) → 1 < t.workers → me.0.view.terms ≡ t → MayClaim t me.0.view.hands → Allows (Holds t) slots id me 0 (λ n. (n + 1) % 2 ^ 64) (HasClaimed me)
-claims t slots id me more same may = several t slots id me 0 (λ n. (n + 1) % 2 ^ 64) (HasClaimed me) more (omega arith) (λ s k at. claims_of t id me s k at same me.0.view.hands refl may)
+claims t slots id me more same may = subst (λ (p : ℕ). Allows (Holds t) slots id me p (λ n. (n + 1) % 2 ^ 64) (HasClaimed me)) (place-zero (is_wide t))
+    (several t slots id me 0 (λ n. (n + 1) % 2 ^ 64) (HasClaimed me) more (omega arith) (λ s k at. claims_of t id me s k at same me.0.view.hands refl may))
 
 -- the read
 
@@ -291,7 +284,7 @@ reads_of t id c me s k at same (h ∷ []) is may =
       sym (set-get_or s.words (c + 1) 0 ∙ k.words),
     )
 
-pub reads : (t : Terms) (slots id c : ℕ) (me : M) → 1 < t.workers → me.0.view.terms ≡ t → MayRead t c me.0.view.hands → Allows (Holds t) slots id me (8 * (c + 1)) (λ n. n) (HasRead c me)
+pub reads : (t : Terms) (slots id c : ℕ) (me : M) → 1 < t.workers → me.0.view.terms ≡ t → MayRead t c me.0.view.hands → Allows (Holds t) slots id me (place (is_wide t) (c + 1)) (λ n. n) (HasRead c me)
 reads t slots id c me more same may = several t slots id me (c + 1) (λ n. n) (HasRead c me) more (let few = read_inside t c me.0.view.hands may in omega arith) (λ s k at. reads_of t id c me s k at same me.0.view.hands refl may)
 
 -- what a step of one worker leaves in its hand
@@ -360,7 +353,7 @@ adds_of t id n c a me s k at same (h ∷ []) is may amount =
       sym words,
     )
 
-pub adds : (t : Terms) (slots id n c a : ℕ) (me : M) → 1 < t.workers → me.0.view.terms ≡ t → MayAdd t n c me.0.view.hands → a ≡ amount_of t n → Allows (Holds t) slots id me (8 * (c + 1)) (λ m. (m + a) % 2 ^ 64) (HasAdded n c me)
+pub adds : (t : Terms) (slots id n c a : ℕ) (me : M) → 1 < t.workers → me.0.view.terms ≡ t → MayAdd t n c me.0.view.hands → a ≡ amount_of t n → Allows (Holds t) slots id me (place (is_wide t) (c + 1)) (λ m. (m + a) % 2 ^ 64) (HasAdded n c me)
 adds t slots id n c a me more same may amount = several t slots id me (c + 1) (λ m. (m + a) % 2 ^ 64) (HasAdded n c me) more (let few = add_inside t n c me.0.view.hands may in omega (arith, few.0)) (λ s k at. adds_of t id n c a me s k at same me.0.view.hands refl may amount)
 
 -- the split
@@ -622,18 +615,18 @@ bases_of_several base workers more = ap (λ (b : Bool). if b then [] else base) 
 pub cells_of_several : (t : Terms) → 1 < t.workers → shared_cells t ≡ cell_count t
 cells_of_several t more = ap (λ (b : Bool). if b then 0 else cell_count t) (ne_eqb t.workers 1 (λ e. omega arith))
 
-pub begins_at : (t t' : Terms) (ws : List ℕ) → t' ≡ t → HasApart ws (0 ∷ shared_bases t.base t.workers) → IsStart t → Holds t' (opening ws [] (first_known t'))
-begins_at t t' ws same apart h =
+pub begins_at : (t t' : Terms) (ws : List ℕ) → t' ≡ t → HasPlaced (is_wide t) ws (0 ∷ shared_bases t.base t.workers) → IsStart t → Holds t' (opening ws [] (first_known t'))
+begins_at t t' ws same placed h =
     let P : Terms → Type 0 = λ x. Holds x (opening ws [] (first_known x)) in
-    subst P (sym same) record { one = λ _. (first_known t, refl, begins t h); several = λ more. (0 ∷ t.base, subst (λ (xs : List ℕ). HasApart ws (0 ∷ xs)) (bases_of_several t.base t.workers more) apart, begins t h) }
+    subst P (sym same) record { one = λ _. (first_known t, refl, begins t h); several = λ more. (0 ∷ t.base, subst (λ (xs : List ℕ). HasPlaced (is_wide t) ws (0 ∷ xs)) (bases_of_several t.base t.workers more) placed, begins t h) }
 
 -- several workers end as their rule says, and one alone on the words that it has seen
 pub ends_several : (t : Terms) (id : ℕ) (v : Known) (ws : List ℕ) (xs : List (Unit {0})) → 1 < t.workers → Final (Seen (Holds t) id v) ws xs
-    → (words : List ℕ) × HasApart ws words × (length words ≡ cell_count t + 1) × Final (Seen (Kept t) id v) words xs
+    → (words : List ℕ) × HasPlaced (is_wide t) ws words × (length words ≡ cell_count t + 1) × Final (Seen (Kept t) id v) words xs
 ends_several t id v ws xs more f =
     let a = f.1.0.several more in
     let here : St = record { words = a.0; homes = f.0.homes; views = f.0.views } in
-    (a.0, subst (λ (us : List ℕ). HasApart us a.0) f.2 a.1, kept_count t here a.2, (here, (a.2, f.1.1), refl, f.3, f.4))
+    (a.0, subst (λ (us : List ℕ). HasPlaced (is_wide t) us a.0) f.2 a.1, kept_count t here a.2, (here, (a.2, f.1.1), refl, f.3, f.4))
 
 pub ends_alone : (t : Terms) (id : ℕ) (v : Known) (ws : List ℕ) (xs : List (Unit {0})) → t.workers ≡ 1 → Final (Seen (Holds t) id v) ws xs → Final (Seen (Kept t) 0 v) (words_of v.seen) xs
 ends_alone t id v ws xs is f =
@@ -647,10 +640,10 @@ read_at [] i a e = absurd (some-ne-none a (sym e))
 read_at (x ∷ xs) zero a e = some-injective x a e
 read_at (x ∷ xs) (suc i) a e = read_at xs i a e
 
-pub copied : (into ws : List ℕ) (i x : ℕ) → i < length into → ((k : ℕ) → k < i → get_or into k 0 ≡ get_or ws (8 * (k + 1)) 0) → get_elem? ws (8 * (i + 1)) ≡ some x
-    → (k : ℕ) → k < i + 1 → get_or (set into i x) k 0 ≡ get_or ws (8 * (k + 1)) 0
-copied into ws i x inside below here k less = dite (ℕ_discrete k i)
-    (λ same. subst (λ (j : ℕ). get_or (set into i x) j 0 ≡ get_or ws (8 * (j + 1)) 0) (sym same) (get_or-set_same into i x 0 inside ∙ sym (read_at ws (8 * (i + 1)) x here)))
+pub copied : (wide : Bool) (into ws : List ℕ) (i x p : ℕ) → i < length into → ((k : ℕ) → k < i → get_or into k 0 ≡ get_or ws (place wide (k + 1)) 0) → p ≡ place wide (i + 1) → get_elem? ws p ≡ some x
+    → (k : ℕ) → k < i + 1 → get_or (set into i x) k 0 ≡ get_or ws (place wide (k + 1)) 0
+copied wide into ws i x p inside below is here k less = dite (ℕ_discrete k i)
+    (λ same. subst (λ (j : ℕ). get_or (set into i x) j 0 ≡ get_or ws (place wide (j + 1)) 0) (sym same) (get_or-set_same into i x 0 inside ∙ sym (ap (λ (q : ℕ). get_or ws q 0) (sym is) ∙ read_at ws p x here)))
     (λ apart. get_or-set_other into i k x 0 apart ∙ below k (omega arith))
 
 -- what holds where a step came

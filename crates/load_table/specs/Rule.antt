@@ -1,5 +1,5 @@
 -- The rule of the shared words, and what its steps tell.
-use Rattle.std.specs.Prelude.{◌≡◌, ℕ, ◌+◌, ◌*◌, ◌%◌, ◌^◌, ◌<◌, ◌≤◌, ◌==◌, nat_lt, false, List, [], ◌∷◌, length, slice_index, slice_set, All}
+use Rattle.std.specs.Prelude.{◌≡◌, ℕ, ◌+◌, ◌%◌, ◌^◌, ◌<◌, ◌≤◌, ◌==◌, nat_lt, Bool, false, List, [], ◌∷◌, length, slice_index, slice_set, All}
 use mathlib.Core.Option.{some}
 use lib.ListN.{get_elem?}
 use Rattle.atomic_table.specs.Table.{State, Me}
@@ -13,6 +13,7 @@ use Rattle.load_table.specs.declared.view.View.{View}
 use Rattle.load_table.specs.declared.view.Known.{Known}
 use Rattle.load_table.specs.Reading.{reads_all}
 use Rattle.load_table.specs.Adding.{HasAddedAll, adds_along, AreMoreAlong}
+use Rattle.load_table.specs.Places.{is_wide, place}
 use Rattle.load_table.specs.Views.{with_work, times_in, hands_of, made_of, splits_of}
 
 -- each hand has what the core has of its worker
@@ -39,14 +40,14 @@ pub record Kept (t : Terms) (s : State (Unit {0}) Known) : Type 0 where
   pub fits : (j : ℕ) (v : Known) → get_elem? s.views j ≡ some v → FitsView t (after_schedule t (start t) events) v
   pub fresh : (n : ℕ) → total made_of s.views < n → worker_at (after_schedule t (start t) events) n ≡ idle
 
--- the table has these words, each at eight times its place: then no two share a line of memory, which processors pass on whole
-pub record HasApart (table words : List ℕ) : Type 0 where
-  pub room : 8 * length words < length table + 8
-  pub each : (i : ℕ) → i < length words → slice_index table (8 * i) ≡ slice_index words i
+-- the table has these words, each in its place
+pub record HasPlaced (wide : Bool) (table words : List ℕ) : Type 0 where
+  pub room : (i : ℕ) → i < length words → place wide i < length table
+  pub each : (i : ℕ) → i < length words → slice_index table (place wide i) ≡ slice_index words i
 
--- some schedule leads to the words that the table has apart
-abbrev pub KeptApart : Terms → State (Unit {0}) Known → Type 0
-KeptApart t s = (words : List ℕ) × HasApart s.words words × Kept t record { words = words; homes = s.homes; views = s.views }
+-- some schedule leads to the words that the table has in their places
+abbrev pub KeptPlaced : Terms → State (Unit {0}) Known → Type 0
+KeptPlaced t s = (words : List ℕ) × HasPlaced (is_wide t) s.words words × Kept t record { words = words; homes = s.homes; views = s.views }
 
 -- the words as one list, that of claims first
 abbrev pub words_of : core.State → List ℕ
@@ -56,10 +57,10 @@ words_of s = s.claims ∷ s.loads
 abbrev pub KeptAlone : Terms → State (Unit {0}) Known → Type 0
 KeptAlone t s = (v : Known) × (s.views ≡ v ∷ []) × Kept t record { words = words_of v.seen; homes = s.homes; views = v ∷ [] }
 
--- the rule: of several workers, some schedule leads to the words that the table has apart; of one, to those that it has seen
+-- the rule: of several workers, some schedule leads to the words that the table has in their places; of one, to those that it has seen
 pub record Holds (t : Terms) (s : State (Unit {0}) Known) : Type 0 where
   pub one : t.workers ≡ 1 → KeptAlone t s
-  pub several : 1 < t.workers → KeptApart t s
+  pub several : 1 < t.workers → KeptPlaced t s
 
 -- the number of the first worker
 abbrev pub first_number : List Hand → ℕ

@@ -3,6 +3,7 @@
 #![tactic(auto)]
 
 mod loads;
+mod places;
 mod rule;
 mod view;
 

@@ -1,7 +1,7 @@
 //! The words that workers share, and the passes by which they step: one word of claims, and one a cell. One worker alone has the
 //! words to itself.
 
-ghost use Rattle.std.specs.Prelude.{◌≡◌, ◌+◌, ◌-◌, ◌*◌, ◌<◌, ◌≤◌, ◌==◌, [], ◌∷◌, map, length, slice_index, All, IfOk, if◌then◌else◌};
+ghost use Rattle.std.specs.Prelude.{◌≡◌, ◌+◌, ◌-◌, ◌<◌, ◌≤◌, ◌==◌, [], ◌∷◌, map, length, slice_index, All, IfOk, if◌then◌else◌};
 ghost use Rattle.flow_core.specs.Core.{IsStart, Leads, start, claim, read, add, claimed, has_read, has_added};
 ghost use Rattle.flow_model.specs.Groups.{group_count};
 ghost use Rattle.load_table.specs.Seen.{IsPassOf, HasStepped};
@@ -9,8 +9,10 @@ ghost use Rattle.load_table.specs.Views.{first_view, with_work, cut, cut_off, jo
 ghost use Rattle.load_table.specs.Reading.{OneWhere, IsFresh, reads_all};
 ghost use Rattle.load_table.specs.Adding.{IsReadyFor, HasAddedAll, adds_along, AreMoreAlong};
 ghost use Rattle.flow_model.specs.Least.{AreDifferent};
-ghost use Rattle.load_table.specs.Rule.{MayClaim, MayRead, MayAdd, MayClose, AllFallBelow, Closes, HasApart, KeepsWorks};
+ghost use Rattle.load_table.specs.Rule.{MayClaim, MayRead, MayAdd, MayClose, AllFallBelow, Closes, HasPlaced, KeepsWorks};
+ghost use Rattle.load_table.specs.Places.{place};
 
+use crate::places::{FEW_CELLS, place_of};
 use crate::rule::{
     Adds, AddsAlone, AddsAlong, Claims, ClaimsAlone, Cuts, LoadRule, OfCell, OfCommodity, OfPath,
     Reads, ReadsAll, ReadsAlone,
@@ -33,6 +35,8 @@ pub struct Loads {
     groups: u16,
     cells: u16,
     alone: bool,
+    // whether words lie apart
+    wide: bool,
     alloc: Global,
 }
 
@@ -44,7 +48,7 @@ impl Model for Loads {
     ghost view = { λ l. record { table = l.table.shared.table_id; terms = l.table.shared.key } };
 
     ghost invariant = { λ l.
-        IsLoads l.table.shared.table_id l.table.shared.key l.amounts.items l.groups l.cells l.alone };
+        IsLoads l.table.shared.table_id l.table.shared.key l.amounts.items l.groups l.cells l.alone l.wide };
 }
 
 /// What some workers have done. Contracts see the table, and what the pass knows: its workers with their entries and stops, and
@@ -73,10 +77,6 @@ fn amounts_of(alloc: Global, commodities: &[Commodity]) -> Result<Vec<u64>, Allo
     commodities.iter().map(|k| k.amount).collect(alloc)
 }
 
-/// Words of the table lie so many apart, so that none shares a line of memory with another: processors pass lines on whole, and
-/// one that adds to a word has to wait for its line.
-const APART: usize = 8;
-
 /// The bases that have a word in the table: where there is one worker, which has the words in its pass, none.
 fn shared_bases(base: &[u64], workers: u16) -> &[u64]
     ensures { result.now ≡ if workers == 1 then [] else base.now }
@@ -84,27 +84,27 @@ fn shared_bases(base: &[u64], workers: u16) -> &[u64]
     if workers == 1 { &base[..0] } else { base }
 }
 
-/// The words of the table: 0, and each base, apart.
-fn words_apart(alloc: Global, base: &[u64]) -> Result<Vec<u64>, AllocError>
+/// The words of the table: 0, and each base, in its place.
+fn words_placed(alloc: Global, wide: bool, base: &[u64]) -> Result<Vec<u64>, AllocError>
     requires { length base.now ≤ MAX_CELLS }
-    ensures apart { IfOk result (λ v. HasApart v.items (0 ∷ base.now)) }
-    ensures count { IfOk result (λ v. length v.items ≡ 8 * length base.now + 1) }
+    ensures placed { IfOk result (λ v. HasPlaced wide v.items (0 ∷ base.now)) }
+    ensures count { IfOk result (λ v. length v.items ≡ place wide (length base.now + 1)) }
 {
-    let mut words = vec![in alloc; 0u64; APART * base.len() + 1]?;
-    put_apart(base, &mut words);
+    let mut words = vec![in alloc; 0u64; place_of(wide, base.len())]?;
+    put_bases(wide, base, &mut words);
     Ok(words)
 }
 
 /// Puts each base in its place.
-fn put_apart(base: &[u64], words: &mut [u64])
-    requires count { length words.old ≡ 8 * length base.now + 1 }
+fn put_bases(wide: bool, base: &[u64], words: &mut [u64])
+    requires count { length words.old ≡ place wide (length base.now + 1) }
     requires few { length base.now ≤ MAX_CELLS }
     requires first { slice_index words.old 0 ≡ 0 }
-    ensures apart { HasApart words.new (0 ∷ base.now) }
+    ensures placed { HasPlaced wide words.new (0 ∷ base.now) }
     ensures count { length words.new ≡ length words.old }
 {
     for (cell, load) in base.iter().enumerate() {
-        words[APART * (cell + 1)] = *load;
+        words[place_of(wide, cell)] = *load;
     }
 }
 
@@ -162,8 +162,9 @@ impl Loads {
             words: Snapshot::of(&words),
             workers,
         };
-        let apart = words_apart(alloc, shared_bases(base, workers))?;
-        let (table, seat) = Table::of_words(alloc, apart.as_slice(), &origin)?;
+        let wide = base.len() <= FEW_CELLS;
+        let placed = words_placed(alloc, wide, shared_bases(base, workers))?;
+        let (table, seat) = Table::of_words(alloc, placed.as_slice(), &origin)?;
         Ok((
             Loads {
                 table,
@@ -171,6 +172,7 @@ impl Loads {
                 groups: groups.count(),
                 cells: base.len() as u16,
                 alone: workers == 1,
+                wide,
                 alloc,
             },
             Pass {
@@ -264,7 +266,7 @@ impl Loads {
         ensures step { HasStepped self.now pass.old pass.new read (cell + 1) result }
         ensures within { result ≤ MAX_LENGTH }
     {
-        let word = APART * (cell as usize + 1);
+        let word = place_of(self.wide, cell as usize);
         self.table.shared.load::<Reads<L>>(&mut pass.seat, word)
     }
 
@@ -361,7 +363,7 @@ impl Loads {
         ensures step { HasStepped self.now pass.old pass.new (λ w. add w J.commodity cell) (cell + 1) result }
     {
         let amount = self.amounts[k as usize];
-        let word = APART * (cell as usize + 1);
+        let word = place_of(self.wide, cell as usize);
         let shared = &self.table.shared;
         shared.fetch_add::<Adds<J, L>>(&mut pass.seat, word, amount)
     }
@@ -473,11 +475,11 @@ impl Loads {
         requires room { length into.old ≡ length self.terms.net.cells }
         ensures { Closes self.terms pass.seen pass.view.hands into.new }
     {
-        let Loads { table, .. } = self;
+        let Loads { table, wide, .. } = self;
         let Pass { seat, own: _ } = pass;
         let closed = table.close_with(seat);
         for i in 0..into.len() {
-            into[i] = closed.word(APART * (i + 1));
+            into[i] = closed.word(place_of(wide, i));
         }
         closed.free();
     }

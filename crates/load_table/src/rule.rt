@@ -8,8 +8,8 @@ use crate::view::{Known, Origin};
 use atomic_table::{Join, Play, Split, TableRule};
 use std::marker::{Brand, PhantomData};
 
-/// Some schedule of the core leads to the words and to what the passes know. The words are those that the table has apart, or, where
-/// there is one worker, its pass's own.
+/// Some schedule of the core leads to the words and to what the passes know. The words are those that the table has in their places,
+/// or, where there is one worker, its pass's own.
 pub(crate) struct LoadRule;
 
 impl TableRule<(), Known, Origin> for LoadRule {

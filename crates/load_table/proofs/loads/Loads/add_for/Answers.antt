@@ -1,8 +1,11 @@
-use Rattle.std.proofs.Common.{rules, arith, ℕ, List, ◌+◌, ◌*◌, ◌%◌, ◌^◌, ◌<◌, ◌≡◌, ap, sym, subst, ◌∙◌, slice_index_or}
+use Rattle.std.proofs.Common.{rules, arith, ℕ, List, ◌+◌, ◌%◌, ◌^◌, ◌<◌, ◌≡◌, Bool, ap, sym, subst, ◌∙◌, slice_index_or}
 use Rattle.flow_core.specs.Core.{cell_count, amounts}
 use Rattle.atomic_table.specs.Table.{Allows}
 use Rattle.load_table.specs.Rule.{MayAdd, Holds, HasAdded}
 use Rattle.load_table.proofs.Keeps.{adds, add_inside, amount_is, cells_of_several}
+use Rattle.load_table.specs.Places.{is_wide, place}
+use Rattle.load_table.specs.Seen.{shared_cells}
+use Rattle.load_table.proofs.Placing.{place-less}
 use Rattle.load_table.proofs.loads.Loads.add_for.Goals as goal
 
 pub fetch_add-requires : goal.fetch_add-requires
@@ -25,5 +28,8 @@ fetch_add-requires g c =
     let id = c.pass.inside.seat.id in
     let seat = c.pass.inside.seat.me in
     let size : a ≡ slice_index_or (amounts t) k 0 = subst (λ (n : ℕ). a ≡ slice_index_or (amounts t) n 0) c.requires.named amount in
-    let all : Allows (Holds t) slots id seat (8 * (cell + 1)) (λ m. (m + a) % 2 ^ 64) (HasAdded k cell seat) = adds t slots id k cell a seat (search rules) same may' size in
-    (search rules, omega arith, subst (λ (n : ℕ). Allows (Holds t) slots id seat (8 * (n + 1)) (λ m. (m + a) % 2 ^ 64) (HasAdded k cell seat)) (sym c.requires.placed) all)
+    let all : Allows (Holds t) slots id seat (place (is_wide t) (cell + 1)) (λ m. (m + a) % 2 ^ 64) (HasAdded k cell seat) = adds t slots id k cell a seat (search rules) same may' size in
+    let is : c.place_of-word.result ≡ place (is_wide t) (c.args.cell + 1) = c.place_of-word.ensures ∙ ap (λ (w : Bool). place w (c.args.cell + 1)) c.self.invariant.wide_is in
+    let less = place-less (is_wide t) (c.args.cell + 1) (shared_cells t + 1) (omega arith) in
+    let there : place (is_wide t) (cell + 1) ≡ c.place_of-word.result = ap (λ (n : ℕ). place (is_wide t) (n + 1)) (sym c.requires.placed) ∙ sym is in
+    (search rules, omega arith, subst (λ (p : ℕ). Allows (Holds t) slots id seat p (λ m. (m + a) % 2 ^ 64) (HasAdded k cell seat)) there all)

@@ -1,11 +1,13 @@
-use Rattle.std.proofs.Common.{rules, arith, ◌+◌, ◌*◌, ◌<◌, ap, sym, subst, ℕ}
+use Rattle.std.proofs.Common.{rules, arith, ◌≡◌, ◌+◌, ◌<◌, Bool, ap, sym, subst, ◌∙◌, ℕ}
 use Rattle.flow_core.specs.Core.{cell_count}
 use Rattle.atomic_table.specs.Table.{Allows}
 use Rattle.load_table.specs.Rule.{MayRead, Holds, HasRead}
 use Rattle.load_table.specs.Rule.{IsStep}
-use Rattle.load_table.specs.Seen.{LoadsView}
+use Rattle.load_table.specs.Places.{is_wide, place}
+use Rattle.load_table.specs.Seen.{LoadsView, shared_cells}
 use Rattle.flow_core.specs.Core.{IsStart, read}
 use Rattle.load_table.proofs.Keeps.{reads, read_inside, word_within, cells_of_several}
+use Rattle.load_table.proofs.Placing.{place-less}
 use Rattle.load_table.proofs.loads.Loads.read_shared.Goals as goal
 
 pub load-requires : goal.load-requires
@@ -21,8 +23,11 @@ load-requires g c =
     let id = c.pass.inside.seat.id in
     let me = c.pass.inside.seat.me in
     let may' : MayRead t cell hands = subst (λ (n : ℕ). MayRead t n hands) c.requires.placed may in
-    let all : Allows (Holds t) slots id me (8 * (cell + 1)) (λ n. n) (HasRead cell me) = reads t slots id cell me (search rules) (search rules) may' in
-    (search rules, omega arith, subst (λ (n : ℕ). Allows (Holds t) slots id me (8 * (n + 1)) (λ m. m) (HasRead cell me)) (sym c.requires.placed) all)
+    let all : Allows (Holds t) slots id me (place (is_wide t) (cell + 1)) (λ n. n) (HasRead cell me) = reads t slots id cell me (search rules) (search rules) may' in
+    let is : c.place_of-word.result ≡ place (is_wide t) (c.args.cell + 1) = c.place_of-word.ensures ∙ ap (λ (w : Bool). place w (c.args.cell + 1)) c.self.invariant.wide_is in
+    let less = place-less (is_wide t) (c.args.cell + 1) (shared_cells t + 1) (omega arith) in
+    let there : place (is_wide t) (cell + 1) ≡ c.place_of-word.result = ap (λ (n : ℕ). place (is_wide t) (n + 1)) (sym c.requires.placed) ∙ sym is in
+    (search rules, omega arith, subst (λ (p : ℕ). Allows (Holds t) slots id me p (λ m. m) (HasRead cell me)) there all)
 
 pub returns-clause-within : goal.returns-clause-within
 returns-clause-within g c =
