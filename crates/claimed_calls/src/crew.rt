@@ -39,6 +39,12 @@ impl<'a, J: Job> Crew<'a, J> {
         self.ends.iter().all(|end| end.is_free())
     }
 
+    /// Whether the caller's thread had to wait for a job when jobs were last worked on: it was done with its own before a thread was with
+    /// another. No proof rests on what this tells.
+    pub fn has_waited(&self) -> bool {
+        self.ends.iter().any(|end| end.has_waited())
+    }
+
     /// Waits until all threads are there, but not without end: one that can't be started never comes.
     pub fn wait_until_there(&self) {
         'looks: for looks in 0..START {
@@ -49,17 +55,22 @@ impl<'a, J: Job> Crew<'a, J> {
         }
     }
 
-    /// Works on each job: on the first in the first thread that was taken on, and so on, and in the caller's on the last, on those that are
-    /// too many and on each whose thread is not there. `false` where the caller has looked for a job 2^64 times, which no run does; then
-    /// that job is lost.
-    pub fn work_each(&mut self, jobs: &mut [Option<J>]) -> bool
-        requires { (k : ℕ) (d : _) → k < length jobs.old → Waits J.asks (slice_index_or jobs.old k d) }
-        ensures worked { IsTrue result → (k : ℕ) (d : _) → k < length jobs.old
+    /// Works on each job: on the first in the first thread that was taken on, and so on. The caller's thread calls `lead` meanwhile, and
+    /// then works on those that are too many and on each whose thread is not there. `false` where the caller has looked for a job 2^64
+    /// times, which no run does; then that job is lost.
+    pub fn work_beside<T, F: FnMut() -> T>(
+        &mut self,
+        jobs: &mut [Option<J>],
+        lead: &mut F,
+    ) -> (bool, T)
+        requires jobs { (k : ℕ) (d : _) → k < length jobs.old → Waits J.asks (slice_index_or jobs.old k d) }
+        requires lead { F.pre lead.old }
+        ensures worked { IsTrue result.0 → (k : ℕ) (d : _) → k < length jobs.old
             → IsWorked J.does (slice_index_or jobs.old k d) (slice_index_or jobs.new k d) }
-        ensures lost { IsFalse result → Contains jobs.new None }
+        ensures lost { IsFalse result.0 → Contains jobs.new None }
+        ensures lead { F.step lead.old result.1 lead.new }
     {
-        let others = jobs.len().saturating_sub(1).min(self.ends.len());
-        work_from(&mut self.ends[..others], jobs)
+        work_from(&mut self.ends, jobs, lead)
     }
 }
 
@@ -104,50 +115,60 @@ fn hand_over<J: Job>(end: &mut End<'_, J>, job: &mut Option<J>) -> bool
     }
 }
 
-/// Works on all jobs: on each of the first with the thread of an end, and on the others here.
+/// Works on all jobs: on each of the first with the thread of an end, and on the others here, after a call of `lead`.
 #[cycle(work_from)]
-fn work_from<J: Job>(ends: &mut [End<'_, J>], jobs: &mut [Option<J>]) -> bool
+fn work_from<J: Job, T, F: FnMut() -> T>(
+    ends: &mut [End<'_, J>],
+    jobs: &mut [Option<J>],
+    lead: &mut F,
+) -> (bool, T)
     requires jobs { (k : ℕ) (d : _) → k < length jobs.old → Waits J.asks (slice_index_or jobs.old k d) }
-    ensures worked { IsTrue result → (k : ℕ) (d : _) → k < length jobs.old
+    requires lead { F.pre lead.old }
+    ensures worked { IsTrue result.0 → (k : ℕ) (d : _) → k < length jobs.old
         → IsWorked J.does (slice_index_or jobs.old k d) (slice_index_or jobs.new k d) }
-    ensures lost { IsFalse result → Contains jobs.new None }
+    ensures lost { IsFalse result.0 → Contains jobs.new None }
+    ensures lead { F.step lead.old result.1 lead.new }
 {
     let Some((end, others)) = ends.split_first_mut() else {
+        let made = lead();
         work_all(jobs);
-        return true;
+        return (true, made);
     };
     match jobs.split_first_mut() {
-        Some((job, rest)) => hand_and_work(end, others, job, rest),
-        None => true,
+        Some((job, rest)) => hand_and_lead(end, others, job, rest, lead),
+        None => (true, lead()),
     }
 }
 
 /// Works on the job with the thread of the end, and on the rest meanwhile.
 #[cycle(work_from)]
-fn hand_and_work<J: Job>(
+fn hand_and_lead<J: Job, T, F: FnMut() -> T>(
     end: &mut End<'_, J>,
     others: &mut [End<'_, J>],
     job: &mut Option<J>,
     rest: &mut [Option<J>],
-) -> bool
+    lead: &mut F,
+) -> (bool, T)
     requires job { Waits J.asks job.old }
     requires rest { (k : ℕ) (d : _) → k < length rest.old → Waits J.asks (slice_index_or rest.old k d) }
-    ensures job { IsTrue result → IsWorked J.does job.old job.new }
-    ensures rest { IsTrue result → (k : ℕ) (d : _) → k < length rest.old
+    requires lead { F.pre lead.old }
+    ensures job { IsTrue result.0 → IsWorked J.does job.old job.new }
+    ensures rest { IsTrue result.0 → (k : ℕ) (d : _) → k < length rest.old
         → IsWorked J.does (slice_index_or rest.old k d) (slice_index_or rest.new k d) }
-    ensures lost { IsFalse result → (job.new ≡ None) ⊎ Contains rest.new None }
+    ensures lost { IsFalse result.0 → (job.new ≡ None) ⊎ Contains rest.new None }
+    ensures lead { F.step lead.old result.1 lead.new }
 {
     let handed = hand_over(end, job);
-    let whole = work_from(others, rest);
+    let (whole, made) = work_from(others, rest, lead);
     if !handed {
         work_one(job);
-        return whole;
+        return (whole, made);
     }
     match end.wait_back() {
         Some(back) => {
             *job = Some(back);
-            whole
+            (whole, made)
         }
-        None => false,
+        None => (false, made),
     }
 }

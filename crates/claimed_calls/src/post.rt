@@ -47,12 +47,13 @@ pub struct Seats<J: Job> {
     ghost mate_is: { mate.me ≡ (Serves, []) },
 }
 
-/// What the owner of jobs has of a post, and whether a job of its is out.
+/// What the owner of jobs has of a post, whether a job of its is out, and whether the one that it offered last went out and had to be waited for.
 #[derive(Drop)]
 pub(crate) struct End<'a, J: Job> {
     post: &'a Post<J>,
     seat: PostSeat<J>,
     out: bool,
+    has_waited: bool,
     ghost of: { seat.table_id ≡ post.now.table.shared.table_id },
     ghost is_end: { IsEnd out seat.me },
 }
@@ -91,7 +92,14 @@ impl<'a, J: Job> End<'a, J> {
             post,
             seat,
             out: false,
+            has_waited: false,
         }
+    }
+
+    /// Whether the job that was offered last went out and was waited for: it was not done when it was first looked for. No proof rests on what
+    /// this tells.
+    pub(crate) fn has_waited(&self) -> bool {
+        self.has_waited
     }
 
     /// Whether the other thread is there, to be handed a job.
@@ -108,6 +116,7 @@ impl<'a, J: Job> End<'a, J> {
         if self.out {
             return Err(job);
         }
+        self.has_waited = false;
         let shared = &self.post.table.shared;
         drop(shared.exchange(&mut self.seat, 0, Some(job)));
         if shared.compare_exchange::<Leave>(&mut self.seat, 0, FREE, HANDED) == FREE {
@@ -145,6 +154,7 @@ impl<'a, J: Job> End<'a, J> {
         ensures { IfSome result (IsMade J.does self.old.seat.me) }
     {
         'tries: for tries in 0..u64::MAX {
+            self.has_waited = tries > 0;
             if self.is_done() {
                 if let Some(job) = self.take_back() {
                     return Some(job);

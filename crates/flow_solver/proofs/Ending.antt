@@ -8,8 +8,6 @@ use Rattle.solver_run.specs.declared.options.SolveOptions.{SolveOptions}
 use Rattle.solver_run.specs.History.{SolvedView, routed_in, phases_of, fill_after, AreRoutedBy, AreRowsOf}
 use Rattle.solver_run.specs.Run.{IsClosedAfter, ArePhases, IsPhasedRun}
 use Rattle.flow_solver.specs.declared.reached.Reached.{Reached}
-use Rattle.flow_solver.specs.Rows.{HistoryView}
-use Rattle.flow_solver.specs.Sections.{HasAll}
 use Rattle.flow_solver.specs.Search.{phase_count}
 use Rattle.flow_solver.specs.Reached.{IsReached, IsMet}
 use Rattle.flow_solver.proofs.Reaching.{count-made, met-of, of-met}
@@ -18,7 +16,7 @@ pub phased-run : (net : Network) (o : SolveOptions) (r : Reached) (closed : Bool
     → (closed ≡ false → phase_count r.search ≡ o.phases) → phases_of s ≡ is.made → AreRowsOf net s.history s.proof.routing.paths → s.proof.closed ≡ closed → s.proof.gap ≡ o.gap
     → s.proof.routing.phases ≡ phase_count r.search → s.proof.routing.scale_cap ≡ r.fill.cap → s.proof.routing.scale_load ≡ r.fill.load → s.proof.dual ≡ r.kept.dual → IsPhasedRun net o s
 phased-run net o r closed s is budget met spent phases rows closed_is gap phases_are cap load dual =
-    let made = count-made net r.search is.made is.search in
+    let made = count-made net r.search is.made is.made_are in
     let named = length-map s.history (routed_in s.proof.routing.paths) in
     let same = ap (λ (ps : List (List Routed)). length ps) phases in
     let count : length s.history ≡ length is.made = omega arith in
@@ -47,11 +45,3 @@ phased-run net o r closed s is budget met spent phases rows closed_is gap phases
       };
       rows = rows;
     }
-
--- so many phases has the history of all sections
-pub whole-count : (net : Network) (o : SolveOptions) (r : Reached) (h : HistoryView) → (is : IsReached net o r) → HasAll net r.search.sections.items h → length h.history ≡ phase_count r.search
-whole-count net o r h is all =
-    let made = count-made net r.search is.made is.search in
-    let named = length-map h.history (routed_in h.rows) in
-    let same = ap (λ (ps : List (List Routed)). length ps) (all.phases is.made is.search.sections) in
-    omega arith

@@ -14,6 +14,3 @@ pub mod Sent
 pub mod Turning
 pub mod Parting
 pub mod Phasing
-pub mod Joining
-pub mod Sectioning
-pub mod Noting

@@ -1,18 +1,12 @@
 -- The hands of a phase by a crew, from one list to the next.
-use Rattle.std.proofs.Common.{◌≡◌, ℕ, ◌<◌, Bool, false, List, length, get_or, sym, ap, ◌∙◌, subst, arith}
-use Rattle.std.specs.Prelude.{Err, IfOk, IsTrue, Ok, OnOk, Result}
-use Rattle.std.specs.Result.{is_ok}
+use Rattle.std.proofs.Common.{◌≡◌, ℕ, ◌<◌, List, length, get_or, sym, ap, ◌∙◌, subst, arith}
+use Rattle.std.specs.Prelude.{IfOk, Ok, Result}
 use Rattle.flow_model.specs.Network.{Network}
 use Rattle.load_table.specs.Seen.{LoadsView}
 use Rattle.phase_engine.specs.declared.hand.Hand.{Hand}
 use Rattle.phase_engine.specs.Hands.{AreSameWorkers, HasRoomOf, IsFresh, IsReady, IsSameWorker, Runs}
 use Rattle.phase_engine.proofs.Joining.{same-on}
 use Rattle.flow_solver.specs.Turns.{IsOver}
-
--- what holds if there is a value, where there is one
-pub of-ok : {A E : Type 0} (r : Result A E) (b : Bool) (P : Type 0) → b ≡ is_ok r → IsTrue b → OnOk r P → P
-of-ok (Ok x) b P e told p = p
-of-ok (Err x) b P e told p = absurd (let never : IsTrue false = subst (λ (t : Bool). IsTrue t) e told in cc)
 
 -- hands that were given passes, and their work
 pub record AreTaken (net : Network) (table l : LoadsView) (hands out mid back : List Hand) : Type 0 where

@@ -1,11 +1,10 @@
 -- The search with one phase more.
-use Rattle.std.proofs.Common.{◌≡◌, ℕ, ◌+◌, ◌-◌, ◌*◌, ◌<◌, ◌≤◌, Bool, true, false, nat_lt, List, [], ◌∷◌, ◌++◌, length, get_or, None, Some, refl, sym, ap, ◌∙◌, subst, arith}
-use Rattle.std.specs.Prelude.{All, Contains, IfSome, Option, flat_map, take, replicate, slice_get}
-use Rattle.std.specs.Option.{option_map}
+use Rattle.std.proofs.Common.{◌≡◌, ℕ, ◌+◌, ◌-◌, ◌*◌, ◌<◌, ◌≤◌, Bool, true, false, nat_lt, List, [], ◌∷◌, ◌++◌, length, get_or, None, refl, sym, ap, ◌∙◌, subst, arith}
+use Rattle.std.specs.Prelude.{All, IfSome, Option, flat_map, take, replicate}
 use Rattle.std.proofs.lemmas.Bool.Decides.{nat_tests}
 use Rattle.std.proofs.lemmas.List.{length-map, length-append, length-replicate, get_or-replicate, get_or_append_left}
 use Rattle.std.proofs.lemmas.List.FromFn.{fill_by_all, length-map-range_with_len}
-use Rattle.std.proofs.lemmas.Option.{same_Some, slice_get-get_or, slice_get-map, slice_get_within}
+use Rattle.std.proofs.lemmas.Option.{slice_get-get_or, slice_get_within}
 use Rattle.std.proofs.Math.Seq.{get_or-append_seam}
 use Rattle.std.specs.declared.vec.Vec.{Vec}
 use Rattle.std.specs.declared.alloc.Global.{Global}
@@ -16,23 +15,22 @@ use Rattle.flow_model.specs.Lengths.{IsSetting}
 use Rattle.flow_model.specs.Routing.{load_of}
 use Rattle.flow_core.specs.Core.{IsStart}
 use Rattle.flow_core.specs.Phase.{Routed, amounts_along}
-use Rattle.mcf_limits.specs.declared.TheConstants.{MAX_LENGTH, MAX_PHASES, MAX_TOTAL, MAX_WORKERS}
+use Rattle.mcf_limits.specs.declared.TheConstants.{MAX_LENGTH, MAX_PHASES, MAX_TOTAL}
 use Rattle.phase_engine.specs.declared.hand.Hand.{Hand}
 use Rattle.phase_engine.specs.declared.room.Room.{Room}
 use Rattle.phase_engine.specs.Hands.{HasRoomOf, IsFresh, IsSameWorker}
 use Rattle.phase_engine.specs.Rooms.{IsRoomOf}
 use Rattle.phase_engine.specs.Routing.{IsRoutedPhase}
-use Rattle.phase_engine.specs.Routes.{Route}
-use Rattle.phase_engine.proofs.Joining.{same-on}
-use Rattle.flow_solver.specs.Routes.{IsRoutedOnce, routes_of}
-use Rattle.flow_solver.specs.Sections.{AreSections, CanNoteIn, CanTakeMore, HaveNoted}
-use Rattle.flow_solver.specs.declared.sections.Section.{Section}
+use Rattle.flow_solver.specs.Routes.{IsRoutedOnce}
+use Rattle.flow_solver.specs.Rows.{AreRowsFor, HistoryView, phases_kept}
 use Rattle.solver_run.specs.Paths.{IsPathOf, HavePaths}
-use Rattle.solver_run.specs.History.{loads_after}
+use Rattle.solver_run.specs.History.{routed_in, loads_after}
 use Rattle.solver_run.proofs.Paths.{phase-paths}
 use Rattle.flow_solver.specs.declared.search.Search.{Search}
-use Rattle.flow_solver.specs.Search.{AreAlike, AreIdle, CanNotePhase, CanRoute, HasAdded, IsBoundRoom, IsNotedOf, IsRouted, IsSearch}
-use Rattle.flow_solver.proofs.Noting.{all-noted, can-note-all}
+use Rattle.flow_solver.specs.declared.places.Place.{Place}
+use Rattle.solver_run.specs.declared.options.Entry.{Entry}
+use Rattle.flow_solver.specs.Adding.{ArePlaces, HasBegun, HasNoted, IsNoted}
+use Rattle.flow_solver.specs.Search.{AreIdle, CanRoute, HasAdded, HasRouted, IsBoundRoom, IsRouted, IsRoutedByCrew, IsSearch, phases_in}
 use Rattle.flow_solver.proofs.Loads.{loads-more, loads-small, loads-within, once, phase-adds, phase-loads, total-amounts, room-above}
 
 -- hands
@@ -99,6 +97,9 @@ start-of net setting s workers n can some most = record {
   few_workers = most;
 }
 
+pub count-of : (s : Search) → length (phases_in s) ≡ length s.history.history
+count-of s = length-map s.history.history (routed_in s.history.rows)
+
 pub loads-size : (net : Network) (phases : List (List Routed)) (s : Search) → IsSearch net phases s → length s.loads.items ≡ length net.cells
 loads-size net phases s is = ap (λ (xs : List ℕ). length xs) is.loads ∙ size
   where
@@ -133,6 +134,26 @@ adds-few net setting base loads hands n p c =
     let few = phase-adds net.commodities p.entries 0 c (λ k r at. once c r.path (have k r at).different) in
     omega arith
 
+-- the search with one phase more
+pub search-more : (net : Network) (setting : Setting) (phases : List (List Routed)) (old new : Search) → IsNetwork net → IsSearch net phases old → (h : HasRouted net setting old new) → IsBoundRoom net new.room
+    → new.history.commodities ≡ length net.commodities → AreRowsFor net new.history.history new.history.rows → IsSearch net (phases ++ h.phase.entries ∷ []) new
+search-more net setting phases old new n is h room commodities rows =
+    let p = h.phase in
+    let more : length (phases ++ p.entries ∷ []) ≡ length phases + 1 = length-append phases (p.entries ∷ []) in
+    let old_size = loads-size net phases old is in
+    let new_size = h.count in
+    let loads = loads-more net phases p.entries old.loads.items new.loads.items is.loads new_size p.sums in
+    let small = loads-small old.loads.items new.loads.items (load_of (amounts_along 0 net.commodities p.entries)) (length phases) MAX_TOTAL (omega arith) (λ c l. p.sums c (omega arith))
+    (adds-few net setting old.loads.items new.loads.items new.hands.items n p) is.small in
+    record {
+      loads = loads ∙ ap (λ (i : ℕ). loads_after net (phases ++ p.entries ∷ []) i) (sym more);
+      small = subst (λ (i : ℕ). All (λ (x : ℕ). x ≤ i * MAX_TOTAL) new.loads.items) (sym more) small;
+      room = room;
+      hands = h.hands;
+      commodities = commodities;
+      rows = rows;
+    }
+
 -- who routed something is one of the hands
 pub few-workers : (net : Network) (setting : Setting) (base loads : List ℕ) (hands : List Hand) (p : IsRoutedPhase net setting base loads hands) → All (λ (r : Routed). r.worker < length hands) p.entries
 few-workers net setting base loads hands p = λ k d l. (
@@ -143,8 +164,9 @@ few-workers net setting base loads hands p = λ k d l. (
 
 -- what the hands have routed
 pub routed-phase : (net : Network) (setting : Setting) (old new : Search) → IsNetwork net → CanRoute net setting old → (p : IsRoutedPhase net setting old.loads.items new.loads.items new.hands.items)
-    → length new.loads.items ≡ length net.cells → AreIdle net new.hands.items → length new.hands.items ≡ length old.hands.items → new.room ≡ old.room → new.sections ≡ old.sections → IsRouted net setting old new
-routed-phase net setting old new n can p size hands same room sections =
+    → length new.loads.items ≡ length net.cells → AreIdle net new.hands.items → AreIdle net new.spare.items → length new.hands.items ≡ length old.hands.items → length new.spare.items ≡ length new.hands.items
+    → HasRouted net setting old new
+routed-phase net setting old new n can p size hands spare same pairs =
     let old_size = can.count in
     record {
       phase = p;
@@ -152,93 +174,61 @@ routed-phase net setting old new n can p size hands same room sections =
       small = loads-within old.loads.items new.loads.items (load_of (amounts_along 0 net.commodities p.entries)) MAX_TOTAL MAX_LENGTH (omega arith) (λ c l. p.sums c (omega arith))
           (adds-few net setting old.loads.items new.loads.items new.hands.items n p) can.small;
       loaded = some-load net p.entries old.loads.items new.loads.items n (phase-paths net setting old.loads.items new.loads.items p.entries n p.phase) p.count p.sums;
-      hands = hands;
+      hands = record { last = hands; spare = spare; pairs = pairs };
       same = same;
-      room = room;
-      sections = sections;
     }
 
--- what a mapped value was made of
-map-some : {X Y : Type 0} (f : X → Y) (o : Option X) (y : Y) → option_map f o ≡ Some y → (x : X) × (o ≡ Some x) × (f x ≡ y)
-map-some f None y e = absurd cc
-map-some f (Some x) y e = (x, refl, same_Some (f x) y e)
+-- a search with these loads and hands
+abbrev with_hands : Search → Vec ℕ Global × Vec Hand Global × Vec Hand Global → Search
+with_hands s t = record { loads = t.0; room = s.room; hands = t.1; spare = t.2; history = s.history; sought = s.sought; pace = s.pace }
 
--- each commodity was routed once
-pub routed-once : (net : Network) (setting : Setting) (base loads : List ℕ) (hands : List Hand) (p : IsRoutedPhase net setting base loads hands) → IsRoutedOnce net 0 (routes_of hands) p.entries
-routed-once net setting base loads hands p = record {
-  count = p.count;
-  routes_are = λ k w path l.
-      let at : slice_get (routes_of hands) w ≡ option_map (λ (h : Hand). h.routes) (slice_get hands w) = slice_get-map (λ (h : Hand). h.routes) hands w in
-      let zeroth : 0 + k ≡ k = omega arith in (
-        λ is. let has = (p.routes k w path).0 is in
-            (has.0.routes, at ∙ ap (option_map (λ (h : Hand). h.routes)) has.1, subst (λ (n : ℕ). Contains has.0.routes (record { commodity = n; path = path })) (sym zeroth) has.2),
-        λ of. let has = map-some (λ (h : Hand). h.routes) (slice_get hands w) of.0 (sym at ∙ of.1) in
-            (p.routes k w path).1 (has.0, has.1, subst (λ (n : ℕ). Contains has.0.routes (record { commodity = n; path = path })) zeroth (subst (λ (own : List Route). Contains own (record { commodity = 0 + k; path = path })) (sym has.2) of.2)),
-      );
+-- of history and room nothing is said
+pub routed-same : (net : Network) (setting : Setting) (old mid new : Search) → HasRouted net setting old mid → new.loads ≡ mid.loads → new.hands ≡ mid.hands → new.spare ≡ mid.spare → HasRouted net setting old new
+routed-same net setting old mid new h loads hands spare =
+    let P : Vec ℕ Global × Vec Hand Global × Vec Hand Global → Type 0 = λ t. HasRouted net setting old (with_hands new t) in
+    let made : P (mid.loads, mid.hands, mid.spare) = record {
+      phase = h.phase;
+      count = h.count;
+      small = h.small;
+      loaded = h.loaded;
+      hands = record { last = h.hands.last; spare = h.hands.spare; pairs = h.hands.pairs };
+      same = h.same;
+    } in
+    subst P (λ i. (sym loads i, sym hands i, sym spare i)) made
+
+-- the phase of which these are the places is noted
+pub noted-by : (net : Network) (hands : List Hand) (places : List Place) (old new : HistoryView) → new.commodities ≡ old.commodities → IsNoted net places old new → ArePlaces net hands places → HasNoted net hands old new
+noted-by net hands places old new same noted are = record {
+  commodities = same;
+  rows = noted.rows;
+  phases = λ entries once. noted.phases hands entries are once;
 }
 
--- the same hands but for their routes are idle too
-pub idle-alike : (net : Network) (old new : List Hand) → AreIdle net old → length new ≡ length old → AreAlike old new → AreIdle net new
-idle-alike net old new idle size alike = record {
-  some = omega (arith, idle.some, size);
-  few = omega (arith, idle.few, size);
-  each = λ k d l. (
-      let s = alike k d (omega (arith, l, size)) in
-      let i = idle.each k d (omega (arith, l, size)) in
-      (s.0.0 ∙ i.0, s.1 ∙ i.1, s.0.1 ∙ i.2, subst (λ (r : Option Room). IfSome r (IsRoomOf net)) (sym s.2) i.3)
-      );
+-- a phase of which the first commodities have their entries, and then the others
+pub noted-then : (net : Network) (hands : List Hand) (old mid new : HistoryView) (entries : List Entry) → HasBegun net hands old mid entries → HasNoted net hands mid new → HasNoted net hands old new
+noted-then net hands old mid new entries begun noted = record {
+  commodities = noted.commodities ∙ begun.commodities;
+  rows = noted.rows;
+  phases = λ last once. noted.phases last once ∙ ap (λ (t : List (List Routed)). t ++ last ∷ []) begun.phases;
 }
 
-pub alike-then : (old mid new : List Hand) → length mid ≡ length old → AreAlike old mid → AreAlike mid new → AreAlike old new
-alike-then old mid new size one two = λ k d l.
-    let a = one k d l in
-    let b = two k d (omega (arith, l, size)) in
-    (same-on (get_or old k d) (get_or mid k d) (get_or new k d) a.0 b.0, b.1 ∙ a.1, b.2 ∙ a.2)
-
--- routes were taken from the hands and noted, and their memory given back
-pub noted-of : (net : Network) (old new : Search) (taken back : List Hand) (routes : List (List Route)) → new.loads ≡ old.loads → length taken ≡ length old.hands.items → AreAlike old.hands.items taken → length back ≡ length taken → AreAlike taken back
-    → new.hands.items ≡ back → routes ≡ routes_of old.hands.items → HaveNoted routes old.sections.items new.sections.items → IsBoundRoom net new.room → IsNotedOf net old new
-noted-of net old new taken back routes loads size one size' two last are noted room = record {
-  loads = loads;
-  count = ap (λ (hs : List Hand). length hs) last ∙ (size' ∙ size);
-  hands = subst (AreAlike old.hands.items) (sym last) (alike-then old.hands.items taken back size one two);
-  sections = subst (λ (rs : List (List Route)). HaveNoted rs old.sections.items new.sections.items) are noted;
+-- one phase more beside the first entries of the one before, which is noted then
+pub added-beside : (net : Network) (setting : Setting) (old mid new : Search) (entries : List Entry) → IsRoutedByCrew net setting old mid → HasBegun net old.hands.items old.history mid.history entries → new.loads ≡ mid.loads → new.hands ≡ mid.hands → new.spare ≡ mid.spare
+    → HasNoted net mid.spare.items mid.history new.history → IsBoundRoom net new.room → HasAdded net setting old new
+added-beside net setting old mid new entries is begun loads hands spare noted room = record {
+  routed = routed-same net setting old mid new is.routed loads hands spare;
+  noted = noted-then net old.hands.items old.history mid.history new.history entries begun (subst (λ (hs : Vec Hand Global). HasNoted net hs.items mid.history new.history) is.spare noted);
   room = room;
 }
 
--- the search with one phase more
-pub search-more : (net : Network) (setting : Setting) (phases : List (List Routed)) (old new : Search) → IsNetwork net → IsSearch net phases old → (a : HasAdded net setting old new)
-    → IsSearch net (phases ++ a.routed.phase.entries ∷ []) new
-search-more net setting phases old new n is a =
-    let mid = a.between in
-    let h = a.routed in
-    let p = h.phase in
-    let more : length (phases ++ p.entries ∷ []) ≡ length phases + 1 = length-append phases (p.entries ∷ []) in
-    let old_size = loads-size net phases old is in
-    let new_size = h.count in
-    let loads = loads-more net phases p.entries old.loads.items mid.loads.items is.loads new_size p.sums in
-    let small = loads-small old.loads.items mid.loads.items (load_of (amounts_along 0 net.commodities p.entries)) (length phases) MAX_TOTAL (omega arith) (λ c l. p.sums c (omega arith))
-    (adds-few net setting old.loads.items mid.loads.items mid.hands.items n p) is.small in
-    let same : new.loads.items ≡ mid.loads.items = ap (λ (v : Vec ℕ Global). v.items) a.noted.loads in
-    let before : AreSections net phases mid.sections.items = subst (λ (v : Vec Section Global). AreSections net phases v.items) (sym h.sections) is.sections in
-    record {
-      loads = same ∙ (loads ∙ ap (λ (i : ℕ). loads_after net (phases ++ p.entries ∷ []) i) (sym more));
-      small = subst (λ (xs : List ℕ). All (λ (x : ℕ). x ≤ length (phases ++ p.entries ∷ []) * MAX_TOTAL) xs) (sym same) (subst (λ (i : ℕ). All (λ (x : ℕ). x ≤ i * MAX_TOTAL) mid.loads.items) (sym more) small);
-      room = a.noted.room;
-      hands = idle-alike net mid.hands.items new.hands.items h.hands a.noted.count a.noted.hands;
-      sections = all-noted net phases (routes_of mid.hands.items) p.entries mid.sections.items new.sections.items before (routed-once net setting old.loads.items mid.loads.items mid.hands.items p) a.noted.sections.count a.noted.sections.each;
-    }
-
--- what the hands have routed can be noted, and a bound made of the loads
-pub can-note : (net : Network) (setting later : Setting) (old mid : Search) → IsSetting later → CanTakeMore net old.sections.items → IsBoundRoom net old.room → IsRouted net setting old mid → CanNotePhase net later mid
-can-note net setting later old mid later_is can room h =
-    let p = h.phase in
-    let few : length (routes_of mid.hands.items) ≤ MAX_WORKERS = omega (arith, h.hands.few, length-map mid.hands.items (λ (x : Hand). x.routes)) in
-    record {
-      note = subst (λ (v : Vec Section Global). CanNoteIn (routes_of mid.hands.items) v.items) (sym h.sections)
-          (can-note-all net (routes_of mid.hands.items) p.entries old.sections.items can few (routed-once net setting old.loads.items mid.loads.items mid.hands.items p));
-      bound = (later_is, h.count, h.small, subst (IsBoundRoom net) (sym h.room) room);
-    }
+-- one phase more, and the one before it is noted
+pub added-phase : (net : Network) (setting : Setting) (old mid new : Search) → IsRouted net setting old mid → new.loads ≡ mid.loads → new.hands ≡ mid.hands → new.spare ≡ mid.spare
+    → HasNoted net mid.spare.items mid.history new.history → IsBoundRoom net new.room → HasAdded net setting old new
+added-phase net setting old mid new is loads hands spare noted room = record {
+  routed = routed-same net setting old mid new is.routed loads hands spare;
+  noted = subst (λ (h : HistoryView). HasNoted net old.hands.items h new.history) is.history (subst (λ (hs : Vec Hand Global). HasNoted net hs.items mid.history new.history) is.spare noted);
+  room = room;
+}
 
 -- from a search of less than the most phases one more can be routed
 pub can-route : (net : Network) (setting : Setting) (phases : List (List Routed)) (s : Search) → HasNoCut net → IsSetting setting → IsSearch net phases s → length phases < MAX_PHASES → CanRoute net setting s
@@ -249,3 +239,12 @@ can-route net setting phases s no_cut setting_is is few = record {
   small = λ k d l. (let small : get_or s.loads.items k d ≤ length phases * MAX_TOTAL = is.small k d l in omega arith);
   hands = is.hands;
 }
+
+-- with the phase that is noted there is one more
+pub noted-count : (net : Network) (hands : List Hand) (old new : HistoryView) (last : List Routed) → HasNoted net hands old new → IsRoutedOnce net hands last → length new.history ≡ length old.history + 1
+noted-count net hands old new last noted once =
+    let before = length-map old.history (routed_in old.rows) in
+    let after = length-map new.history (routed_in new.rows) in
+    let longer = ap (λ (xs : List (List Routed)). length xs) (noted.phases last once) in
+    let appended = length-append (phases_kept old) (last ∷ []) in
+    omega arith

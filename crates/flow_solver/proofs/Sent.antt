@@ -11,11 +11,8 @@ use Rattle.flow_model.specs.contracts.groups.Groups as groups
 use Rattle.flow_model.specs.contracts.net.Net as net
 use Rattle.load_table.proofs.loads.Loads.TheSendSync as loads
 use Rattle.phase_engine.proofs.Sent.{hand-send}
-use Rattle.phase_engine.proofs.routes.Routes.TheSendSync as routes
-use Rattle.flow_solver.proofs.sections.Section.TheSendSync as section
 use Rattle.flow_solver.specs.contracts.prepared.Prepared as prepared
 use Rattle.flow_solver.specs.contracts.turn.Turn as turn
-use Rattle.flow_solver.specs.contracts.parts.Basis as basis
 use Rattle.flow_solver.specs.contracts.parts.Part as part
 use Rattle.flow_solver.specs.contracts.share.Share as share
 
@@ -52,16 +49,10 @@ turn-send ℓ G sync = declared_send (turn.the_type ℓ G) (
   (search sendable depth 20, (search sendable depth 20, (search (sendable, sync), (search (crosses, loads.the_send, loads.the_sync) depth 6, (search (crosses, row-send, row-sync) depth 6, (hand-send, tt)))))),
 )
 
-basis-send : (ℓ : _) → IsSend (basis.the_row ℓ)
-basis-send ℓ = declared_send (basis.the_type ℓ) (
-  search (sendable, graph-sync),
-  (search sendable depth 20, (search (sendable, crosses) depth 20, (search (crosses, routes.the_send, routes.the_sync) depth 6, tt))),
-)
-
 part-send : (ℓ : _) → IsSend (part.the_row ℓ)
 part-send ℓ = declared_send (part.the_type ℓ) (
-  basis-send _,
-  (search (crosses, row-send) depth 6, (search (crosses, section.the_send) depth 6, (search sendable depth 20, tt))),
+  search (sendable, graph-sync),
+  (search sendable depth 20, (search (sendable, crosses) depth 20, (search (crosses, row-send) depth 6, tt))),
 )
 
 pub share-send : (ℓ : _) (G : RattleType) → IsSync G → IsSend (share.the_row ℓ G)

@@ -4,32 +4,30 @@ use Rattle.mcf_limits.specs.declared.TheConstants.{MAX_DEMANDS, MAX_LENGTH, MAX_
 use Rattle.flow_model.specs.Network.{Network}
 use Rattle.flow_model.specs.Routing.{Row}
 use Rattle.flow_paths.specs.PathRows.{row_at, IsFirstRow}
-use Rattle.phase_engine.specs.Routes.{Route}
+use Rattle.phase_engine.specs.declared.hand.Hand.{Hand}
+use Rattle.phase_engine.specs.Routing.{HasRouted}
 use Rattle.flow_core.specs.Phase.{Routed}
 use Rattle.solver_run.specs.declared.options.Entry.{Entry}
 use Rattle.solver_run.specs.History.{path_named, IsWeighed, NamesRows}
 use Rattle.flow_solver.specs.declared.places.Place.{Place}
-use Rattle.flow_solver.specs.Routes.{HaveRouted, IsRouteOf, IsRoutedOnce}
+use Rattle.flow_solver.specs.Routes.{HaveRouted, IsRoutedOnce}
 use Rattle.flow_solver.specs.Rows.{AreApart, AreRowsFor, HistoryView, phases_kept}
 
 abbrev pub no_place : Place
 no_place = record { hand = 0; path = record { ref_ptr = (0, 0); now = [] } }
 
-abbrev pub no_route : Route
-no_route = record { commodity = 0; path = [] }
-
--- the number is w, and among these routes is the commodity along the path
-pub record IsPlaceAt (w : ℕ) (own : List Route) (k : ℕ) (p : Place) : Type 0 where
+-- the number is w, and this hand has routed the commodity along the path
+pub record IsPlaceAt (w : ℕ) (hand : Hand) (k : ℕ) (p : Place) : Type 0 where
   pub hand_is : p.hand ≡ w
-  pub along : Contains own (record { commodity = k; path = p.path.now })
+  pub along : Contains hand.routes (record { commodity = k; path = p.path.now })
 
 -- the path of commodity k
 abbrev pub path_at : List Place → ℕ → List ℕ
 path_at places k = (slice_index_or places k no_place).path.now
 
--- the place of each of so many commodities, whose first one has so many before it, names who has routed it, and along which path
-abbrev pub ArePlaces : ℕ → ℕ → List (List Route) → List Place → Type 0
-ArePlaces count start routes places = (k : ℕ) → k < count → IsRouteOf routes (slice_index_or places k no_place).hand (start + k) (path_at places k)
+-- each commodity's place names the hand that has routed it, and along which path
+abbrev pub ArePlaces : Network → List Hand → List Place → Type 0
+ArePlaces net hands places = (k : ℕ) → k < length net.commodities → HasRouted hands (slice_index_or places k no_place).hand k (path_at places k)
 
 -- an amount can be added for the commodity along the path: no two rows are alike, there may be one more, and the row that it is added
 -- to, if there is one, stays within the limit
@@ -48,38 +46,47 @@ pub record AreBegun (net : Network) (history : List (List Entry)) (entries : Lis
   pub few : length rows ≤ length net.commodities * length history + length entries
 
 -- each entry's worker has routed its commodity along the path of its row
-pub record AreRoutedAs (start : ℕ) (routes : List (List Route)) (rows : List Row) (entries : List Entry) : Type 0 where
-  pub each : (k : ℕ) (e : Entry) → slice_get entries k ≡ Some e → IsRouteOf routes e.worker (start + k) (path_named rows e)
+pub record AreRoutedAs (hands : List Hand) (rows : List Row) (entries : List Entry) : Type 0 where
+  pub each : (k : ℕ) (e : Entry) → slice_get entries k ≡ Some e → HasRouted hands e.worker k (path_named rows e)
 
--- rows and entries belong together, and with one phase more they stay within their limits
-pub record CanTakePhase (net : Network) (h : HistoryView) : Type 0 where
+-- the first commodities of one phase more have these entries, which belong together with the rows and all entries before; and with that
+-- phase whole they stay within their limits
+pub record CanTakePhase (net : Network) (h : HistoryView) (entries : List Entry) : Type 0 where
   pub commodities : h.commodities ≡ length net.commodities
-  pub rows : AreRowsFor net h.history h.rows
+  pub begun : AreBegun net h.history entries h.rows
+  pub few : length entries ≤ length net.commodities
   pub phases : length h.history < MAX_PHASES
   pub work : length net.commodities * (length h.history + 1) ≤ MAX_WORK
 
--- the phase that these workers have routed can be noted
-pub record CanNote (net : Network) (start : ℕ) (routes : List (List Route)) (h : HistoryView) : Type 0 where
-  pub can : CanTakePhase net h
-  pub few : length routes ≤ MAX_WORKERS
-  pub routed : HaveRouted net start routes
+-- the phase that these hands have routed can be noted, of which the first commodities have these entries
+pub record CanNote (net : Network) (hands : List Hand) (h : HistoryView) (entries : List Entry) : Type 0 where
+  pub can : CanTakePhase net h entries
+  pub few : length hands ≤ MAX_WORKERS
+  pub routed : HaveRouted net hands
+  pub routed_as : AreRoutedAs hands h.rows entries
 
 -- the phase of which these are the places can be noted
 pub record CanBeNoted (net : Network) (h : HistoryView) (places : List Place) : Type 0 where
-  pub can : CanTakePhase net h
+  pub can : CanTakePhase net h []
   pub count : length places ≡ length net.commodities
   pub few : length places ≤ MAX_DEMANDS
 
--- it is noted: rows and entries belong together, and the phase that workers have routed stands last
+-- it is noted: rows and entries belong together, and the phase that hands have routed stands last
 pub record IsNoted (net : Network) (places : List Place) (old new : HistoryView) : Type 0 where
   pub rows : AreRowsFor net new.history new.rows
-  pub phases : (start : ℕ) (routes : List (List Route)) (entries : List Routed) → ArePlaces (length net.commodities) start routes places → IsRoutedOnce net start routes entries → phases_kept new ≡ phases_kept old ++ entries ∷ []
+  pub phases : (hands : List Hand) (entries : List Routed) → ArePlaces net hands places → IsRoutedOnce net hands entries → phases_kept new ≡ phases_kept old ++ entries ∷ []
 
--- the phase that these workers have routed is noted: it stands last, and rows and entries belong together
-pub record HasNoted (net : Network) (start : ℕ) (routes : List (List Route)) (old new : HistoryView) : Type 0 where
+-- the phase that these hands have routed is noted: it stands last, and rows and entries belong together
+pub record HasNoted (net : Network) (hands : List Hand) (old new : HistoryView) : Type 0 where
   pub commodities : new.commodities ≡ old.commodities
   pub rows : AreRowsFor net new.history new.rows
-  pub phases : (entries : List Routed) → IsRoutedOnce net start routes entries → phases_kept new ≡ phases_kept old ++ entries ∷ []
+  pub phases : (entries : List Routed) → IsRoutedOnce net hands entries → phases_kept new ≡ phases_kept old ++ entries ∷ []
+
+-- the first commodities of the phase that these hands have routed have these entries, and the phases before are as they were
+pub record HasBegun (net : Network) (hands : List Hand) (old new : HistoryView) (entries : List Entry) : Type 0 where
+  pub commodities : new.commodities ≡ old.commodities
+  pub phases : phases_kept new ≡ phases_kept old
+  pub can : CanNote net hands new entries
 
 -- rows are appended, and the old ones keep their commodity and path
 pub record KeepsRows (old new : List Row) : Type 0 where

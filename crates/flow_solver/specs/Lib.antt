@@ -3,7 +3,6 @@ pub mod Reached
 pub mod Phases
 pub mod Rows
 pub mod Routes
-pub mod Sections
 pub mod Adding
 pub mod Turns
 pub mod Parts

@@ -12,7 +12,7 @@ use Rattle.solver_run.specs.declared.options.SolveOptions.{SolveOptions}
 use Rattle.solver_run.specs.History.{fill_after, AreRoutedBy}
 use Rattle.solver_run.specs.Run.{least_dual, ArePhases}
 use Rattle.flow_solver.specs.declared.reached.Reached.{Reached}
-use Rattle.flow_solver.specs.Search.{IsSearch, phase_count}
+use Rattle.flow_solver.specs.Search.{ArePhasesOf, IsSearch, phase_count}
 
 -- each dual has a value
 abbrev pub AllDivide : Network → List DualRows → Type 0
@@ -25,8 +25,8 @@ carried n f = record { num = n * f.cap; den = f.load }
 -- these phases are those of a run, of which the kept bound is the first of the least
 pub record IsReached (net : Network) (o : SolveOptions) (r : Reached) : Type 0 where
   pub made : List (List Routed)
+  pub made_are : ArePhasesOf net r.search made
   pub search : IsSearch net made r.search
-  pub some : 1 ≤ length made
   pub hands : length r.search.hands.items ≡ o.workers
   pub workers : AreRoutedBy o.workers made
   pub reference : fullness r.reference ≡ fill_after net made 1

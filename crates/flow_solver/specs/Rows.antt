@@ -1,5 +1,5 @@
 -- The rows and the entries of some phases, which belong together.
-use Rattle.std.specs.Prelude.{◌≡◌, ℕ, ◌+◌, ◌*◌, ◌<◌, ◌≤◌, List, [], ◌∷◌, ◌++◌, All, length, map, Some, slice_get}
+use Rattle.std.specs.Prelude.{◌≡◌, ℕ, ◌*◌, ◌<◌, ◌≤◌, List, All, length, map, Some, slice_get}
 use Rattle.flow_model.specs.Network.{Network}
 use Rattle.flow_model.specs.Routing.{Row}
 use Rattle.flow_paths.specs.PathRows.{row_at, HasPath}
@@ -31,25 +31,3 @@ pub record AreRowsFor (net : Network) (history : List (List Entry)) (rows : List
   pub entries : All (NamesRows net rows) history
   pub weighed : (n : ℕ) (row : Row) → slice_get rows n ≡ Some row → IsWeighed net history n row
   pub few : length rows ≤ length net.commodities * length history
-
--- the row of a commodity with so many before it
-abbrev pub moved : ℕ → Row → Row
-moved count row = record { commodity = count + row.commodity; walk = row.walk; weight = row.weight }
-
--- the entry of a row with so many before it
-abbrev pub behind : ℕ → Entry → Entry
-behind count e = record { worker = e.worker; row = count + e.row }
-
--- the lists of both, of which there are as many, one with the other
-abbrev pub beside : {X : Type 0} → List (List X) → List (List X) → List (List X)
-beside [] ys = []
-beside (x ∷ xs) [] = []
-beside (x ∷ xs) (y ∷ ys) = (x ++ y) ∷ beside xs ys
-
--- the phases of some commodities, and of those behind them
-abbrev pub joined : HistoryView → HistoryView → HistoryView
-joined first second = record {
-  commodities = first.commodities + second.commodities;
-  rows = first.rows ++ map (moved first.commodities) second.rows;
-  history = beside first.history (map (map (behind (length first.rows))) second.history);
-}

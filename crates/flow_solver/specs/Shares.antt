@@ -1,5 +1,5 @@
 -- Shares of the work on a phase, which any thread may do.
-use Rattle.std.specs.Prelude.{◌≡◌, ℕ, List, [], ◌∷◌, ◌++◌, Option, Some, IsTrue}
+use Rattle.std.specs.Prelude.{◌≡◌, ℕ, List, [], ◌∷◌, ◌++◌, Option, Some}
 use Rattle.std.specs.Arc.{arc_value}
 use Rattle.flow_model.specs.Network.{Network}
 use Rattle.load_table.specs.Seen.{LoadsView}
@@ -8,20 +8,18 @@ use Rattle.phase_engine.specs.declared.hand.Hand.{Hand}
 use Rattle.flow_solver.specs.declared.share.Share.{Share}
 use Rattle.flow_solver.specs.declared.share.Share.TheVariants.{Turn, Part}
 use Rattle.flow_solver.specs.Turns.{CanBeTaken, IsTaken}
-use Rattle.phase_engine.specs.Routes.{Route}
-use Rattle.flow_solver.specs.Parts.{CanBeDoneBy, IsDoneBy, IsPartOf}
-use Rattle.flow_solver.specs.declared.sections.Section.{Section}
+use Rattle.flow_solver.specs.Parts.{CanBeFilled, IsFilled, IsPartOf}
 
 module _ {G : Type 0} where
-  -- a turn that can be taken, or a part that can be done
+  -- a turn that can be taken, or a part that can be filled
   abbrev pub CanBeDone : Share G → Type 0
   CanBeDone (Turn t) = CanBeTaken t
-  CanBeDone (Part p) = CanBeDoneBy p
+  CanBeDone (Part p) = CanBeFilled p
 
   -- the second is the first, a turn or a part, after its work
   abbrev pub IsDoneOf : Share G → Share G → Type 0
   IsDoneOf (Turn t) (Turn u) = IsTaken t u
-  IsDoneOf (Part p) (Part q) = IsDoneBy p q
+  IsDoneOf (Part p) (Part q) = IsFilled p q
   IsDoneOf _ _ = ⊥
 
   -- there is a turn of this hand over these words, and it can be taken
@@ -39,15 +37,10 @@ module _ {G : Type 0} where
   IsSomeTurn (Some (Turn t)) = Unit {0}
   IsSomeTurn _ = ⊥
 
-  -- there is a part of a bound of these lengths on this network, with these routes, and it can be done
-  abbrev pub IsShareOf : Network → List ℕ → List (List Route) → Option (Share G) → Type 0
-  IsShareOf net lengths routes (Some (Part p)) = IsPartOf net lengths routes p
-  IsShareOf net lengths routes _ = ⊥
-
-  -- there is a part, and it says that its sections have noted the routes
-  abbrev pub HasNotedAll : Option (Share G) → Type 0
-  HasNotedAll (Some (Part p)) = IsTrue p.noted
-  HasNotedAll _ = ⊥
+  -- there is a part of a bound of these lengths on this network, and it can be filled
+  abbrev pub IsShareOf : Network → List ℕ → Option (Share G) → Type 0
+  IsShareOf net lengths (Some (Part p)) = IsPartOf net lengths p
+  IsShareOf net lengths _ = ⊥
 
   -- the rows of a part
   abbrev pub rows_at : Option (Share G) → List Row
@@ -58,13 +51,3 @@ module _ {G : Type 0} where
   abbrev pub rows_in : List (Option (Share G)) → List Row
   rows_in [] = []
   rows_in (part ∷ parts) = rows_in parts ++ rows_at part
-
-  -- the sections of a part
-  abbrev pub sections_at : Option (Share G) → List Section
-  sections_at (Some (Part p)) = p.sections.items
-  sections_at _ = []
-
-  -- the sections of all parts, of which the last one has the first sections
-  abbrev pub sections_in : List (Option (Share G)) → List Section
-  sections_in [] = []
-  sections_in (part ∷ parts) = sections_in parts ++ sections_at part

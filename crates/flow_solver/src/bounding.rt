@@ -1,20 +1,20 @@
-//! One phase more is routed and noted, and a bound is made of its loads.
+//! The rows of a phase are noted, one phase more is routed, and a bound is made of its loads.
 
-ghost use Rattle.std.specs.Prelude.{◌≡◌, ◌<◌, ◌≤◌, IfOk, OnOk, max};
-ghost use Rattle.flow_solver.specs.Sections.{CanNoteIn, HaveNoted};
-ghost use Rattle.flow_solver.specs.Search.{CanAddPhase, CanBeBounded, CanNotePhase, CanNoteRoutes, HasAdded, IsBoundRoom, IsLesserUnder, IsNotedOf};
+ghost use Rattle.std.specs.Prelude.{◌≡◌, ◌<◌, ◌≤◌, [], IfOk, OnOk, max};
+ghost use Rattle.flow_solver.specs.Adding.{CanBeNoted, CanNote, HasNoted, IsNoted};
+ghost use Rattle.flow_solver.specs.Search.{CanAddPhase, CanBeBounded, CanNoteAndBound, HasAdded, HasNotedSpare, IsBoundRoom, IsLesserUnder, KeepsLoadsAndHands};
 
-use crate::filling::note_with_bound;
-use crate::hands::{give_back, take_routes};
+use crate::filling::bound_with;
+use crate::noting::note_routes_of;
+use crate::places::places_of;
 use crate::prepared::{Prepared, Run, Task};
 use crate::search::{BoundRoom, Search, route, route_with};
-use crate::sections::note_all;
 use crate::share::Share;
 use claimed_calls::Crew;
 use dual_bound::{Bounded, Team, lesser_in};
 use flow_model::Setting;
 use mcf_base::Gate;
-use phase_engine::Routes;
+use solver_run::Entry;
 use std::alloc::{AllocError, Global};
 use std::thread::{Threads, join_mut};
 
@@ -68,58 +68,73 @@ fn threads_beside(paths: usize, threads: u16) -> u16
     threads.saturating_sub(1)
 }
 
-/// Notes what was routed, and then gives the lesser of an earlier bound, if there is one, and that of the loads. `Err` is for want of
-/// memory, and then the search can't go on.
-fn note_then_bound<G: Gate, R: Threads + Sync>(
+/// Notes the rows of the phase that the spare hands have routed, and then gives the lesser of an earlier bound, if there is one, and that
+/// of the loads of all phases. `Err` is for want of memory, and then the search can't go on.
+fn note_and_bound<G: Gate, R: Threads + Sync>(
     team: &Team<'_, R>,
     task: &Task<'_, G>,
     search: &mut Search,
-    routes: &[Routes],
     earlier: Option<Bounded>,
 ) -> Result<Bounded, AllocError>
-    requires { CanNoteRoutes task.now.on.now.net.now task.now.setting routes.now search.old }
-    ensures loads { search.new.loads ≡ search.old.loads }
-    ensures hands { search.new.hands ≡ search.old.hands }
-    ensures noted { OnOk result (HaveNoted routes.now search.old.sections.items search.new.sections.items) }
-    ensures room { OnOk result (IsBoundRoom task.now.on.now.net.now search.new.room) }
-    ensures bound { IfOk result
-        (IsLesserUnder task.now.on.now.net.now task.now.setting search.old.loads.items earlier) }
-{
-    let alloc = task.alloc;
-    note_all(alloc, &mut search.sections, routes)?;
-    let loads = search.loads.as_slice();
-    let room = &mut search.room;
-    bound_of(team, alloc, task.on, &task.setting, loads, room, earlier)
-}
-
-/// As `note_then_bound`, with what was routed noted in a thread of its own, beside the bound.
-fn note_beside_bound<G: Gate, R: Threads + Sync>(
-    team: &Team<'_, R>,
-    task: &Task<'_, G>,
-    search: &mut Search,
-    routes: &[Routes],
-    earlier: Option<Bounded>,
-) -> Result<Bounded, AllocError>
-    requires { CanNoteRoutes task.now.on.now.net.now task.now.setting routes.now search.old }
-    ensures loads { search.new.loads ≡ search.old.loads }
-    ensures hands { search.new.hands ≡ search.old.hands }
-    ensures noted { OnOk result (HaveNoted routes.now search.old.sections.items search.new.sections.items) }
-    ensures room { OnOk result (IsBoundRoom task.now.on.now.net.now search.new.room) }
+    requires { CanNoteAndBound task.now.on.now.net.now task.now.setting search.old [] }
+    ensures kept { KeepsLoadsAndHands search.old search.new }
+    ensures noted { OnOk result (HasNotedSpare task.now.on.now.net.now search.old search.new) }
     ensures bound { IfOk result
         (IsLesserUnder task.now.on.now.net.now task.now.setting search.old.loads.items earlier) }
 {
     let alloc = task.alloc;
     let on = task.on;
-    let setting = &task.setting;
     let loads = search.loads.as_slice();
-    let sections = &mut search.sections;
+    let mut entries = Vec::with_capacity(alloc, on.net.commodities().len())?;
+    note_routes_of(
+        alloc,
+        on.net,
+        &search.spare,
+        &mut search.history,
+        &mut search.sought,
+        &mut entries,
+    )?;
+    bound_of(
+        team,
+        alloc,
+        on,
+        &task.setting,
+        loads,
+        &mut search.room,
+        earlier,
+    )
+}
+
+/// As `note_and_bound`, with the rows noted in a thread of their own, beside the bound.
+fn note_beside_bound<G: Gate, R: Threads + Sync>(
+    team: &Team<'_, R>,
+    task: &Task<'_, G>,
+    search: &mut Search,
+    earlier: Option<Bounded>,
+) -> Result<Bounded, AllocError>
+    requires { CanNoteAndBound task.now.on.now.net.now task.now.setting search.old [] }
+    ensures kept { KeepsLoadsAndHands search.old search.new }
+    ensures noted { OnOk result (HasNotedSpare task.now.on.now.net.now search.old search.new) }
+    ensures bound { IfOk result
+        (IsLesserUnder task.now.on.now.net.now task.now.setting search.old.loads.items earlier) }
+{
+    let alloc = task.alloc;
+    let on = task.on;
+    let net = on.net;
+    let setting = &task.setting;
+    let places = places_of(alloc, net, &search.spare)?;
+    let places = places.as_slice();
+    let loads = search.loads.as_slice();
+    let history = &mut search.history;
+    let sought = &mut search.sought;
     let room = &mut search.room;
     let mut earlier = earlier;
     let earlier = &mut earlier;
     let mut note = || -> Result<(), AllocError>
-        requires { CanNoteIn routes.now sections.now.items }
-        ensures { OnOk result (HaveNoted routes.entry.now sections.entry.now.items sections.exit.now.items) }
-    { note_all(alloc, sections, routes) };
+        requires { CanBeNoted net.now history.now places.now }
+        ensures { (history.exit.now.commodities ≡ history.entry.now.commodities)
+            × OnOk result (IsNoted net.entry.now places.entry.now history.entry.now history.exit.now) }
+    { history.note_phase(alloc, net, places, sought) };
     let mut bound = || -> Result<Bounded, AllocError>
         requires { CanBeBounded on.now.net.now setting.now loads.now room.now }
         ensures { OnOk result (IsBoundRoom on.entry.now.net.now room.exit.now)
@@ -130,61 +145,97 @@ fn note_beside_bound<G: Gate, R: Threads + Sync>(
     bounded
 }
 
-/// Notes what was routed, and gives the lesser of an earlier bound, if there is one, and that of the loads; the one beside the other where
-/// that pays and there may be several threads. `Err` is for want of memory, and then the search can't go on.
-fn note_and_bound<G: Gate, R: Threads + Sync>(
+/// One phase more, and the lesser of an earlier bound, if there is one, and that of the loads after it, under the same setting; the phase
+/// before is noted, beside the bound where that pays and there may be several threads. `Err` is for want of memory, and then the search
+/// can't go on.
+fn phase_alone<G: Gate, R: Threads + Sync>(
     run: &Run<'_, G, R>,
     task: &Task<'_, G>,
     search: &mut Search,
-    routes: &[Routes],
     earlier: Option<Bounded>,
 ) -> Result<Bounded, AllocError>
-    requires { CanNoteRoutes task.now.on.now.net.now task.now.setting routes.now search.old }
-    ensures loads { search.new.loads ≡ search.old.loads }
-    ensures hands { search.new.hands ≡ search.old.hands }
-    ensures noted { OnOk result (HaveNoted routes.now search.old.sections.items search.new.sections.items) }
-    ensures room { OnOk result (IsBoundRoom task.now.on.now.net.now search.new.room) }
+    requires { CanAddPhase task.now.on.now.net.now task.now.setting search.old }
+    ensures added { OnOk result (HasAdded task.now.on.now.net.now task.now.setting search.old search.new) }
     ensures bound { IfOk result
-        (IsLesserUnder task.now.on.now.net.now task.now.setting search.old.loads.items earlier) }
+        (IsLesserUnder task.now.on.now.net.now task.now.setting search.new.loads.items earlier) }
 {
-    let rt = run.rt;
-    let threads = threads_for(task.on, routes.len(), run.threads);
+    route(run.rt, task, search)?;
+    let threads = threads_for(task.on, search.hands.len(), run.threads);
     let beside = threads_beside(task.on.net.commodities().len(), threads);
     if beside == 0 {
-        let team = Team { rt, threads };
-        note_then_bound(&team, task, search, routes, earlier)
+        let team = Team {
+            rt: run.rt,
+            threads,
+        };
+        note_and_bound(&team, task, search, earlier)
     } else {
         let team = Team {
-            rt,
+            rt: run.rt,
             threads: beside,
         };
-        note_beside_bound(&team, task, search, routes, earlier)
+        note_beside_bound(&team, task, search, earlier)
     }
 }
 
-/// Notes the phase that the hands have routed, and gives the lesser of an earlier bound, if there is one, and that of the loads. `Err` is
-/// for want of memory, and then the search can't go on.
-pub(crate) fn note_alone<G: Gate, R: Threads + Sync>(
-    run: &Run<'_, G, R>,
-    task: &Task<'_, G>,
+/// As `note_and_bound`, with some rows of the bound filled by so many threads of the crew. The first commodities of the phase have these
+/// entries; the others are noted by the caller's thread, before it fills rows of the bound too. `Err` is for want of memory, or where the
+/// crew gave up; and then the search can't go on.
+fn note_with_bound<'a, G: Gate>(
+    task: &Task<'a, G>,
+    crew: &mut Crew<'_, Share<'a, G>>,
     search: &mut Search,
+    entries: &mut Vec<Entry>,
+    threads: u16,
     earlier: Option<Bounded>,
 ) -> Result<Bounded, AllocError>
-    requires { CanNotePhase task.now.on.now.net.now task.now.setting search.old }
-    ensures loads { search.new.loads ≡ search.old.loads }
-    ensures noted { OnOk result (IsNotedOf task.now.on.now.net.now search.old search.new) }
+    requires { CanNoteAndBound task.now.on.now.net.now task.now.setting search.old entries.old.items }
+    ensures kept { KeepsLoadsAndHands search.old search.new }
+    ensures noted { OnOk result (HasNotedSpare task.now.on.now.net.now search.old search.new) }
     ensures bound { IfOk result
         (IsLesserUnder task.now.on.now.net.now task.now.setting search.old.loads.items earlier) }
 {
-    let routes = take_routes(task.alloc, &mut search.hands)?;
-    let bounded = note_and_bound(run, task, search, &routes, earlier)?;
-    give_back(&mut search.hands, routes);
-    Ok(bounded)
+    let alloc = task.alloc;
+    let net = task.on.net;
+    let others = search.hands.len().saturating_sub(1);
+    let idle = others.saturating_sub(threads as usize);
+    let split = search.pace.split(search.room.rows.len(), threads, idle);
+    let loads = search.loads.as_slice();
+    let hands = search.spare.as_slice();
+    let history = &mut search.history;
+    let sought = &mut search.sought;
+    let room = &mut search.room;
+    let mut note = || -> Result<(), AllocError>
+        requires { CanNote net.now hands.now history.now entries.now.items }
+        ensures { OnOk result (HasNoted net.entry.now hands.entry.now history.entry.now history.exit.now) }
+    { note_routes_of(alloc, net, hands, history, sought, entries) };
+    let (noted, bounded) = bound_with(task, loads, room, crew, split, earlier, &mut note);
+    search.pace = search.pace.after_bound(threads, crew.has_waited());
+    noted?;
+    bounded
 }
 
-/// One phase more, by a crew where there is one, in whose threads hands take their turns and what is to be done after that is shared out;
-/// it is noted. And the lesser of an earlier bound, if there is one, and that of the loads after it, under the same setting. `Err` is for
-/// want of memory, or where the crew gave up; and then the search can't go on.
+/// As `phase_alone`, with a crew, in whose threads hands take their turns and rows of the bound are filled. `Err` is for want of
+/// memory, or where the crew gave up; and then the search can't go on.
+fn phase_by_crew<'a, G: Gate, R: Threads + Sync>(
+    run: &Run<'a, G, R>,
+    task: &Task<'a, G>,
+    crew: &mut Crew<'_, Share<'a, G>>,
+    search: &mut Search,
+    earlier: Option<Bounded>,
+) -> Result<Bounded, AllocError>
+    requires { CanAddPhase task.now.on.now.net.now task.now.setting search.old }
+    ensures added { OnOk result (HasAdded task.now.on.now.net.now task.now.setting search.old search.new) }
+    ensures bound { IfOk result
+        (IsLesserUnder task.now.on.now.net.now task.now.setting search.new.loads.items earlier) }
+{
+    let mut entries = Vec::with_capacity(task.alloc, task.on.net.commodities().len())?;
+    route_with(run.rt, task, crew, search, &mut entries)?;
+    note_with_bound(task, crew, search, &mut entries, run.others(), earlier)
+}
+
+/// One phase more, by a crew where there is one, and the lesser of an earlier bound, if there is one, and that of the loads after it,
+/// under the same setting; the phase before is noted. `Err` is for want of memory, or where the crew gave up; and then the search can't go
+/// on.
 pub(crate) fn one_phase<'a, G: Gate, R: Threads + Sync>(
     run: &Run<'a, G, R>,
     task: &Task<'a, G>,
@@ -197,15 +248,8 @@ pub(crate) fn one_phase<'a, G: Gate, R: Threads + Sync>(
     ensures bound { IfOk result
         (IsLesserUnder task.now.on.now.net.now task.now.setting search.new.loads.items earlier) }
 {
-    let _commodities = task.on.net.commodities();
     match crew {
-        Some(crew) => {
-            route_with(run.rt, task, crew, search)?;
-            note_with_bound(task, crew, search, run.makers() as usize - 1, earlier)
-        }
-        None => {
-            route(run.rt, task, search)?;
-            note_alone(run, task, search, earlier)
-        }
+        Some(crew) => phase_by_crew(run, task, crew, search, earlier),
+        None => phase_alone(run, task, search, earlier),
     }
 }

@@ -1,6 +1,6 @@
 //! An entry for each commodity in each phase, in one buffer.
 
-ghost use Rattle.std.specs.Prelude.{◌≡◌, ◌+◌, ◌*◌, ◌≤◌, drop, length, take};
+ghost use Rattle.std.specs.Prelude.{◌≡◌, ◌*◌, length};
 
 use mcf_limits::MAX_PHASES;
 use solver_run::Entry;
@@ -25,15 +25,6 @@ impl Model for Entries {
     ghost view = { λ e. record { commodities = e.commodities; phases = by_phase e.commodities e.phases e.flat.items } };
 
     ghost invariant = { λ e. length e.flat.items ≡ e.phases * e.commodities };
-}
-
-/// So many entries from a place on.
-fn part(entries: &[Entry], start: usize, count: usize) -> &[Entry]
-    requires { start + count ≤ length entries.now }
-    ensures entries { result.now ≡ take count (drop start entries.now) }
-    ensures count { length result.now ≡ count }
-{
-    &entries[start..start + count]
 }
 
 impl Entries {
@@ -74,17 +65,6 @@ impl Entries {
     {
         let place = phase as usize * self.commodities as usize + k as usize;
         self.flat.as_slice()[place]
-    }
-
-    /// The entries of a phase.
-    pub(crate) fn phase(&self, phase: u32) -> &[Entry]
-        requires { phase < length self.now.phases }
-        ensures entries { result.now ≡ slice_index_or self.now.phases phase [] }
-        ensures count { length result.now ≡ self.now.commodities }
-    {
-        let width = self.commodities as usize;
-        let start = phase as usize * width;
-        part(&self.flat, start, width)
     }
 
     /// Appends a phase.

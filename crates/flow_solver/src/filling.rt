@@ -1,4 +1,4 @@
-//! What is to be done after the routing of a phase is done by a crew and the caller's thread.
+//! The rows of a bound are filled by a crew, beside the caller's thread.
 
 ghost use Rattle.std.specs.Prelude.{◌≡◌, All, IfOk, OnOk};
 ghost use Rattle.std.specs.Arc.{arc_value};
@@ -6,49 +6,50 @@ ghost use Rattle.flow_model.specs.Lengths.{AreLengths};
 ghost use Rattle.fixed_exp.specs.Far.{EmptyAreFar};
 ghost use Rattle.dual_bound.specs.Bounds.{IsLesser};
 ghost use Rattle.dual_bound.specs.Rows.{HasDistances, IsRoom, demands_in, demands_of};
-ghost use Rattle.flow_solver.specs.Parts.{lengths_for, routes_for};
-ghost use Rattle.flow_solver.specs.Sections.{CanNoteIn, HaveNoted};
-ghost use Rattle.flow_solver.specs.Search.{AreAlike, CanNotePhase, IsBoundRoom, IsLesserUnder, IsNotedOf};
+ghost use Rattle.flow_solver.specs.Search.{CanBeBounded, IsBoundRoom, IsLesserUnder};
 
-use crate::hands::{give_back, take_routes};
-use crate::parts::{Basis, append_parts, parts_of};
+use crate::pace::Split;
+use crate::parts::{append_parts, parts_of};
 use crate::prepared::Task;
-use crate::search::{BoundRoom, Search};
-use crate::sections::Section;
+use crate::search::BoundRoom;
 use crate::share::Share;
 use claimed_calls::Crew;
 use dual_bound::{Bounded, Row, lesser_of_rows};
 use flow_model::Net;
 use mcf_base::Gate;
-use phase_engine::{Hand, Routes};
 use std::alloc::{AllocError, Global};
 use std::mem;
 use std::sync::Arc;
 
-/// All rows are filled anew with distances, each search from the tree of the one before, and all sections note what was routed: parts of
-/// both in so many threads of the crew, and the rest here. `Err` is for want of memory, or where the crew gave up; and then rows and
-/// sections are lost.
-fn work_with<'a, G: Gate>(
-    basis: &Basis<'a>,
+/// What `lead` answers, which the caller's thread calls before it fills its own rows, and whether all rows were filled anew with distances,
+/// each search from the tree of the one before: parts of them in threads of the crew, and the others here. `Err` is for want of memory, or
+/// where the crew gave up; and then rows are lost.
+fn fill_with<'a, G: Gate, T, F: FnMut() -> T>(
+    task: &Task<'a, G>,
+    lengths: &Arc<Vec<u64>, Global>,
     rows: &mut Vec<Row>,
-    sections: &mut Vec<Section>,
     crew: &mut Crew<'_, Share<'a, G>>,
-    threads: usize,
-    idle: usize,
-) -> Result<(), AllocError>
-    requires lengths { AreLengths basis.now.graph.now.cells (lengths_for basis.now) }
-    requires rows { All (IsRoom basis.now.graph.now.nodes) rows.old.items }
-    requires sections { CanNoteIn (routes_for basis.now) sections.old.items }
-    ensures demands { OnOk result (demands_of rows.new.items ≡ demands_of rows.old.items) }
-    ensures distances { OnOk result (All (HasDistances basis.now.graph.now (lengths_for basis.now)) rows.new.items) }
-    ensures noted { OnOk result (HaveNoted (routes_for basis.now) sections.old.items sections.new.items) }
+    split: Split,
+    lead: &mut F,
+) -> (T, Result<(), AllocError>)
+    requires lengths { AreLengths task.now.on.now.graph.now.cells (arc_value lengths.now).items }
+    requires rows { All (IsRoom task.now.on.now.graph.now.nodes) rows.old.items }
+    requires lead { F.pre lead.old }
+    ensures lead { F.step lead.old result.0 lead.new }
+    ensures demands { OnOk result.1 (demands_of rows.new.items ≡ demands_of rows.old.items) }
+    ensures distances { OnOk result.1
+        (All (HasDistances task.now.on.now.graph.now (arc_value lengths.now).items) rows.new.items) }
 {
-    let mut parts = parts_of(basis, rows, sections, threads, idle)?;
-    if !crew.work_each(&mut parts) {
-        return Err(AllocError);
+    let cut = parts_of(task.alloc, task.on.graph, lengths, rows, split);
+    let mut parts = match cut {
+        Ok(parts) => parts,
+        Err(error) => return (lead(), Err(error)),
+    };
+    let (whole, made) = crew.work_beside(&mut parts, lead);
+    if !whole {
+        return (made, Err(AllocError));
     }
-    append_parts(rows, sections, parts)?;
-    Ok(())
+    (made, append_parts(rows, parts))
 }
 
 /// The lesser of an earlier bound, if there is one, and that of rows that were filled under these lengths, which go back to their room.
@@ -75,61 +76,35 @@ fn bound_after(
     Ok(bounded)
 }
 
-/// The routes go back to the hands. `Err` is where a part shares them still, which no run does.
-fn back_to(hands: &mut [Hand], routes: Arc<Vec<Routes>, Global>) -> Result<(), AllocError>
-    ensures { AreAlike hands.old hands.new }
-{
-    match Arc::try_unwrap(routes) {
-        Ok(routes) => give_back(hands, routes),
-        Err(_) => return Err(AllocError),
-    }
-    Ok(())
-}
-
-/// Notes the phase that the hands have routed, and gives the lesser of an earlier bound, if there is one, and that of the loads, with rows
-/// and sections shared out among so many threads of the crew and the caller's. `Err` is for want of memory, or where the crew gave up or a
-/// part shares lengths or routes still, which no run does; and then the search can't go on.
-pub(crate) fn note_with_bound<'a, G: Gate>(
+/// What `lead` answers, and the bound as of `bound_of`, with the rows shared out among the crew and the caller's thread, which calls `lead`
+/// before it fills its own. `Err` is for want of memory, or where the crew gave up or a part shares the lengths still, which no run does.
+pub(crate) fn bound_with<'a, G: Gate, T, F: FnMut() -> T>(
     task: &Task<'a, G>,
+    loads: &[u64],
+    room: &mut BoundRoom,
     crew: &mut Crew<'_, Share<'a, G>>,
-    search: &mut Search,
-    threads: usize,
+    split: Split,
     earlier: Option<Bounded>,
-) -> Result<Bounded, AllocError>
-    requires { CanNotePhase task.now.on.now.net.now task.now.setting search.old }
-    ensures loads { search.new.loads ≡ search.old.loads }
-    ensures noted { OnOk result (IsNotedOf task.now.on.now.net.now search.old search.new) }
-    ensures bound { IfOk result
-        (IsLesserUnder task.now.on.now.net.now task.now.setting search.old.loads.items earlier) }
+    lead: &mut F,
+) -> (T, Result<Bounded, AllocError>)
+    requires can { CanBeBounded task.now.on.now.net.now task.now.setting loads.now room.old }
+    requires lead { F.pre lead.old }
+    ensures lead { F.step lead.old result.0 lead.new }
+    ensures room { OnOk result.1 (IsBoundRoom task.now.on.now.net.now room.new) }
+    ensures bound { IfOk result.1 (IsLesserUnder task.now.on.now.net.now task.now.setting loads.now earlier) }
 {
     let alloc = task.alloc;
     let on = task.on;
-    let idle = search.hands.len().saturating_sub(1).saturating_sub(threads);
-    let room = &mut search.room;
-    let loads = search.loads.as_slice();
     on.powers
         .lengths(on.net, &task.setting, loads, &mut room.lengths);
     let lengths = mem::replace(&mut room.lengths, Vec::new(alloc));
-    let routes = take_routes(alloc, &mut search.hands)?;
-    let basis = Basis {
-        graph: on.graph,
-        alloc,
-        lengths: Arc::new(alloc, lengths)?,
-        routes: Arc::new(alloc, routes)?,
+    let lengths = match Arc::new(alloc, lengths) {
+        Ok(lengths) => lengths,
+        Err(error) => return (lead(), Err(error.into())),
     };
-    work_with(
-        &basis,
-        &mut room.rows,
-        &mut search.sections,
-        crew,
-        threads,
-        idle,
-    )?;
-    let Basis {
-        lengths,
-        routes,
-        ..
-    } = basis;
-    back_to(&mut search.hands, routes)?;
-    bound_after(alloc, on.net, lengths, room, earlier)
+    let (made, filled) = fill_with(task, &lengths, &mut room.rows, crew, split, lead);
+    match filled {
+        Ok(()) => (made, bound_after(alloc, on.net, lengths, room, earlier)),
+        Err(error) => (made, Err(error)),
+    }
 }

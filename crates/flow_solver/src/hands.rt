@@ -1,15 +1,12 @@
 //! The hands of the workers, from phase to phase.
 
-ghost use Rattle.std.specs.Prelude.{◌≡◌, ℕ, ◌<◌, [], None, IfOk, OnOk, length, slice_index_or};
+ghost use Rattle.std.specs.Prelude.{◌≡◌, ℕ, ◌<◌, [], None, IfOk, length, slice_index_or};
 ghost use Rattle.phase_engine.specs.Hands.{IsFresh, IsSameWorker};
-ghost use Rattle.flow_solver.specs.Routes.{routes_of};
-ghost use Rattle.flow_solver.specs.Search.{AreAlike};
 
 use dijkstra_paths::Scratch;
 use flow_model::Net;
 use phase_engine::{Hand, Routes};
 use std::alloc::{AllocError, Global};
-use std::mem;
 
 /// The hand of a worker, before any phase.
 fn new_hand(alloc: Global, net: &Net, worker: u16) -> Result<Hand, AllocError>
@@ -48,32 +45,6 @@ pub(crate) fn forget_all(hands: &mut [Hand])
 {
     for hand in hands.iter_mut() {
         hand.routes.clear();
-    }
-}
-
-/// Takes the routes of the hands, in their order. `Err` is for want of memory.
-pub(crate) fn take_routes(alloc: Global, hands: &mut [Hand]) -> Result<Vec<Routes>, AllocError>
-    ensures hands { OnOk result (AreAlike hands.old hands.new) }
-    ensures routes { IfOk result (λ rs. rs.items ≡ routes_of hands.old) }
-{
-    let mut routes = Vec::with_capacity(alloc, hands.len())?;
-    for hand in hands.iter_mut() {
-        let own = mem::replace(&mut hand.routes, Routes::new(alloc));
-        routes.push(own)?;
-    }
-    Ok(routes)
-}
-
-/// Gives routes back to the hands, so that their memory serves again.
-pub(crate) fn give_back(hands: &mut [Hand], routes: Vec<Routes>)
-    ensures { AreAlike hands.old hands.new }
-{
-    let mut routes = routes;
-    'rest: while let Some(own) = routes.pop() {
-        let at = routes.len();
-        if at < hands.len() {
-            hands[at].routes = own;
-        }
     }
 }
 

@@ -3,7 +3,6 @@
 ghost use Rattle.std.specs.Prelude.{◌≡◌};
 
 use crate::entries::Entries;
-use crate::joined::{append_rows, joined_entries};
 use crate::noted::{NotedRows, Sought, noted_row};
 use crate::places::Place;
 use flow_model::Net;
@@ -41,14 +40,13 @@ impl Model for PathHistory {
 }
 
 impl PathHistory {
-    ghost use Rattle.std.specs.Prelude.{◌≡◌, ℕ, ◌+◌, ◌^◌, ◌<◌, ◌≤◌, ◌++◌, ◌∷◌, All, List, [], OnOk, OnErr, IfOk, length, map};
+    ghost use Rattle.std.specs.Prelude.{◌≡◌, ℕ, ◌<◌, ◌≤◌, ◌++◌, ◌∷◌, List, [], OnOk, OnErr, IfOk, length, map};
     ghost use Rattle.flow_model.specs.Network.{Network};
-    ghost use Rattle.flow_model.specs.Routing.{Row};
     ghost use Rattle.flow_paths.specs.PathRows.{Adds};
     ghost use Rattle.solver_run.specs.History.{routed_in, AreRowsOf};
-    ghost use Rattle.flow_solver.specs.Rows.{joined, phases_kept, AreRowsFor};
+    ghost use Rattle.flow_solver.specs.Rows.{phases_kept, AreRowsFor};
     ghost use Rattle.flow_solver.specs.Adding.{CanBeAdded, CanBeNoted, CanTakePhase, IsNoted, KeepsRows, AreBegun, ArePlaces, AreRoutedAs};
-    ghost use Rattle.phase_engine.specs.Routes.{Route};
+    ghost use Rattle.phase_engine.specs.declared.hand.Hand.{Hand};
 
     /// No phase and no row, for the commodities of the network.
     pub fn new(alloc: Global, net: &Net) -> Self
@@ -119,32 +117,34 @@ impl PathHistory {
         Ok(row)
     }
 
-    /// Adds the paths of all commodities to the rows, and their entries to the list. `Err` is for want of memory: the phases are as before,
-    /// but weights may have grown, so nothing more can be added.
-    fn name_rows(
+    /// Adds the paths of the next commodities to the rows, and their entries to those of the first ones, until there are so many. `Err` is
+    /// for want of memory: the phases are as before, but weights may have grown, so nothing more can be added.
+    pub(crate) fn name_rows(
         &mut self,
         net: &Net,
         places: &[Place],
         last: &mut [u32],
         noted: &mut [NotedRows],
         entries: &mut Vec<Entry>,
+        until: usize,
     ) -> Result<(), AllocError>
-        requires can { CanTakePhase net.now self.old }
-        requires none { entries.old.items ≡ [] }
+        requires can { CanTakePhase net.now self.old entries.old.items }
         requires count { length places.now ≡ length net.now.commodities }
         requires last { length last.old ≡ length net.now.commodities }
         requires noted { length noted.old ≡ length net.now.commodities }
+        requires until { until ≤ length net.now.commodities }
+        requires more { length entries.old.items ≤ until }
         ensures commodities { self.new.commodities ≡ self.old.commodities }
         ensures history { self.new.history ≡ self.old.history }
         ensures keeps { KeepsRows self.old.rows self.new.rows }
-        ensures count { OnOk result (length entries.new.items ≡ length net.now.commodities) }
+        ensures count { OnOk result (length entries.new.items ≡ until) }
         ensures begun { OnOk result (AreBegun net.now self.old.history entries.new.items self.new.rows) }
-        ensures named { OnOk result ((start : ℕ) (routes : List (List Route))
-            → ArePlaces (length net.now.commodities) start routes places.now
-            → AreRoutedAs start routes self.new.rows entries.new.items) }
+        ensures named { OnOk result ((hands : List Hand) → ArePlaces net.now hands places.now
+            → AreRoutedAs hands self.old.rows entries.old.items
+            → AreRoutedAs hands self.new.rows entries.new.items) }
     {
         let commodities = net.commodities();
-        for k in 0..commodities.len() {
+        for k in entries.len()..until {
             let row = self.add_path(
                 &mut last[k],
                 &mut noted[k],
@@ -161,7 +161,7 @@ impl PathHistory {
     }
 
     /// Appends the phase whose entries these are. `Err` is for want of memory: the phases are as before.
-    fn append_phase(&mut self, _net: &Net, entries: &[Entry]) -> Result<(), AllocError>
+    pub(crate) fn append_phase(&mut self, _net: &Net, entries: &[Entry]) -> Result<(), AllocError>
         requires commodities { self.old.commodities ≡ length _net.now.commodities }
         requires phases { length self.old.history < MAX_PHASES }
         requires begun { AreBegun _net.now self.old.history entries.now self.old.rows }
@@ -195,29 +195,8 @@ impl PathHistory {
         sought.make_room(alloc, places.len())?;
         let Sought { last, noted } = sought;
         let mut entries = Vec::with_capacity(alloc, places.len())?;
-        self.name_rows(net, places, last, noted, &mut entries)?;
+        self.name_rows(net, places, last, noted, &mut entries, places.len())?;
         self.append_phase(net, &entries)
-    }
-
-    /// The phases of some commodities, and of those behind them, in as many phases. `Err` is for want of memory.
-    pub(crate) fn joined(
-        alloc: Global,
-        first: PathHistory,
-        second: &PathHistory,
-    ) -> Result<Self, AllocError>
-        requires count { length second.now.history ≡ length first.history }
-        requires phases { length first.history ≤ MAX_PHASES }
-        requires rows { length first.rows + length second.now.rows < 2 ^ 32 }
-        requires commodities { All (λ (r : Row). first.commodities + r.commodity < 2 ^ 32) second.now.rows }
-        requires width { first.commodities + second.now.commodities < 2 ^ 32 }
-        ensures { IfOk result (λ h. h ≡ joined first second.now) }
-    {
-        let PathHistory { paths, entries } = first;
-        let mut paths = paths;
-        let before = paths.rows();
-        append_rows(&mut paths, &second.paths, entries.commodities())?;
-        let entries = joined_entries(alloc, &entries, &second.entries, before)?;
-        Ok(PathHistory { paths, entries })
     }
 
     /// The same phases, with the rows in ascending order of commodity and then cells.

@@ -20,7 +20,7 @@ pub struct Prepared<'a> {
     ghost graph_is: { graph.now ≡ net.now },
 }
 
-/// A run on a network: its options, the gate, and in how many threads bounds are made and phases noted at most.
+/// A run on a network: its options, the gate, and in how many threads a bound is made at most, one of which may note rows meanwhile.
 #[derive(Drop)]
 pub(crate) struct Run<'a, G, R> {
     pub rt: &'a R,
@@ -41,12 +41,8 @@ pub(crate) struct Task<'a, G> {
 }
 
 impl<'a, G, R> Run<'a, G, R> {
-    ghost use Rattle.std.specs.Prelude.{◌≤◌};
-
-    /// In how many threads a phase is noted and its bound is made, by a crew and the caller's.
-    pub(crate) fn makers(&self) -> u16
-        ensures { 1 ≤ result }
-    {
-        self.threads.min(self.options.workers).max(1)
+    /// How many threads of a crew fill rows of a bound at most, beside the caller's.
+    pub(crate) fn others(&self) -> u16 {
+        self.threads.min(self.options.workers).saturating_sub(1)
     }
 }

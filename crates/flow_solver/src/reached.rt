@@ -9,12 +9,12 @@ ghost use Rattle.flow_solver.specs.Leading.{CanGoOn};
 ghost use Rattle.flow_solver.specs.Reached.{IsMet, IsReached, carried};
 ghost use Rattle.flow_solver.specs.Search.{phase_count};
 
-use crate::bounding::{note_alone, one_phase};
+use crate::bounding::{bound_of, one_phase, threads_for};
 use crate::prepared::{Run, Task};
 use crate::search::{Search, count_phases, new_search, route};
 use crate::share::Share;
 use claimed_calls::Crew;
-use dual_bound::Bounded;
+use dual_bound::{Bounded, Team};
 use flow_model::Net;
 use flow_paths::{Fill, fullest};
 use gap_fraction::Frac;
@@ -53,7 +53,7 @@ pub(crate) fn first<G: Gate, R: Threads + Sync>(run: &Run<'_, G, R>) -> Result<R
 {
     let on = run.on;
     let _cells = on.net.cells();
-    let mut search = new_search(run.alloc, on.net, run.options.workers, run.makers())?;
+    let mut search = new_search(run.alloc, on.net, run.options.workers)?;
     let setting = setting_at_first(run.options.step);
     let task = Task {
         on,
@@ -64,13 +64,19 @@ pub(crate) fn first<G: Gate, R: Threads + Sync>(run: &Run<'_, G, R>) -> Result<R
     route(run.rt, &task, &mut search)?;
     let fill = measured(on.net, &search.loads);
     let later = setting_after_first(fill, run.options.step);
-    let bounding = Task {
-        on,
-        alloc: run.alloc,
-        setting: later,
-        gate: run.gate,
+    let team = Team {
+        rt: run.rt,
+        threads: threads_for(on, search.hands.len(), run.threads),
     };
-    let kept = note_alone(run, &bounding, &mut search, None)?;
+    let kept = bound_of(
+        &team,
+        run.alloc,
+        on,
+        &later,
+        &search.loads,
+        &mut search.room,
+        None,
+    )?;
     Ok(Reached {
         search,
         reference: fill,

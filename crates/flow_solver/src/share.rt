@@ -1,11 +1,11 @@
 //! What a thread of a crew is handed.
 
-use crate::parts::{Part, done};
+use crate::parts::{Part, filled};
 use crate::turn::{Turn, taken};
 use claimed_calls::Job;
 use mcf_base::Gate;
 
-/// A share of the work on a phase: the turn of a hand, or a part of what is to be done after the routing.
+/// A share of the work on a phase: the turn of a hand, or a part of the rows of a bound.
 #[derive(Drop)]
 pub enum Share<'a, G> {
     Turn(Turn<'a, G>),
@@ -22,7 +22,7 @@ impl<'a, G: Gate> Job for Share<'a, G> {
     fn work(self) -> Self {
         match self {
             Share::Turn(turn) => Share::Turn(taken(turn)),
-            Share::Part(part) => Share::Part(done(part)),
+            Share::Part(part) => Share::Part(filled(part)),
         }
     }
 }

@@ -14,8 +14,7 @@ ghost use Rattle.flow_solver.specs.Search.{phase_count};
 use crate::leading::further;
 use crate::prepared::{Prepared, Run};
 use crate::reached::{Reached, first, is_met, lower, next};
-use crate::search::{count_phases, sections_in};
-use crate::sections::whole_history;
+use crate::search::{count_phases, whole_history};
 use crate::solved::Solved;
 use crate::{Entries, OrderedHistory};
 use dijkstra_paths::Graph;
@@ -105,7 +104,7 @@ fn finished(
         kept,
         ..
     } = reached;
-    let history = whole_history(alloc, net, sections_in(search))?;
+    let history = whole_history(alloc, net, search)?;
     let phases = history.phases();
     let OrderedHistory { paths, entries } = history.ordered(alloc)?;
     let Bounded { dual, value } = kept;
@@ -231,8 +230,8 @@ pub fn solve<G: Gate, R: Threads + Sync>(
     solve_in(rt, alloc, net, options, gate, MAX_WORKERS)
 }
 
-/// As `solve`, with bounds that are made, and phases that are noted, in at most so many threads, their caller's among them; 0 stands for
-/// 1. So with 1, and with one worker, a solve starts no thread of its own.
+/// As `solve`, with bounds that are made in at most so many threads, their caller's among them, one of which may note the rows
+/// meanwhile; 0 stands for 1. So with 1, and with one worker, a solve starts no thread of its own.
 pub fn solve_in<G: Gate, R: Threads + Sync>(
     rt: &R,
     alloc: Global,

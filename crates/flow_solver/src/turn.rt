@@ -173,25 +173,33 @@ fn hands_of<G: Gate>(
     Ok(hands)
 }
 
-/// The hands after their work, in their order: each turn is taken in a thread of the crew, or in the caller's. `Err` is for want of
-/// memory, or where the crew gave up waiting, after 2^64 tries, which no run makes.
-pub(crate) fn take_all<'a, G: Gate>(
+/// What `lead` answers, which the caller's thread calls before it takes a turn, and the hands after their work, in their order: each turn
+/// is taken in a thread of the crew, or in the caller's. `Err` is for want of memory, or where the crew gave up waiting, after 2^64 tries,
+/// which no run makes.
+pub(crate) fn take_all<'a, G: Gate, T, F: FnMut() -> T>(
     task: &Task<'a, G>,
     crew: &mut Crew<'_, Share<'a, G>>,
     loads: &Arc<Loads, Global>,
     rows: &Arc<Vec<Row>, Global>,
     hands: Vec<Hand>,
-) -> Result<Vec<Hand>, AllocError>
+    lead: &mut F,
+) -> (T, Result<Vec<Hand>, AllocError>)
     requires words { AreWordsOf task.now.on.now.net.now task.now.setting (arc_value loads.now) }
     requires ready { (k : ℕ) (d : _) → k < length hands.items
         → IsReady (arc_value loads.now) (slice_index_or hands.items k d) }
-    ensures count { IfOk result (λ back. length back.items ≡ length hands.items) }
-    ensures runs { IfOk result (λ back. (k : ℕ) (d : _) → k < length hands.items
+    requires lead { F.pre lead.old }
+    ensures lead { F.step lead.old result.0 lead.new }
+    ensures count { IfOk result.1 (λ back. length back.items ≡ length hands.items) }
+    ensures runs { IfOk result.1 (λ back. (k : ℕ) (d : _) → k < length hands.items
         → Runs (arc_value loads.now) (slice_index_or hands.items k d) (slice_index_or back.items k d)) }
 {
-    let mut turns = turns_of(task, loads, rows, hands)?;
-    if !crew.work_each(&mut turns) {
-        return Err(AllocError);
+    let mut turns = match turns_of(task, loads, rows, hands) {
+        Ok(turns) => turns,
+        Err(error) => return (lead(), Err(error)),
+    };
+    let (whole, made) = crew.work_beside(&mut turns, lead);
+    if !whole {
+        return (made, Err(AllocError));
     }
-    hands_of(task.alloc, turns)
+    (made, hands_of(task.alloc, turns))
 }

@@ -104,7 +104,20 @@ fn work_on<'a>(
     count: u64,
 ) -> Result<bool, AllocError> {
     let mut jobs = three(alloc, begun, count)?;
-    Ok(crew.work_each(&mut jobs) && are_doubled(&jobs))
+    let (whole, ()) = crew.work_beside(&mut jobs, &mut || {});
+    Ok(whole && are_doubled(&jobs))
+}
+
+/// Whether the crew has worked on three jobs, of which the first waits for a call beside them, and has answered with what that found.
+fn work_beside_a_call<'a>(
+    alloc: Global,
+    crew: &mut Crew<'_, Doubling<'a>>,
+    begun: &'a AtomicU64,
+) -> Result<bool, AllocError> {
+    let mut jobs = three(alloc, begun, 2)?;
+    let mut call = || begun.fetch_add(1, Ordering::SeqCst);
+    let (whole, found) = crew.work_beside(&mut jobs, &mut call);
+    Ok(whole && found == 0 && are_doubled(&jobs))
 }
 
 /// Whether all threads were there, and have worked on three jobs, of which the first waits for the second. Then they are told to go.
@@ -162,6 +175,17 @@ fn jobs_that_no_thread_takes_are_worked_on_here(rt: HostRuntime) -> Result<(), F
     let _nobody = crew.take_on(&one, at_one)?;
     assert!(rt; !crew.is_there());
     assert!(rt; work_on(alloc, &mut crew, &begun, 1)?);
+    Ok(())
+}
+
+#[test]
+fn a_call_beside_comes_before_jobs_that_no_thread_takes(rt: HostRuntime) -> Result<(), Fail> {
+    let alloc = rt.alloc();
+    let begun = AtomicU64::new(0);
+    let (one, at_one) = Post::new(alloc)?;
+    let mut crew = Crew::new(alloc);
+    let _nobody = crew.take_on(&one, at_one)?;
+    assert!(rt; work_beside_a_call(alloc, &mut crew, &begun)?);
     Ok(())
 }
 

@@ -1,5 +1,4 @@
-use Rattle.std.proofs.Common.{rules, ℕ, ◌≤◌, List, All, ap, ◌∙◌, sym, subst, false}
-use Rattle.mcf_limits.specs.declared.TheConstants.{MAX_LENGTH}
+use Rattle.std.proofs.Common.{rules, ap, ◌∙◌, subst, false}
 use Rattle.flow_model.specs.declared.setting.Setting.{Setting}
 use Rattle.flow_model.specs.Lengths.{lengths_of}
 use Rattle.flow_paths.specs.Evaluation.{fill}
@@ -10,12 +9,6 @@ use Rattle.flow_solver.proofs.reached.next.Goals as goal
 
 pub one_phase-requires-after_bounds : goal.one_phase-requires-after_bounds
 one_phase-requires-after_bounds g c κs within = adds-phase c.args.run.now.on.now.net.now c.args.run.now.options.now c.args.reached c.setting_after_first-setting.result c.requires (search rules)
-
-pub measured-fill-requires-clause-small : goal.measured-fill-requires-clause-small
-measured-fill-requires-clause-small g c =
-    let added = c.in_ok-kept.ensures.added in
-    let loads = c.deref.ensures.value ∙ ap (λ (v : _). v.items) added.noted.loads in
-    subst (λ (xs : List ℕ). All (λ (x : ℕ). x ≤ MAX_LENGTH) xs) (sym loads) added.routed.small
 
 pub returns-clause-reached : goal.returns-clause-reached
 returns-clause-reached g c =
@@ -37,4 +30,4 @@ returns-clause-reached g c =
 pub returns-clause-count : goal.returns-clause-count
 returns-clause-count g c =
     let is = c.requires.reached in
-    count-more c.args.run.now.on.now.net.now c.setting_after_first-setting.result c.args.reached.search c.one_phase.new.search is.made c.cells-cells.ensures.net is.search c.in_ok-kept.ensures.added
+    count-more c.args.run.now.on.now.net.now c.setting_after_first-setting.result c.args.reached.search c.one_phase.new.search is.made is.made_are c.in_ok-kept.ensures.added

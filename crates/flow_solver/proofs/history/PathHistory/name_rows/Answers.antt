@@ -1,4 +1,4 @@
-use Rattle.std.proofs.Common.{rules, ◌≡◌, ◌+◌, ◌<◌, ◌≤◌, List, [], ◌∷◌, ◌++◌, length, get_or, refl, ap, ◌∙◌, subst, arith, length-append}
+use Rattle.std.proofs.Common.{rules, ◌≡◌, ◌+◌, ◌<◌, ◌≤◌, List, [], ◌∷◌, ◌++◌, length, get_or, ap, ◌∙◌, subst, arith, length-append}
 use Rattle.std.proofs.lemmas.List.Elements.{All-get_or}
 use Rattle.std.proofs.lemmas.Option.{slice_get-get_or}
 use Rattle.mcf_limits.specs.declared.TheConstants.{MAX_UNITS}
@@ -7,8 +7,7 @@ use Rattle.flow_model.specs.Network.{IsCommodity}
 use Rattle.flow_paths.specs.PathRows.{Adds}
 use Rattle.solver_run.specs.declared.options.Entry.{Entry}
 use Rattle.flow_solver.specs.Adding.{no_place, path_at}
-use Rattle.flow_solver.proofs.Named.{can_add, adds_begun, adds_routed, adds_keep, none_routed}
-use Rattle.flow_solver.proofs.OneMore.{begins}
+use Rattle.flow_solver.proofs.Named.{can_add, adds_begun, adds_routed, adds_keep}
 use Rattle.flow_solver.proofs.history.PathHistory.name_rows.Goals as goal
 
 no_commodity : Commodity
@@ -20,7 +19,7 @@ add_path-requires c =
     let net = c.args.net.now in
     let v = c.commodities-commodities.ensures.value in
     let k = c.loop-k.k in
-    let l : k < length net.commodities = omega (arith, c.loop-k-test.true, ap (λ (ks : List Commodity). length ks) v) in
+    let l : k < length net.commodities = omega (arith, c.loop-k-test.true, c.requires.until) in
     let this = get_or net.commodities k no_commodity in
     let path = path_at c.args.places.now k in
     let small : this.amount ≤ MAX_UNITS = (All-get_or (IsCommodity net.nodes) net.commodities k no_commodity l c.commodities-commodities.ensures.net.commodities).amount in
@@ -29,19 +28,6 @@ add_path-requires c =
       room = search rules;
       small = search rules;
       weight = rw v (can_add net c.args.self.now.history c.loop-k.entries.items c.loop-k.self.rows this path k c.loop-k.invariant.count c.loop-k.invariant.begun (slice_get-get_or net.commodities k no_commodity l) small c.requires.can.phases);
-    }
-
-pub loop-k-init : goal.loop-k-init
-loop-k-init c =
-    let rows = c.args.self.now.rows in
-    let es = c.args.entries.now.items in
-    record {
-      count = ap (λ (t : List Entry). length t) c.requires.none;
-      commodities = refl;
-      history = refl;
-      keeps = record { more = omega arith; commodity = λ n l. refl; walk = λ n l. refl };
-      begun = begins c.args.net.now c.args.self.now.history es rows c.requires.none c.requires.can.rows;
-      named = λ start routes are. none_routed start routes rows es c.requires.none;
     }
 
 pub returns-in_err-push-clause-keeps : goal.returns-in_err-push-clause-keeps
@@ -53,7 +39,7 @@ loop-k-preserved c =
     let net = c.args.net.now in
     let v = c.commodities-commodities.ensures.value in
     let k = c.loop-k.k in
-    let l : k < length net.commodities = omega (arith, c.loop-k-test.true, ap (λ (ks : List Commodity). length ks) v) in
+    let l : k < length net.commodities = omega (arith, c.loop-k-test.true, c.requires.until) in
     let this = get_or net.commodities k no_commodity in
     let p = get_or c.args.places.now k no_place in
     let e : Entry = record { worker = p.hand; row = c.in_ok-row.row } in
@@ -69,5 +55,5 @@ loop-k-preserved c =
       history = c.in_ok-row.ensures.history ∙ c.loop-k.invariant.history;
       keeps = adds_keep c.args.self.now.rows old new path k c.in_ok-row.row this.amount c.loop-k.invariant.keeps adds;
       begun = rw pushed (adds_begun net c.args.self.now.history es old new path this k c.in_ok-row.row p.hand c.loop-k.invariant.count c.loop-k.invariant.begun (slice_get-get_or net.commodities k no_commodity l) adds);
-      named = λ start routes are. rw pushed (adds_routed net c.args.self.now.history start routes c.args.places.now es old new k c.in_ok-row.row this.amount c.loop-k.invariant.count c.loop-k.invariant.begun adds (are k l) (c.loop-k.invariant.named start routes are));
+      named = λ hands are first. rw pushed (adds_routed net c.args.self.now.history hands c.args.places.now es old new k c.in_ok-row.row this.amount c.loop-k.invariant.count c.loop-k.invariant.begun adds (are k l) (c.loop-k.invariant.named hands are first));
     }

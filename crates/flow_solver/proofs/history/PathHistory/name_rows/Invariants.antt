@@ -1,5 +1,5 @@
-use Rattle.std.proofs.Common.{◌≡◌, ℕ, List, length}
-use Rattle.phase_engine.specs.Routes.{Route}
+use Rattle.std.proofs.Common.{◌≡◌, List, length}
+use Rattle.phase_engine.specs.declared.hand.Hand.{Hand}
 use Rattle.flow_solver.specs.Adding.{ArePlaces, KeepsRows, AreBegun, AreRoutedAs}
 use Rattle.flow_solver.proofs.history.PathHistory.name_rows.Given as goal
 
@@ -10,5 +10,5 @@ invariant-loop-k l = record {
   history : l.self.history ≡ l.initial.self.history;
   keeps : KeepsRows l.initial.self.rows l.self.rows;
   begun : AreBegun l.fn.net l.initial.self.history l.entries.items l.self.rows;
-  named : (start : ℕ) (routes : List (List Route)) → ArePlaces (length l.fn.net.commodities) start routes l.places → AreRoutedAs start routes l.self.rows l.entries.items;
+  named : (hands : List Hand) → ArePlaces l.fn.net hands l.places → AreRoutedAs hands l.initial.self.rows l.initial.entries.items → AreRoutedAs hands l.self.rows l.entries.items;
 }
