@@ -25,10 +25,12 @@ pub struct Options {
     pub bound_threads: Option<usize>,
     /// searches begin at the tree of the search before (`tuned`)
     pub keep_trees: bool,
+    /// each commodity adds to each cell of its path by a step of its own (`tuned`), as the model of `mcf`'s loads has it
+    pub single_adds: bool,
 }
 
 const USAGE: &str = "usage: plain|tuned NET [--workers N] [--phases P] [--gap G] [--step S] [--groups 0|1] [--parts 0|1] \
-                     [--nolimit 0|1] [--bound N] [--trees 0|1]";
+                     [--nolimit 0|1] [--bound N] [--trees 0|1] [--single 0|1]";
 
 impl Options {
     /// The program's own words, or an end with how it is called.
@@ -51,6 +53,7 @@ impl Options {
             no_limit: false,
             bound_threads: None,
             keep_trees: true,
+            single_adds: false,
         };
         while let Some(name) = words.next() {
             options.set(&name, &words.next()?)?;
@@ -70,6 +73,7 @@ impl Options {
             "--nolimit" => self.no_limit = number(1)? == 1,
             "--bound" => self.bound_threads = Some(number(64)?.max(1) as usize),
             "--trees" => self.keep_trees = number(1)? == 1,
+            "--single" => self.single_adds = number(1)? == 1,
             _ => return None,
         }
         Some(())

@@ -77,3 +77,14 @@ fn both_find_the_same_with_other_steps() {
         );
     }
 }
+
+#[test]
+fn single_additions_change_no_answer() {
+    for example in ["polska", "geant", "germany50", "ta2"] {
+        let words = ["--phases", "60", "--gap", "0"];
+        let tuned = env!("CARGO_BIN_EXE_tuned");
+        let gathered = told(tuned, example, &words);
+        let single = told(tuned, example, &[&words[..], &["--single", "1"]].concat());
+        assert_eq!(gathered, single, "{example}");
+    }
+}

@@ -1,6 +1,6 @@
 //! The tuned yardstick: the solver's rules for speed alone. Trees are kept for each source and repaired, lengths follow the
-//! loads, amounts are added up along a tree before they go to the shared loads, paths have numbers, and workers live for the
-//! whole run. It writes no certificate and nothing of it is proved.
+//! loads, amounts are added up along a tree before they go to the shared loads, unless single additions are asked for, paths
+//! have numbers, and workers live for the whole run. It writes no certificate and nothing of it is proved.
 
 mod follow;
 mod meeting;
@@ -200,6 +200,8 @@ struct Worker<'a> {
     lengths: Followed<'a>,
     room: Room,
     flows: Vec<u64>,
+    /// the cells of a path, the last one first
+    path: Vec<u16>,
     /// cells to which this worker has added since it last looked at the loads
     touched: Vec<u16>,
     times: Times,
@@ -213,6 +215,7 @@ impl<'a> Worker<'a> {
             lengths: Followed::new(shared.net, shared.options.step),
             room: Room::new(shared.net.nodes),
             flows: vec![0; shared.net.nodes],
+            path: Vec::new(),
             touched: Vec::new(),
             times: Times::default(),
         }
@@ -316,24 +319,45 @@ impl<'a> Worker<'a> {
             .search(ways, &mut self.room, self.shared.options.keep_trees);
     }
 
-    /// Gathers amounts along the tree, from its ends on, and adds them to the loads.
+    /// Counts the path of each commodity of the claim, and adds its amount to the loads.
     fn add(&mut self, source: &mut Source, claim: &Claim) {
         let shared = self.shared;
         let members = &shared.groups[claim.group].members[claim.first..claim.end];
         for (&member, uses) in members.iter().zip(&mut source.uses[claim.first..claim.end]) {
             let Commodity { to, amount, .. } = shared.net.commodities[member as usize];
-            self.flows[to as usize] += amount;
+            if shared.options.single_adds {
+                self.add_along(&source.tree, to, amount);
+            } else {
+                self.flows[to as usize] += amount;
+            }
             uses.add(source.paths.to[to as usize]);
         }
-        for &node in source.tree.order.iter().rev() {
+        if !shared.options.single_adds {
+            self.gather(&source.tree, shared.groups[claim.group].source);
+        }
+    }
+
+    /// Adds the amount to each cell of the path to the node, from the source on.
+    fn add_along(&mut self, tree: &Tree, to: u16, amount: u64) {
+        let mut path = std::mem::take(&mut self.path);
+        tree.put_path(to, &mut path);
+        for &cell in path.iter().rev() {
+            self.add_to(cell, amount);
+        }
+        self.path = path;
+    }
+
+    /// Gathers amounts along the tree, from its ends on, and adds them to the loads.
+    fn gather(&mut self, tree: &Tree, source: u16) {
+        for &node in tree.order.iter().rev() {
             let flow = std::mem::take(&mut self.flows[node as usize]);
             if flow > 0 {
-                let step = source.tree.steps[node as usize];
+                let step = tree.steps[node as usize];
                 self.flows[step.from as usize] += flow;
                 self.add_to(step.cell, flow);
             }
         }
-        self.flows[shared.groups[claim.group].source as usize] = 0;
+        self.flows[source as usize] = 0;
     }
 
     #[inline]

@@ -76,6 +76,17 @@ impl Tree {
         }
     }
 
+    /// The cells of the path to a node, the last one first.
+    pub fn put_path(&self, to: u16, path: &mut Vec<u16>) {
+        path.clear();
+        let mut node = to;
+        while node != self.source {
+            let step = self.steps[node as usize];
+            path.push(step.cell);
+            node = step.from;
+        }
+    }
+
     /// From nothing.
     fn find(&mut self, ways: Ways, room: &mut Room) {
         room.open.push(Reverse((0, self.source)));
