@@ -45,6 +45,12 @@ impl<'a, J: Job> Crew<'a, J> {
         self.ends.iter().any(|end| end.has_waited())
     }
 
+    /// Which thread the caller's waited for last, counted from the first that was taken on, when jobs were last worked on: that was done after
+    /// all others. None where it waited for none. No proof rests on what this tells.
+    pub fn last_waited_for(&self) -> Option<usize> {
+        self.ends.iter().position(|end| end.has_waited())
+    }
+
     /// Waits until all threads are there, but not without end: one that can't be started never comes.
     pub fn wait_until_there(&self) {
         'looks: for looks in 0..START {

@@ -46,7 +46,7 @@ prepared-sync ℓ = search (sendable, net-sync, groups-sync, graph-sync, powers-
 turn-send : (ℓ : _) (G : RattleType) → IsSync G → IsSend (turn.the_row ℓ G)
 turn-send ℓ G sync = declared_send (turn.the_type ℓ G) (
   search (sendable, prepared-sync),
-  (search sendable depth 20, (search sendable depth 20, (search (sendable, sync), (search (crosses, loads.the_send, loads.the_sync) depth 6, (search (crosses, row-send, row-sync) depth 6, (hand-send, tt)))))),
+  (search sendable depth 20, (search sendable depth 20, (search (sendable, sync), (search (crosses, loads.the_send, loads.the_sync) depth 6, (search (crosses, row-send, row-sync) depth 6, (search (crosses, hand-send) depth 6, tt)))))),
 )
 
 part-send : (ℓ : _) → IsSend (part.the_row ℓ)

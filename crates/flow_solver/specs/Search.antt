@@ -1,5 +1,5 @@
 -- What a solve keeps from phase to phase.
-use Rattle.std.specs.Prelude.{◌≡◌, ℕ, ◌+◌, ◌*◌, ◌<◌, ◌≤◌, List, [], ◌∷◌, ◌++◌, All, Option, None, length, slice_index, slice_index_or}
+use Rattle.std.specs.Prelude.{◌≡◌, ℕ, ◌+◌, ◌*◌, ◌<◌, ◌≤◌, List, [], ◌∷◌, ◌++◌, All, Option, None, IfSome, length, slice_index, slice_index_or}
 use Rattle.flow_model.specs.declared.setting.Setting.{Setting}
 use Rattle.flow_model.specs.Network.{Network}
 use Rattle.flow_model.specs.Least.{HasNoCut}
@@ -19,6 +19,7 @@ use Rattle.dual_bound.specs.Bounds.{IsLesser}
 use Rattle.dual_bound.specs.Rows.{AreRoom}
 use Rattle.flow_solver.specs.declared.search.Search.{Search}
 use Rattle.flow_solver.specs.declared.search.BoundRoom.{BoundRoom}
+use Rattle.flow_solver.specs.declared.followed.Followed.{Followed}
 
 -- hand k between two phases on this network: its number, no turn, a scratch for so many nodes, and room of the network, or none yet
 abbrev pub IsIdle : Network → ℕ → Hand → Type 0
@@ -44,9 +45,14 @@ phases_in s = phases_kept s.history
 abbrev pub phase_count : Search → ℕ
 phase_count s = length s.history.history + 1
 
--- room for a length a cell, and for a row a source
+-- lengths of this network
+abbrev pub IsFollowedOn : Network → Followed → Type 0
+IsFollowedOn net f = f.table.net ≡ net
+
+-- room for a length a cell, lengths of the network from an earlier bound, or none yet, and room for a row a source
 pub record IsBoundRoom (net : Network) (room : BoundRoom) : Type 0 where
   pub lengths : length room.lengths.items ≡ length net.cells
+  pub kept : IfSome room.kept (IsFollowedOn net)
   pub rows : AreRoom net room.rows.items
 
 -- the loads are those after these phases, with room for bounds and two hands for each worker; rows and entries belong together

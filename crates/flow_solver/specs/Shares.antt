@@ -1,5 +1,5 @@
 -- Shares of the work on a phase, which any thread may do.
-use Rattle.std.specs.Prelude.{◌≡◌, ℕ, List, [], ◌∷◌, ◌++◌, Option, Some}
+use Rattle.std.specs.Prelude.{◌≡◌, ℕ, List, [], ◌∷◌, ◌++◌, Option, Some, box_value}
 use Rattle.std.specs.Arc.{arc_value}
 use Rattle.flow_model.specs.Network.{Network}
 use Rattle.load_table.specs.Seen.{LoadsView}
@@ -24,12 +24,12 @@ module _ {G : Type 0} where
 
   -- there is a turn of this hand over these words, and it can be taken
   abbrev pub IsTurnOf : LoadsView → Hand → Option (Share G) → Type 0
-  IsTurnOf l h (Some (Turn t)) = CanBeTaken t × (arc_value t.loads ≡ l) × (t.hand ≡ h)
+  IsTurnOf l h (Some (Turn t)) = CanBeTaken t × (arc_value t.loads ≡ l) × (box_value t.hand ≡ h)
   IsTurnOf l h _ = ⊥
 
   -- there is a turn, and this is its hand
   abbrev pub HasHand : Option (Share G) → Hand → Type 0
-  HasHand (Some (Turn t)) h = t.hand ≡ h
+  HasHand (Some (Turn t)) h = box_value t.hand ≡ h
   HasHand _ h = ⊥
 
   -- there is a turn

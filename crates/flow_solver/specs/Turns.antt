@@ -1,5 +1,5 @@
 -- The turns of the hands in a phase.
-use Rattle.std.specs.Prelude.{◌≡◌, ℕ}
+use Rattle.std.specs.Prelude.{◌≡◌, ℕ, box_value}
 use Rattle.std.specs.Arc.{arc_value}
 use Rattle.flow_model.specs.declared.setting.Setting.{Setting}
 use Rattle.flow_model.specs.Network.{Network}
@@ -24,8 +24,8 @@ IsOver net l k h = (h.worker ≡ k) × IsDone l h × (h.scratch.nodes ≡ net.no
 module _ {G : Type 0} where
   -- the words are of the turn's phase, and its hand is ready
   abbrev pub CanBeTaken : Turn G → Type 0
-  CanBeTaken t = AreWordsOf t.on.now.net.now t.setting (arc_value t.loads) × IsReady (arc_value t.loads) t.hand
+  CanBeTaken t = AreWordsOf t.on.now.net.now t.setting (arc_value t.loads) × IsReady (arc_value t.loads) (box_value t.hand)
 
   -- the second turn has the hand of the first after its work
   abbrev pub IsTaken : Turn G → Turn G → Type 0
-  IsTaken t u = Runs (arc_value t.loads) t.hand u.hand
+  IsTaken t u = Runs (arc_value t.loads) (box_value t.hand) (box_value u.hand)

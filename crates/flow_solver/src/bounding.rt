@@ -5,6 +5,7 @@ ghost use Rattle.flow_solver.specs.Adding.{CanBeNoted, CanNote, HasNoted, IsNote
 ghost use Rattle.flow_solver.specs.Search.{CanAddPhase, CanBeBounded, CanNoteAndBound, HasAdded, HasNotedSpare, IsBoundRoom, IsLesserUnder, KeepsLoadsAndHands};
 
 use crate::filling::bound_with;
+use crate::followed::Followed;
 use crate::noting::note_routes_of;
 use crate::places::places_of;
 use crate::prepared::{Prepared, Run, Task};
@@ -25,7 +26,7 @@ const PATHS_OF_A_THREAD: usize = 4_096;
 /// for them in each phase, which can take longer than their start.
 const WORK_OF_SEVERAL: usize = 1_000_000;
 
-/// The lesser of an earlier bound, if there is one, and that of the lengths of these loads.
+/// The lesser of an earlier bound, if there is one, and that of the lengths of these loads. `Err` is for want of memory.
 pub(crate) fn bound_of<R: Threads + Sync>(
     team: &Team<'_, R>,
     alloc: Global,
@@ -39,8 +40,12 @@ pub(crate) fn bound_of<R: Threads + Sync>(
     ensures room { OnOk result (IsBoundRoom on.now.net.now room.new) }
     ensures bound { IfOk result (IsLesserUnder on.now.net.now setting.now loads.now earlier) }
 {
-    let BoundRoom { lengths, rows } = room;
-    on.powers.lengths(on.net, setting, loads, lengths);
+    let BoundRoom {
+        lengths,
+        kept,
+        rows,
+    } = room;
+    Followed::put_lengths(alloc, on, setting, loads, kept, lengths)?;
     lesser_in(team, alloc, on.net, on.graph, lengths, rows, earlier)
 }
 
@@ -209,7 +214,7 @@ fn note_with_bound<'a, G: Gate>(
         ensures { OnOk result (HasNoted net.entry.now hands.entry.now history.entry.now history.exit.now) }
     { note_routes_of(alloc, net, hands, history, sought, entries) };
     let (noted, bounded) = bound_with(task, loads, room, crew, split, earlier, &mut note);
-    search.pace = search.pace.after_bound(threads, crew.has_waited());
+    search.pace = search.pace.after_bound(threads, crew.last_waited_for());
     noted?;
     bounded
 }

@@ -1,13 +1,14 @@
 //! The rows of a bound are filled by a crew, beside the caller's thread.
 
-ghost use Rattle.std.specs.Prelude.{◌≡◌, All, IfOk, OnOk};
+ghost use Rattle.std.specs.Prelude.{◌≡◌, All, IfOk, IfSome, OnOk};
 ghost use Rattle.std.specs.Arc.{arc_value};
 ghost use Rattle.flow_model.specs.Lengths.{AreLengths};
 ghost use Rattle.fixed_exp.specs.Far.{EmptyAreFar};
 ghost use Rattle.dual_bound.specs.Bounds.{IsLesser};
 ghost use Rattle.dual_bound.specs.Rows.{HasDistances, IsRoom, demands_in, demands_of};
-ghost use Rattle.flow_solver.specs.Search.{CanBeBounded, IsBoundRoom, IsLesserUnder};
+ghost use Rattle.flow_solver.specs.Search.{CanBeBounded, IsBoundRoom, IsFollowedOn, IsLesserUnder};
 
+use crate::followed::Followed;
 use crate::pace::Split;
 use crate::parts::{append_parts, parts_of};
 use crate::prepared::Task;
@@ -63,6 +64,7 @@ fn bound_after(
 ) -> Result<Bounded, AllocError>
     requires lengths { AreLengths net.now.cells (arc_value lengths).items }
     requires empty { EmptyAreFar net.now.cells (arc_value lengths).items }
+    requires kept { IfSome room.old.kept (IsFollowedOn net.now) }
     requires demands { demands_of room.old.rows.items ≡ demands_in net.now }
     requires distances { All (HasDistances net.now (arc_value lengths).items) room.old.rows.items }
     ensures room { OnOk result (IsBoundRoom net.now room.new) }
@@ -95,8 +97,17 @@ pub(crate) fn bound_with<'a, G: Gate, T, F: FnMut() -> T>(
 {
     let alloc = task.alloc;
     let on = task.on;
-    on.powers
-        .lengths(on.net, &task.setting, loads, &mut room.lengths);
+    let put = Followed::put_lengths(
+        alloc,
+        on,
+        &task.setting,
+        loads,
+        &mut room.kept,
+        &mut room.lengths,
+    );
+    if let Err(error) = put {
+        return (lead(), Err(error));
+    }
     let lengths = mem::replace(&mut room.lengths, Vec::new(alloc));
     let lengths = match Arc::new(alloc, lengths) {
         Ok(lengths) => lengths,

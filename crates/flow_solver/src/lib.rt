@@ -5,6 +5,7 @@
 mod bounding;
 mod entries;
 mod filling;
+mod followed;
 mod hands;
 mod history;
 mod leading;

@@ -2,43 +2,60 @@
 
 ghost use Rattle.std.specs.Prelude.{◌≤◌};
 
+use mcf_limits::MAX_WORKERS;
+
 /// Shares are so many parts of all.
 const PARTS: u16 = 64;
 
-/// How the rows of a bound are shared out: so many of them with so many threads, none with so many others, and what is left is for the
-/// caller's thread.
+/// The most threads beside the caller's.
+const OTHERS: usize = MAX_WORKERS as usize - 1;
+
+/// What a thread's part of the rows weighs at first, beside those of the others.
+const EVEN: u32 = 1024;
+
+/// About so much less it weighs after a bound that the thread was done with last.
+const LESS: u32 = 16;
+
+/// So much it weighs at least.
+const LEAST: u32 = EVEN / 4;
+
+/// How the rows of a bound are shared out: so many of them with each of so many threads, none with so many others, and what is left is for
+/// the caller's thread.
 #[derive(Clone, Copy)]
 pub(crate) struct Split {
-    pub rows: usize,
     pub threads: usize,
     pub idle: usize,
+    sizes: [usize; OTHERS],
 }
 
 /// What the caller's thread does beside the others, as shares of all. It alone notes rows: of so many commodities of a phase beside the
-/// routing of the next one, and of the others beside the bound, of which it fills so many rows itself. Both shares follow what the last
-/// phase has shown, by a part of all at a time.
+/// routing of the next one, and of the others beside the bound, of which it fills so many rows itself; the other threads fill as many of
+/// the rest as their weights say. All of it follows what the last phase has shown, by a little at a time.
 #[derive(Clone, Copy)]
 pub struct Pace {
     first: u16,
     own: u16,
+    weights: [u32; OTHERS],
 }
 
 impl Split {
-    /// How many rows thread i has: about as many as each other.
+    /// How many rows thread i has.
     pub(crate) fn rows_of(&self, i: usize) -> usize {
-        if i >= self.threads {
-            return 0;
+        match self.sizes.get(i) {
+            Some(size) if i < self.threads => *size,
+            _ => 0,
         }
-        self.rows / self.threads + usize::from(i < self.rows % self.threads)
     }
 }
 
 impl Pace {
     /// To begin with, all commodities are noted beside the routing, and the caller's thread fills as many rows of the bound as each other.
     pub(crate) fn new() -> Self {
+        let weights = [EVEN; OTHERS];
         Pace {
             first: PARTS,
             own: PARTS,
+            weights,
         }
     }
 
@@ -52,30 +69,92 @@ impl Pace {
     /// How so many rows are shared out with so many threads, where so many others get none.
     pub(crate) fn split(&self, rows: usize, threads: u16, idle: usize) -> Split {
         let own = self.own.min(even_share(threads));
+        let shared = rows.saturating_sub(share_of(own, rows));
+        let threads = threads as usize;
+        let sizes = sizes_of(shared, &self.weights, threads.min(OTHERS));
         Split {
-            rows: rows.saturating_sub(share_of(own, rows)),
-            threads: threads as usize,
+            threads,
             idle,
+            sizes,
         }
     }
 
     /// After the routing: more commodities are noted beside it, where the caller's thread had to wait for another one, and fewer where the
     /// others were done before.
     pub(crate) fn after_routing(self, has_waited: bool) -> Self {
+        let weights = self.weights;
         Pace {
             first: moved(self.first, has_waited, PARTS),
             own: self.own,
+            weights,
         }
     }
 
     /// After a bound with so many threads: the caller's thread fills more rows, where it had to wait for another one, but never more than an
-    /// even share.
-    pub(crate) fn after_bound(self, threads: u16, has_waited: bool) -> Self {
+    /// even share; and the one that it waited for last fills fewer.
+    pub(crate) fn after_bound(self, threads: u16, last: Option<usize>) -> Self {
+        let before = self.weights;
+        let weights = shifted(before, threads as usize, last);
         Pace {
             first: self.first,
-            own: moved(self.own, has_waited, even_share(threads)),
+            own: moved(self.own, last.is_some(), even_share(threads)),
+            weights,
         }
     }
+}
+
+/// What the first threads weigh together, so many of them.
+fn weight_of(weights: &[u32; OTHERS], threads: usize) -> usize
+    requires { threads ≤ OTHERS }
+{
+    let mut all = 0usize;
+    for i in 0..threads {
+        all = all.saturating_add(weights[i] as usize);
+    }
+    all
+}
+
+/// So many rows, shared out with so many threads by their weights, each border at the nearest row.
+fn sizes_of(rows: usize, weights: &[u32; OTHERS], threads: usize) -> [usize; OTHERS]
+    requires { threads ≤ OTHERS }
+{
+    let all = weight_of(weights, threads);
+    let mut sizes = [0; OTHERS];
+    let mut before = 0usize;
+    let mut given = 0usize;
+    for i in 0..threads {
+        before = before.saturating_add(weights[i] as usize);
+        let until = rows.saturating_mul(before).saturating_add(all / 2) / all.max(1);
+        sizes[i] = until.saturating_sub(given);
+        given = until;
+    }
+    sizes
+}
+
+/// The weights after a bound: less for the thread that was done last, unless it is at the least already, and as much more for all others
+/// together.
+fn shifted(weights: [u32; OTHERS], threads: usize, last: Option<usize>) -> [u32; OTHERS] {
+    let threads = threads.min(OTHERS);
+    let Some(last) = last else {
+        return weights;
+    };
+    if threads < 2 || last >= threads {
+        return weights;
+    }
+    let mut weights = weights;
+    let more = LESS.div_ceil(threads as u32 - 1);
+    let less = more.saturating_mul(threads as u32 - 1);
+    if weights[last] < LEAST.saturating_add(less) {
+        return weights;
+    }
+    for i in 0..threads {
+        weights[i] = if i == last {
+            weights[i].saturating_sub(less)
+        } else {
+            weights[i].saturating_add(more)
+        };
+    }
+    weights
 }
 
 /// The share of the caller's thread where it has as much to do as each of so many others.

@@ -13,6 +13,7 @@ ghost use Rattle.flow_solver.specs.Adding.{CanNote, HasBegun, HasNoted};
 ghost use Rattle.flow_solver.specs.Search.{CanAddPhase, CanRoute, IsRouted, IsRoutedByCrew, IsSearch, phase_count};
 
 use crate::PathHistory;
+use crate::followed::Followed;
 use crate::hands::{forget_all, forget_turns, new_hands};
 use crate::noted::Sought;
 use crate::noting::{name_routes_of, note_routes_of};
@@ -33,10 +34,12 @@ use std::mem;
 use std::sync::Arc;
 use std::thread::Threads;
 
-/// Room for bounds, from one to the next: a length for each cell, and a row for each source.
+/// Room for bounds, from one to the next: a length for each cell, the lengths of the last bound, which those of the next one follow, and a
+/// row for each source. Before the first bound there are none to follow.
 #[derive(Drop)]
 pub struct BoundRoom {
     pub lengths: Vec<u64>,
+    pub kept: Option<Followed>,
     pub rows: Vec<Row>,
 }
 
@@ -75,6 +78,7 @@ pub fn new_search(alloc: Global, net: &Net, workers: u16) -> Result<Search, Allo
         loads: zeros(alloc, cells)?,
         room: BoundRoom {
             lengths: zeros(alloc, cells)?,
+            kept: None,
             rows: source_rows(alloc, net)?,
         },
         hands: new_hands(alloc, net, workers)?,

@@ -19,7 +19,8 @@ use std::alloc::{AllocError, Global};
 use std::sync::Arc;
 
 /// The turn of one hand: what the phase is of, the words of its loads, and the rows of the bound before, at whose trees searches
-/// begin. All turns of a phase share the words and the rows.
+/// begin. All turns of a phase share the words and the rows. The hand stands in a box, since a turn is moved a dozen times on its way to
+/// a thread and back, and the hand is the most of it.
 #[derive(Drop)]
 pub struct Turn<'a, G> {
     pub on: &'a Prepared<'a>,
@@ -28,7 +29,7 @@ pub struct Turn<'a, G> {
     pub gate: &'a G,
     pub loads: Arc<Loads, Global>,
     pub rows: Arc<Vec<Row>, Global>,
-    pub hand: Hand,
+    pub hand: Box<Hand, Global>,
 }
 
 /// The turn with its hand after its work.
@@ -120,7 +121,7 @@ fn turn_of<'a, G: Gate>(
         gate: task.gate,
         loads: Arc::try_clone(loads)?,
         rows: Arc::try_clone(rows)?,
-        hand,
+        hand: Box::new(task.alloc, hand)?,
     })))
 }
 
@@ -151,7 +152,7 @@ fn hand_of<G: Gate>(turn: Option<Share<'_, G>>) -> Hand
     ensures { HasHand turn.entry result }
 {
     match turn {
-        Some(Share::Turn(turn)) => turn.hand,
+        Some(Share::Turn(turn)) => Box::into_inner(turn.hand),
         _ => unreachable!(),
     }
 }

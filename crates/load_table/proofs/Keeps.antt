@@ -2,7 +2,7 @@
 use Rattle.std.proofs.Common.{◌≡◌, ◌≢◌, ℕ, zero, suc, ◌+◌, ◌%◌, ◌^◌, ◌<◌, ◌≤◌, Bool, true, false, nat_eq, nat_lt, List, [], ◌∷◌, ◌++◌, length, get_or, set, min, refl, sym, ap, ◌∙◌, subst, ⊎_elim, arith, add-one, get_or-set_same, get_or-set_other, length-set, length-append, eq-eqb, ne_eqb}
 use Rattle.std.specs.Prelude.{◌==◌, if◌then◌else◌}
 use Rattle.std.proofs.lemmas.Bool.Decides.{nat_tests}
-use Rattle.std.proofs.lemmas.List.{get_or_default, set-get_or, length-map}
+use Rattle.std.proofs.lemmas.List.{set-get_or}
 use mathlib.Core.Logic.{dite}
 use native.Mathlib.Decide.{ℕ_discrete}
 use mathlib.Core.Option.{some, some-ne-none, some-injective}
@@ -12,7 +12,7 @@ use Rattle.atomic_table.proofs.Lists.{at_set, at_snoc}
 use Rattle.flow_core.specs.declared.state.Entry.{Entry}
 use Rattle.flow_core.specs.declared.state.Worker.{Worker}
 use Rattle.flow_core.specs.Core as core
-use Rattle.flow_core.specs.Core.{Terms, Event, claim, read, add, IsLegal, AreLegal, Leads, start, after_event, after_schedule, worker_at, idle, IsStart, total, cell_count, ticket_count, commodity_count, amounts, amount_of, LastIsComplete, LastIsReading, LastMayAdd, claimed, has_read, has_added, next_cell}
+use Rattle.flow_core.specs.Core.{Terms, Event, claim, read, add, IsLegal, AreLegal, Leads, start, after_event, after_schedule, worker_at, idle, IsStart, total, cell_count, ticket_count, commodity_count, amount_of, LastIsComplete, LastIsReading, LastMayAdd, claimed, has_read, has_added, next_cell}
 use Rattle.flow_core.specs.Laws.{one_if, IsFalling, added}
 use Rattle.mcf_limits.specs.declared.TheConstants.{MAX_LENGTH}
 use Rattle.flow_core.proofs.Members.{few-groups}
@@ -21,7 +21,6 @@ use Rattle.flow_core.proofs.Steps.{Inv, laws, falls-more, counts_of, loads_of}
 use Rattle.load_table.specs.declared.view.Hand.{Hand}
 use Rattle.load_table.specs.declared.view.Known.{Known}
 use Rattle.load_table.specs.Views.{hand, known, first_known, times_in, hands_of, made_of, splits_of, first_works, with_work, keeps_known, cuts_known, joins_known, spent_known}
-use Rattle.flow_model.specs.declared.net.Commodity.{Commodity}
 use Rattle.load_table.specs.Rule.{AllFallBelow, AllFit, FitsView, Kept, Holds, words_of, IsStep, first_number, M, HasClaimed, HasRead, HasAdded, HasPlaced, MayClaim, LastReads, MayRead, MayAdd, MayClose, Closes}
 use Rattle.load_table.specs.Places.{is_wide, place}
 use Rattle.load_table.specs.Seen.{shared_cells}
@@ -602,9 +601,6 @@ closes t id v ws xs loads may same f long each =
         by_test false is zero_there = grind (arith, nat_tests)
 
 -- what the calls need besides
-
-pub amount_is : (t : Terms) (n a : ℕ) → n < commodity_count t → a ≡ get_or (amounts t) n a → a ≡ amount_of t n
-amount_is t n a few is = is ∙ get_or_default (amounts t) n a 0 (let m = length-map t.net.commodities (λ (k : Commodity). k.amount) in omega arith)
 
 abbrev pub shared_bases : List ℕ → ℕ → List ℕ
 shared_bases base workers = if workers == 1 then [] else base

@@ -2,7 +2,7 @@
 use Rattle.std.specs.Prelude.{◌≡◌, ℕ, ◌+◌, ◌==◌, Bool, List, length, if◌then◌else◌}
 use Rattle.atomic_table.specs.Seated.{TableId}
 use Rattle.flow_model.specs.Groups.{group_count}
-use Rattle.flow_core.specs.Core.{Terms, State, Event, IsStart, cell_count, amounts}
+use Rattle.flow_core.specs.Core.{Terms, State, Event, IsStart, cell_count}
 use Rattle.load_table.specs.declared.view.View.{View}
 use Rattle.load_table.specs.declared.view.Known.{Known}
 use Rattle.load_table.specs.Places.{is_wide, place}
@@ -24,13 +24,11 @@ abbrev pub shared_cells : Terms → ℕ
 shared_cells t = if t.workers == 1 then 0 else cell_count t
 
 -- how the shared words are kept: a word of claims and one for each shared cell, with room up to where one more would lie, and
--- beside them the amounts of the commodities, the numbers of groups and of cells, whether there is one worker, and whether words
--- lie apart
-pub record IsLoads (table : TableId) (t : Terms) (sizes : List ℕ) (groups cells : ℕ) (alone wide : Bool) : Type 0 where
+-- beside them the numbers of groups and of cells, whether there is one worker, and whether words lie apart
+pub record IsLoads (table : TableId) (t : Terms) (groups cells : ℕ) (alone wide : Bool) : Type 0 where
   pub words : table.words ≡ place (is_wide t) (shared_cells t + 1)
   pub slots : table.slots ≡ 0
   pub is_start : IsStart t
-  pub sizes_are : sizes ≡ amounts t
   pub groups_are : groups ≡ group_count t.net
   pub cells_are : cells ≡ cell_count t
   pub alone_is : alone ≡ (t.workers == 1)

@@ -1,8 +1,8 @@
 //! The words that workers share, and the passes by which they step: one word of claims, and one a cell. One worker alone has the
 //! words to itself.
 
-ghost use Rattle.std.specs.Prelude.{◌≡◌, ◌+◌, ◌-◌, ◌<◌, ◌≤◌, ◌==◌, [], ◌∷◌, map, length, slice_index, All, IfOk, if◌then◌else◌};
-ghost use Rattle.flow_core.specs.Core.{IsStart, Leads, start, claim, read, add, claimed, has_read, has_added};
+ghost use Rattle.std.specs.Prelude.{◌≡◌, ◌+◌, ◌-◌, ◌<◌, ◌≤◌, ◌==◌, [], ◌∷◌, length, slice_index, All, IfOk, if◌then◌else◌};
+ghost use Rattle.flow_core.specs.Core.{IsStart, Leads, start, claim, read, add, claimed, has_read, has_added, amount_of};
 ghost use Rattle.flow_model.specs.Groups.{group_count};
 ghost use Rattle.load_table.specs.Seen.{IsPassOf, HasStepped};
 ghost use Rattle.load_table.specs.Views.{first_view, with_work, cut, cut_off, joined};
@@ -19,7 +19,7 @@ use crate::rule::{
 };
 use crate::view::{Known, Origin};
 use atomic_table::{Seat, Table};
-use flow_model::{Commodity, Groups, Net, Setting};
+use flow_model::{Groups, Net, Setting};
 use mcf_limits::{MAX_CELLS, MAX_LENGTH};
 use std::alloc::{AllocError, Global};
 use std::marker::{Brand, Model};
@@ -31,7 +31,6 @@ use std::snapshot::Snapshot;
 #[derive(Drop)]
 pub struct Loads {
     table: Table<(), Known, Origin, LoadRule, Global>,
-    amounts: Vec<u64>,
     groups: u16,
     cells: u16,
     alone: bool,
@@ -48,7 +47,7 @@ impl Model for Loads {
     ghost view = { λ l. record { table = l.table.shared.table_id; terms = l.table.shared.key } };
 
     ghost invariant = { λ l.
-        IsLoads l.table.shared.table_id l.table.shared.key l.amounts.items l.groups l.cells l.alone l.wide };
+        IsLoads l.table.shared.table_id l.table.shared.key l.groups l.cells l.alone l.wide };
 }
 
 /// What some workers have done. Contracts see the table, and what the pass knows: its workers with their entries and stops, and
@@ -69,12 +68,6 @@ impl Model for Pass {
     ghost view = { λ p. record { table = p.seat.table_id; view = p.seat.me.0.view; seen = p.seat.me.0.seen } };
 
     ghost invariant = { λ p. (p.seat.me.1 ≡ []) × IsOwn p.seat.me.0 p.own.items };
-}
-
-fn amounts_of(alloc: Global, commodities: &[Commodity]) -> Result<Vec<u64>, AllocError>
-    ensures { IfOk result (λ v. v.items ≡ map (λ k. k.amount) commodities.now) }
-{
-    commodities.iter().map(|k| k.amount).collect(alloc)
 }
 
 /// The bases that have a word in the table: where there is one worker, which has the words in its pass, none.
@@ -154,7 +147,6 @@ impl Loads {
         ensures pass { IfOk result (λ r. IsPassOf r.0 r.1 × (r.1.view ≡ first_view r.0.terms)) }
         ensures seen { IfOk result (λ r. r.1.seen ≡ start r.0.terms) }
     {
-        let amounts = amounts_of(alloc, net.commodities())?;
         let words = words_over(alloc, base)?;
         let origin = Origin {
             net: Snapshot::of(net),
@@ -168,7 +160,6 @@ impl Loads {
         Ok((
             Loads {
                 table,
-                amounts,
                 groups: groups.count(),
                 cells: base.len() as u16,
                 alone: workers == 1,
@@ -351,9 +342,16 @@ impl Loads {
         }
     }
 
-    // The step does not see which commodity it is for, nor at which cell: the parameters tell the proof.
-    fn add_for<J: OfCommodity, L: OfCell>(&self, pass: &mut Pass, k: u32, cell: u16) -> u64
+    // The step sees the amount, and not which commodity it is for, nor at which cell: the parameters tell the proof.
+    fn add_for<J: OfCommodity, L: OfCell>(
+        &self,
+        pass: &mut Pass,
+        k: u32,
+        amount: u64,
+        cell: u16,
+    ) -> u64
         requires named { k ≡ J.commodity }
+        requires amount { amount ≡ amount_of self.now.terms k }
         requires placed { cell ≡ L.cell }
         requires several { 1 < self.now.terms.workers }
         requires of { IsPassOf self.now pass.old }
@@ -362,15 +360,22 @@ impl Loads {
         ensures view { pass.new.view ≡ with_work (has_added J.commodity cell result) pass.old.view }
         ensures step { HasStepped self.now pass.old pass.new (λ w. add w J.commodity cell) (cell + 1) result }
     {
-        let amount = self.amounts[k as usize];
+        let _ = k;
         let word = place_of(self.wide, cell as usize);
         let shared = &self.table.shared;
         shared.fetch_add::<Adds<J, L>>(&mut pass.seat, word, amount)
     }
 
     // Nor at which cell of the pass's own words.
-    fn add_at<J: OfCommodity, L: OfCell>(&self, pass: &mut Pass, k: u32, cell: u16) -> u64
+    fn add_at<J: OfCommodity, L: OfCell>(
+        &self,
+        pass: &mut Pass,
+        k: u32,
+        amount: u64,
+        cell: u16,
+    ) -> u64
         requires named { k ≡ J.commodity }
+        requires amount { amount ≡ amount_of self.now.terms k }
         requires placed { cell ≡ L.cell }
         requires one { self.now.terms.workers ≡ 1 }
         requires of { IsPassOf self.now pass.old }
@@ -379,7 +384,7 @@ impl Loads {
         ensures view { pass.new.view ≡ with_work (has_added J.commodity cell result) pass.old.view }
         ensures step { HasStepped self.now pass.old pass.new (λ w. add w J.commodity cell) (cell + 1) result }
     {
-        let amount = self.amounts[k as usize];
+        let _ = k;
         let word = cell as usize + 1;
         let found = pass.own[word];
         self.table.shared.load::<AddsAlone<J, L>>(&mut pass.seat, 0);
@@ -387,9 +392,10 @@ impl Loads {
         found
     }
 
-    /// Adds a commodity's amount to a cell by one `fetch_add`, or plainly where there is one worker, and answers the word before
-    /// it.
-    pub fn add_cell(&self, pass: &mut Pass, k: u32, cell: u16) -> u64
+    /// Adds a commodity's amount, which the caller has at hand, to a cell by one `fetch_add`, or plainly where there is one worker, and
+    /// answers the word before it.
+    pub fn add_cell(&self, pass: &mut Pass, k: u32, amount: u64, cell: u16) -> u64
+        requires amount { amount ≡ amount_of self.now.terms k }
         requires of { IsPassOf self.now pass.old }
         requires may { MayAdd self.now.terms k cell pass.old.view.hands }
         ensures of { IsPassOf self.now pass.new }
@@ -397,13 +403,14 @@ impl Loads {
         ensures step { HasStepped self.now pass.old pass.new (λ w. add w k cell) (cell + 1) result }
     {
         if self.alone {
-            self.add_at::<Brand, Brand>(pass, k, cell)
+            self.add_at::<Brand, Brand>(pass, k, amount, cell)
         } else {
-            self.add_for::<Brand, Brand>(pass, k, cell)
+            self.add_for::<Brand, Brand>(pass, k, amount, cell)
         }
     }
 
-    fn add_each(&self, pass: &mut Pass, k: u32, path: &[u16])
+    fn add_each(&self, pass: &mut Pass, k: u32, amount: u64, path: &[u16])
+        requires amount { amount ≡ amount_of self.now.terms k }
         requires several { 1 < self.now.terms.workers }
         requires of { IsPassOf self.now pass.old }
         requires ready { OneWhere (IsReadyFor self.now.terms k) pass.old.view.hands }
@@ -415,13 +422,20 @@ impl Loads {
         ensures works { KeepsWorks pass.old.seen pass.old.view.hands pass.new.seen pass.new.view.hands }
     {
         for cell in path {
-            self.add_for::<Brand, Brand>(pass, k, *cell);
+            self.add_for::<Brand, Brand>(pass, k, amount, *cell);
         }
     }
 
     // The step does not see along which path it is: the parameter tells the proof.
-    fn add_along<J: OfCommodity, L: OfPath>(&self, pass: &mut Pass, k: u32, path: &[u16])
+    fn add_along<J: OfCommodity, L: OfPath>(
+        &self,
+        pass: &mut Pass,
+        k: u32,
+        amount: u64,
+        path: &[u16],
+    )
         requires named { k ≡ J.commodity }
+        requires amount { amount ≡ amount_of self.now.terms k }
         requires placed { path.now ≡ L.path }
         requires one { self.now.terms.workers ≡ 1 }
         requires of { IsPassOf self.now pass.old }
@@ -433,14 +447,15 @@ impl Loads {
         ensures since { Leads self.now.terms pass.old.seen pass.new.seen }
         ensures works { KeepsWorks pass.old.seen pass.old.view.hands pass.new.seen pass.new.view.hands }
     {
-        let amount = self.amounts[k as usize];
+        let _ = k;
         self.table.shared.load::<AddsAlong<J, L>>(&mut pass.seat, 0);
         put_along(&mut pass.own, path, amount);
     }
 
-    /// Adds a commodity's amount to each cell of a path, in order, by one `fetch_add` each, or plainly where there is one worker.
-    /// What the entry has added before is of commodities below it alone.
-    pub fn add_path(&self, pass: &mut Pass, k: u32, path: &[u16])
+    /// Adds a commodity's amount, which the caller has at hand, to each cell of a path, in order, by one `fetch_add` each, or plainly where
+    /// there is one worker. What the entry has added before is of commodities below it alone.
+    pub fn add_path(&self, pass: &mut Pass, k: u32, amount: u64, path: &[u16])
+        requires amount { amount ≡ amount_of self.now.terms k }
         requires of { IsPassOf self.now pass.old }
         requires ready { OneWhere (IsReadyFor self.now.terms k) pass.old.view.hands }
         requires inside { All (λ c. c < length self.now.terms.net.cells) path.now }
@@ -451,9 +466,9 @@ impl Loads {
         ensures works { KeepsWorks pass.old.seen pass.old.view.hands pass.new.seen pass.new.view.hands }
     {
         if self.alone {
-            self.add_along::<Brand, Brand>(pass, k, path)
+            self.add_along::<Brand, Brand>(pass, k, amount, path)
         } else {
-            self.add_each(pass, k, path)
+            self.add_each(pass, k, amount, path)
         }
     }
 

@@ -1,6 +1,7 @@
 //! The cells of all paths in one buffer, with room made beforehand.
 
 ghost use Rattle.std.specs.Prelude.{◌≡◌, ◌+◌, ◌-◌, ◌<◌, ◌≤◌, ◌++◌, [], ◌∷◌, Some, drop, length, replicate, slice_range, OnOk, vec_len, vec_capacity};
+ghost use Rattle.flow_core.specs.Core.{amount_of};
 ghost use Rattle.dijkstra_paths.specs.Searched.{path_at};
 ghost use Rattle.load_table.specs.Seen.{IsPassOf};
 ghost use Rattle.load_table.specs.Reading.{OneWhere};
@@ -137,9 +138,11 @@ impl RouteBuffer {
         loads: &Loads,
         pass: &mut Pass,
         commodity: u32,
+        amount: u64,
         scratch: &Scratch,
         to: u16,
     )
+        requires amount { amount ≡ amount_of loads.now.terms commodity }
         requires of { IsPassOf loads.now pass.old }
         requires may { OneWhere (IsReadyFor loads.now.terms commodity) pass.old.view.hands }
         requires to { to < scratch.now.nodes }
@@ -155,7 +158,7 @@ impl RouteBuffer {
     {
         let free = self.free;
         let start = put_before(&mut self.cells, free, scratch, to);
-        loads.add_path(pass, commodity, &self.cells[start..free]);
+        loads.add_path(pass, commodity, amount, &self.cells[start..free]);
         self.spans.push_reserved(Span {
             commodity,
             back: self.cells.len() - start,

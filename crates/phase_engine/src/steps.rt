@@ -10,7 +10,7 @@ ghost use Rattle.phase_engine.specs.Found.{HasPath, known_path, routes_to, to_at
 
 use crate::route_buffer::RouteBuffer;
 use dijkstra_paths::Scratch;
-use flow_model::Net;
+use flow_model::{Commodity, Net};
 use load_table::{Loads, Pass};
 
 /// Routes one commodity along the path that the search found.
@@ -39,9 +39,9 @@ pub(crate) fn route_member(
     ensures cells { buffer.old.cells - net.now.nodes ≤ buffer.new.cells }
 {
     let commodities = net.commodities();
-    let to = commodities[k as usize].to;
+    let Commodity { to, amount, .. } = commodities[k as usize];
     buffer.make_ready(net.nodes() as usize);
-    buffer.add_route(loads, pass, k, scratch, to);
+    buffer.add_route(loads, pass, k, amount, scratch, to);
 }
 
 /// Routes the members of the claimed group, one after the other. It is a function of its own, so that what its loop needs stays in

@@ -159,9 +159,9 @@ fn one_claim_routes_two_demands(rt: HostRuntime) -> Result<(), Fail> {
     assert!(rt; is_least);
     let is_least = is_least_path(alloc, &net, &FIRST, &[0], 1, &[0])?;
     assert!(rt; is_least);
-    let word = loads.add_cell(&mut pass, 0, 0);
+    let word = loads.add_cell(&mut pass, 0, 4, 0);
     assert_eq!(rt; word, 0);
-    let word = loads.add_cell(&mut pass, 1, 0);
+    let word = loads.add_cell(&mut pass, 1, 6, 0);
     assert_eq!(rt; word, 4);
     let ticket = loads.claim(&mut pass);
     assert_eq!(rt; ticket, 1);
@@ -187,7 +187,7 @@ fn one_worker_takes_the_second_link(rt: HostRuntime) -> Result<(), Fail> {
     assert_eq!(rt; read, 10);
     let is_least = is_least_path(alloc, &net, &LATER, &[0, 10], 0, &[1])?;
     assert!(rt; is_least);
-    let word = loads.add_cell(&mut pass, 0, 1);
+    let word = loads.add_cell(&mut pass, 0, 10, 1);
     assert_eq!(rt; word, 10);
     let ticket = loads.claim(&mut pass);
     assert_eq!(rt; ticket, 1);
@@ -215,9 +215,9 @@ fn one_of_two_claims_routes_two_demands(rt: HostRuntime) -> Result<(), Fail> {
     assert!(rt; is_least);
     let is_least = is_least_path(alloc, &net, &FIRST, &[0], 1, &[0])?;
     assert!(rt; is_least);
-    let word = loads.add_cell(&mut first, 0, 0);
+    let word = loads.add_cell(&mut first, 0, 4, 0);
     assert_eq!(rt; word, 0);
-    let word = loads.add_cell(&mut first, 1, 0);
+    let word = loads.add_cell(&mut first, 1, 6, 0);
     assert_eq!(rt; word, 4);
     let ticket = loads.claim(&mut first);
     assert_eq!(rt; ticket, 2);
@@ -244,7 +244,7 @@ fn one_of_two_workers_takes_the_second_link(rt: HostRuntime) -> Result<(), Fail>
     assert_eq!(rt; read, 10);
     let is_least = is_least_path(alloc, &net, &LATER, &[0, 10], 0, &[1])?;
     assert!(rt; is_least);
-    let word = loads.add_cell(&mut first, 0, 1);
+    let word = loads.add_cell(&mut first, 0, 10, 1);
     assert_eq!(rt; word, 10);
     let ticket = loads.claim(&mut first);
     assert_eq!(rt; ticket, 1);
@@ -267,7 +267,7 @@ fn one_worker_reads_all_cells(rt: HostRuntime) -> Result<(), Fail> {
     let mut reads = [0, 0];
     loads.read_all(&mut pass, &mut reads);
     assert_eq!(rt; reads, [0, 10]);
-    let word = loads.add_cell(&mut pass, 0, 1);
+    let word = loads.add_cell(&mut pass, 0, 10, 1);
     assert_eq!(rt; word, 10);
     let mut into = [0, 0];
     loads.close(pass, &mut into);
@@ -288,13 +288,13 @@ fn the_second_worker_reads_what_the_first_added(rt: HostRuntime) -> Result<(), F
     let mut reads = [0, 0];
     loads.read_all(&mut first, &mut reads);
     assert_eq!(rt; reads, [0, 10]);
-    let word = loads.add_cell(&mut first, 0, 1);
+    let word = loads.add_cell(&mut first, 0, 5, 1);
     assert_eq!(rt; word, 10);
     let ticket = loads.claim(&mut second);
     assert_eq!(rt; ticket, 1);
     loads.read_all(&mut second, &mut reads);
     assert_eq!(rt; reads, [0, 15]);
-    let word = loads.add_cell(&mut second, 1, 1);
+    let word = loads.add_cell(&mut second, 1, 5, 1);
     assert_eq!(rt; word, 15);
     loads.join(&mut first, second);
     let mut into = [0, 0];
@@ -315,7 +315,7 @@ fn one_worker_adds_along_a_path(rt: HostRuntime) -> Result<(), Fail> {
     let mut reads = [0, 0];
     loads.read_all(&mut pass, &mut reads);
     assert_eq!(rt; reads, [2, 10]);
-    loads.add_path(&mut pass, 0, &[0, 1]);
+    loads.add_path(&mut pass, 0, 4, &[0, 1]);
     let mut into = [0, 0];
     loads.close(pass, &mut into);
     assert_eq!(rt; into, [6, 14]);
@@ -335,7 +335,7 @@ fn one_of_two_workers_adds_along_a_path(rt: HostRuntime) -> Result<(), Fail> {
     let mut reads = [0, 0];
     loads.read_all(&mut first, &mut reads);
     assert_eq!(rt; reads, [2, 10]);
-    loads.add_path(&mut first, 0, &[0, 1]);
+    loads.add_path(&mut first, 0, 4, &[0, 1]);
     loads.join(&mut first, second);
     let mut into = [0, 0];
     loads.close(first, &mut into);
@@ -363,9 +363,9 @@ fn two_workers_add_to_one_cell(rt: HostRuntime) -> Result<(), Fail> {
     assert!(rt; is_least);
     let is_least = is_least_path(alloc, &net, &FIRST, &[0], 1, &[0])?;
     assert!(rt; is_least);
-    let word = loads.add_cell(&mut first, 0, 0);
+    let word = loads.add_cell(&mut first, 0, 5, 0);
     assert_eq!(rt; word, 0);
-    let word = loads.add_cell(&mut second, 1, 0);
+    let word = loads.add_cell(&mut second, 1, 5, 0);
     assert_eq!(rt; word, 5);
     let ticket = loads.claim(&mut first);
     assert_eq!(rt; ticket, 2);
@@ -393,11 +393,11 @@ fn claim_once(loads: &Loads, pass: Pass, worker: u16) -> Pass
     match loads.claim(&mut pass) {
         0 => {
             loads.read_cell(&mut pass, 0);
-            loads.add_cell(&mut pass, 0, 0);
+            loads.add_cell(&mut pass, 0, 5, 0);
         }
         1 => {
             loads.read_cell(&mut pass, 0);
-            loads.add_cell(&mut pass, 1, 0);
+            loads.add_cell(&mut pass, 1, 5, 0);
         }
         _ => {}
     }

@@ -22,6 +22,7 @@ returns-clause-search c =
       small = none-above items (length c.cells-cells.result.now) (0 * MAX_TOTAL) zeros;
       room = record {
         lengths = ap (λ (xs : List ℕ). length xs) c.in_ok-zeros-2.ensures ∙ length-replicate (length c.cells-cells.result.now) 0 ∙ cells;
+        kept = tt;
         rows = record {
           demands = c.in_ok-source_rows.ensures.demands;
           each = All-weaker (IsBlank net.nodes) (IsRoom net.nodes) (λ row b. b.room) c.in_ok-source_rows.field-0.items c.in_ok-source_rows.ensures.blank;

@@ -52,7 +52,7 @@ returns-clause-routed g c =
     let after : c.replace-2.new.dest ≡ back = c.replace-2.ensures.after in
     let new : Search = record {
       loads = with_items old.loads c.phase_with-begun.new.loads;
-      room = record { lengths = old.room.lengths; rows = c.in-Ok.rows };
+      room = record { lengths = old.room.lengths; kept = old.room.kept; rows = c.in-Ok.rows };
       hands = c.replace-2.new.dest;
       spare = c.replace-2.result;
       history = c.phase_with-begun.new.lead.3.now;
@@ -85,6 +85,7 @@ returns-clause-routed g c =
       spare = spare;
       room = record {
         lengths = c.requires.can.room.lengths;
+        kept = c.requires.can.room.kept;
         rows = subst (λ (v : _). AreRoom net v.items) (sym rows) c.requires.can.room.rows;
       };
     }

@@ -1,14 +1,13 @@
-use Rattle.std.proofs.Common.{ℕ, ◌≡◌, ◌+◌, ◌<◌, ◌++◌, List, ap, take, drop, length, sym, ◌∙◌, subst, slice_index_or, rules}
+use Rattle.std.proofs.Common.{ℕ, ◌≡◌, ◌+◌, ◌<◌, ◌++◌, List, ap, take, drop, length, sym, ◌∙◌, subst, rules}
 use Rattle.std.specs.Prelude.{All}
 use Rattle.flow_model.specs.Least.{AreDifferent}
 use Rattle.std.proofs.Math.Seq.{take-append_seam}
-use Rattle.flow_core.specs.Core.{Terms, cell_count, commodity_count, amount_of}
+use Rattle.flow_core.specs.Core.{Terms, cell_count, amount_of}
 use Rattle.load_table.specs.Reading.{OneWhere}
 use Rattle.load_table.specs.Adding.{IsReadyFor, AreMoreAlong}
 use Rattle.load_table.specs.declared.view.View.{View}
 use Rattle.load_table.specs.Rule.{words_of, HasAddedAlong}
 use Rattle.load_table.specs.Seen.{AreWordsOf}
-use Rattle.load_table.proofs.Keeps.{amount_is}
 use Rattle.load_table.proofs.Adding.{more_same}
 use Rattle.load_table.proofs.Alone.{all_added, one_inside}
 use Rattle.load_table.proofs.loads.Loads.add_along.Goals as goal
@@ -31,14 +30,14 @@ invariant_of-pass g c =
     let xs : List ℕ = c.pass.inside.own.items in
     let ys : List ℕ = c.put_along.new.own in
     let t = c.self.inside.table.shared.key in
-    let y = c.index-amount.result.now in
+    let y = c.args.amount in
     let same : v.0.view.terms ≡ t = search rules in
-    let few : c.args.k < commodity_count t = search rules in
+    let given : y ≡ amount_of t c.args.k = search rules in
     let own : AreWordsOf v.0 xs = c.pass.invariant.1 (one_inside c.args.self.now c.args.pass.now _ v.0 c.pass.view_is c.requires.of c.requires.one) in
     let told : HasAddedAlong k g.L.OfPath.path v w = c.load.ensures.2 in
     let long : length ys ≡ c.pass.inside.own.len = c.put_along.ensures.count ∙ c.deref_mut.ensures.len in
     let all : take c.pass.inside.own.len (ys ++ drop (length ys) xs) ≡ ys = ap (λ (n : ℕ). take n (ys ++ drop (length ys) xs)) (sym long) ∙ take-append_seam ys (drop (length ys) xs) in
-    let amount : y ≡ amount_of v.0.view.terms k = amount_is t c.args.k y few (c.index-amount.ensures ∙ ap (λ (zs : List ℕ). slice_index_or zs c.args.k y) c.self.invariant.sizes_are) ∙ (λ i. amount_of (sym same i) (c.requires.named i)) in
+    let amount : y ≡ amount_of v.0.view.terms k = given ∙ (λ i. amount_of (sym same i) (c.requires.named i)) in
     let was : c.deref_mut.result.now ≡ words_of v.0.seen = c.deref_mut.ensures.value ∙ own.words in
     let P : ℕ × List ℕ × List ℕ → Type 0 = λ z. AreMoreAlong z.0 z.1 z.2 ys in
     let put : AreMoreAlong (amount_of v.0.view.terms k) g.L.OfPath.path (words_of v.0.seen) ys = subst P (λ i. (amount i, c.requires.placed i, was i)) c.put_along.ensures in

@@ -1,10 +1,10 @@
-use Rattle.std.proofs.Common.{ℕ, ◌≡◌, ◌+◌, ◌%◌, ap, ◌∙◌, sym, subst, rules, arith, get_or, List, set, slice_index_or}
+use Rattle.std.proofs.Common.{ℕ, ◌≡◌, ◌+◌, ◌%◌, ap, ◌∙◌, sym, subst, rules, arith, get_or, set}
 use Rattle.flow_core.specs.Core.{amount_of, has_added, add}
-use Rattle.load_table.specs.Rule.{MayAdd, words_of, HasAdded, HasAddedAlone}
+use Rattle.load_table.specs.Rule.{words_of, HasAdded, HasAddedAlone}
 use Rattle.load_table.specs.Seen.{PassView, AreWordsOf}
 use Rattle.load_table.specs.declared.view.View.{View}
 use Rattle.load_table.specs.Views.{with_work}
-use Rattle.load_table.proofs.Keeps.{add_inside, amount_is}
+use Rattle.load_table.proofs.Keeps.{add_inside}
 use Rattle.load_table.proofs.Alone.{adds_alone, one_inside, own_count, word_at, own_after, outside}
 use Rattle.load_table.proofs.loads.Loads.add_at.Goals as goal
 
@@ -42,11 +42,9 @@ invariant_of-pass g c =
     let s : HasAdded k c.args.cell v x w = subst (λ (y : ℕ). HasAdded k c.args.cell v y w) (sym found) told.0 in
     let t = c.self.inside.table.shared.key in
     let same : v.0.view.terms ≡ t = search rules in
-    let may : MayAdd t c.args.k c.args.cell v.0.view.hands = search rules in
-    let y = c.index-amount.result.now in
-    let amount : y ≡ amount_of v.0.view.terms k =
-    amount_is t c.args.k y (add_inside t c.args.k c.args.cell v.0.view.hands may).1 (c.index-amount.ensures ∙ ap (λ (ys : List ℕ). slice_index_or ys c.args.k y) c.self.invariant.sizes_are)
-    ∙ (λ i. amount_of (sym same i) (c.requires.named i)) in
+    let y = c.args.amount in
+    let given : y ≡ amount_of t c.args.k = search rules in
+    let amount : y ≡ amount_of v.0.view.terms k = given ∙ (λ i. amount_of (sym same i) (c.requires.named i)) in
     let now : words_of w.0.seen ≡ set (words_of v.0.seen) (c.args.cell + 1) ((x + y) % 18446744073709551616) =
     told.1 ∙ (λ i. set (words_of v.0.seen) (c.args.cell + 1) ((sym found i + sym amount i) % 18446744073709551616)) in
     (c.load.ensures.2.0.rest_is ∙ c.pass.invariant.0, λ _. own_after v w xs (c.args.cell + 1) ((x + y) % 18446744073709551616) own now (ap (λ (u : View). u.terms) s.view_is) (ap (λ (u : View). u.left) s.view_is))

@@ -1,8 +1,8 @@
-use Rattle.std.proofs.Common.{rules, arith, ℕ, List, ◌+◌, ◌%◌, ◌^◌, ◌<◌, ◌≡◌, Bool, ap, sym, subst, ◌∙◌, slice_index_or}
-use Rattle.flow_core.specs.Core.{cell_count, amounts}
+use Rattle.std.proofs.Common.{rules, arith, ℕ, ◌+◌, ◌%◌, ◌^◌, ◌<◌, ◌≡◌, Bool, ap, sym, subst, ◌∙◌}
+use Rattle.flow_core.specs.Core.{cell_count, amount_of}
 use Rattle.atomic_table.specs.Table.{Allows}
 use Rattle.load_table.specs.Rule.{MayAdd, Holds, HasAdded}
-use Rattle.load_table.proofs.Keeps.{adds, add_inside, amount_is, cells_of_several}
+use Rattle.load_table.proofs.Keeps.{adds, add_inside, cells_of_several}
 use Rattle.load_table.specs.Places.{is_wide, place}
 use Rattle.load_table.specs.Seen.{shared_cells}
 use Rattle.load_table.proofs.Placing.{place-less}
@@ -20,14 +20,14 @@ fetch_add-requires g c =
     let few : c.args.cell < cell_count t = inside.0 in
     let wide = c.self.invariant.words in
     let all_cells = cells_of_several t (search rules) in
-    let amount = amount_is t c.args.k c.index-amount.result.now inside.1 (c.index-amount.ensures ∙ ap (λ (xs : List ℕ). slice_index_or xs c.args.k c.index-amount.result.now) c.self.invariant.sizes_are) in
     let k = g.J.OfCommodity.commodity in
     let cell = g.L.OfCell.cell in
-    let a = c.index-amount.result.now in
+    let a = c.args.amount in
+    let amount : a ≡ amount_of t c.args.k = search rules in
     let slots = c.self.inside.table.shared.table_id.slots in
     let id = c.pass.inside.seat.id in
     let seat = c.pass.inside.seat.me in
-    let size : a ≡ slice_index_or (amounts t) k 0 = subst (λ (n : ℕ). a ≡ slice_index_or (amounts t) n 0) c.requires.named amount in
+    let size : a ≡ amount_of t k = subst (λ (n : ℕ). a ≡ amount_of t n) c.requires.named amount in
     let all : Allows (Holds t) slots id seat (place (is_wide t) (cell + 1)) (λ m. (m + a) % 2 ^ 64) (HasAdded k cell seat) = adds t slots id k cell a seat (search rules) same may' size in
     let is : c.place_of-word.result ≡ place (is_wide t) (c.args.cell + 1) = c.place_of-word.ensures ∙ ap (λ (w : Bool). place w (c.args.cell + 1)) c.self.invariant.wide_is in
     let less = place-less (is_wide t) (c.args.cell + 1) (shared_cells t + 1) (omega arith) in
