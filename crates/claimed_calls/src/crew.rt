@@ -39,14 +39,8 @@ impl<'a, J: Job> Crew<'a, J> {
         self.ends.iter().all(|end| end.is_free())
     }
 
-    /// Whether the caller's thread had to wait for a job when jobs were last worked on: it was done with its own before a thread was with
-    /// another. No proof rests on what this tells.
-    pub fn has_waited(&self) -> bool {
-        self.ends.iter().any(|end| end.has_waited())
-    }
-
-    /// Which thread the caller's waited for last, counted from the first that was taken on, when jobs were last worked on: that was done after
-    /// all others. None where it waited for none. No proof rests on what this tells.
+    /// Which thread the caller's waited for last, counted from the first that was taken on, when jobs were last worked on: as far as the
+    /// caller's thread could see, that was done after all others. None where it waited for none. No proof rests on what this tells.
     pub fn last_waited_for(&self) -> Option<usize> {
         self.ends.iter().position(|end| end.has_waited())
     }

@@ -60,7 +60,7 @@ fn put_rates(scale: &Scale, cells: &[Cell], least: u64, into: &mut [Rate])
 }
 
 impl LengthTable {
-    ghost use Rattle.std.specs.Prelude.{◌≡◌, replicate};
+    ghost use Rattle.std.specs.Prelude.{◌≡◌, IfSome, replicate};
 
     /// The lengths under loads of 0, at which every exponent is 0.
     pub fn new(
@@ -100,6 +100,26 @@ impl LengthTable {
             rates,
             places,
         })
+    }
+
+    /// The lengths of this network under this setting: those that were kept, under the loads that they have, if their setting is the same;
+    /// or else new ones, under loads of 0. `Err` is for want of memory.
+    pub fn under(
+        alloc: Global,
+        powers: &Powers,
+        net: &Net,
+        setting: &Setting,
+        kept: Option<LengthTable>,
+    ) -> Result<Self, AllocError>
+        requires setting { IsSetting setting.now }
+        requires kept { IfSome kept (λ t. t.net ≡ net.now) }
+        ensures net { IfOk result (λ t. t.net ≡ net.now) }
+        ensures setting { IfOk result (λ t. t.setting ≡ setting.now) }
+    {
+        match kept {
+            Some(table) if table.scale.setting == *setting => Ok(table),
+            _ => LengthTable::new(alloc, powers, net, setting),
+        }
     }
 
     /// Takes other loads, one for each cell. It takes no memory. Every load is compared with the one of before; an

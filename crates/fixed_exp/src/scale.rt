@@ -14,7 +14,7 @@ const MOST_BELOW: u128 = 1 << 63;
 /// What a load is multiplied by and divided by, with the greatest load and capacity at which both products fit 64 bits.
 #[derive(Clone, Copy)]
 pub struct Scale {
-    setting: Setting,
+    pub(crate) setting: Setting,
     over: u128,
     under: u64,
     most_load: u64,

@@ -19,7 +19,7 @@ use Rattle.dual_bound.specs.Bounds.{IsLesser}
 use Rattle.dual_bound.specs.Rows.{AreRoom}
 use Rattle.flow_solver.specs.declared.search.Search.{Search}
 use Rattle.flow_solver.specs.declared.search.BoundRoom.{BoundRoom}
-use Rattle.flow_solver.specs.declared.followed.Followed.{Followed}
+use Rattle.fixed_exp.specs.LoadedNetwork.{LoadedNetwork}
 
 -- hand k between two phases on this network: its number, no turn, a scratch for so many nodes, and room of the network, or none yet
 abbrev pub IsIdle : Network → ℕ → Hand → Type 0
@@ -46,13 +46,13 @@ abbrev pub phase_count : Search → ℕ
 phase_count s = length s.history.history + 1
 
 -- lengths of this network
-abbrev pub IsFollowedOn : Network → Followed → Type 0
-IsFollowedOn net f = f.table.net ≡ net
+abbrev pub IsLengthTableOf : Network → LoadedNetwork → Type 0
+IsLengthTableOf net t = t.net ≡ net
 
 -- room for a length a cell, lengths of the network from an earlier bound, or none yet, and room for a row a source
 pub record IsBoundRoom (net : Network) (room : BoundRoom) : Type 0 where
   pub lengths : length room.lengths.items ≡ length net.cells
-  pub kept : IfSome room.kept (IsFollowedOn net)
+  pub kept : IfSome room.kept (IsLengthTableOf net)
   pub rows : AreRoom net room.rows.items
 
 -- the loads are those after these phases, with room for bounds and two hands for each worker; rows and entries belong together

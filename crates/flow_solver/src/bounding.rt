@@ -5,7 +5,7 @@ ghost use Rattle.flow_solver.specs.Adding.{CanBeNoted, CanNote, HasNoted, IsNote
 ghost use Rattle.flow_solver.specs.Search.{CanAddPhase, CanBeBounded, CanNoteAndBound, HasAdded, HasNotedSpare, IsBoundRoom, IsLesserUnder, KeepsLoadsAndHands};
 
 use crate::filling::bound_with;
-use crate::followed::Followed;
+use crate::following::put_lengths;
 use crate::noting::note_routes_of;
 use crate::places::places_of;
 use crate::prepared::{Prepared, Run, Task};
@@ -45,7 +45,7 @@ pub(crate) fn bound_of<R: Threads + Sync>(
         kept,
         rows,
     } = room;
-    Followed::put_lengths(alloc, on, setting, loads, kept, lengths)?;
+    put_lengths(alloc, on, setting, loads, kept, lengths)?;
     lesser_in(team, alloc, on.net, on.graph, lengths, rows, earlier)
 }
 

@@ -6,9 +6,9 @@ ghost use Rattle.flow_model.specs.Lengths.{AreLengths};
 ghost use Rattle.fixed_exp.specs.Far.{EmptyAreFar};
 ghost use Rattle.dual_bound.specs.Bounds.{IsLesser};
 ghost use Rattle.dual_bound.specs.Rows.{HasDistances, IsRoom, demands_in, demands_of};
-ghost use Rattle.flow_solver.specs.Search.{CanBeBounded, IsBoundRoom, IsFollowedOn, IsLesserUnder};
+ghost use Rattle.flow_solver.specs.Search.{CanBeBounded, IsBoundRoom, IsLengthTableOf, IsLesserUnder};
 
-use crate::followed::Followed;
+use crate::following::put_lengths;
 use crate::pace::Split;
 use crate::parts::{append_parts, parts_of};
 use crate::prepared::Task;
@@ -64,7 +64,7 @@ fn bound_after(
 ) -> Result<Bounded, AllocError>
     requires lengths { AreLengths net.now.cells (arc_value lengths).items }
     requires empty { EmptyAreFar net.now.cells (arc_value lengths).items }
-    requires kept { IfSome room.old.kept (IsFollowedOn net.now) }
+    requires kept { IfSome room.old.kept (IsLengthTableOf net.now) }
     requires demands { demands_of room.old.rows.items ≡ demands_in net.now }
     requires distances { All (HasDistances net.now (arc_value lengths).items) room.old.rows.items }
     ensures room { OnOk result (IsBoundRoom net.now room.new) }
@@ -97,7 +97,7 @@ pub(crate) fn bound_with<'a, G: Gate, T, F: FnMut() -> T>(
 {
     let alloc = task.alloc;
     let on = task.on;
-    let put = Followed::put_lengths(
+    let put = put_lengths(
         alloc,
         on,
         &task.setting,

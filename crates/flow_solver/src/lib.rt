@@ -5,7 +5,7 @@
 mod bounding;
 mod entries;
 mod filling;
-mod followed;
+mod following;
 mod hands;
 mod history;
 mod leading;

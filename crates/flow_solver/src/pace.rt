@@ -41,10 +41,7 @@ pub struct Pace {
 impl Split {
     /// How many rows thread i has.
     pub(crate) fn rows_of(&self, i: usize) -> usize {
-        match self.sizes.get(i) {
-            Some(size) if i < self.threads => *size,
-            _ => 0,
-        }
+        self.sizes.get(i).copied().unwrap_or(0)
     }
 }
 
@@ -79,12 +76,12 @@ impl Pace {
         }
     }
 
-    /// After the routing: more commodities are noted beside it, where the caller's thread had to wait for another one, and fewer where the
-    /// others were done before.
-    pub(crate) fn after_routing(self, has_waited: bool) -> Self {
+    /// After the routing: more commodities are noted beside it, where that left the caller's thread time, and fewer where the others had routed
+    /// all before.
+    pub(crate) fn after_routing(self, had_time: bool) -> Self {
         let weights = self.weights;
         Pace {
-            first: moved(self.first, has_waited, PARTS),
+            first: moved(self.first, had_time, PARTS),
             own: self.own,
             weights,
         }
@@ -131,8 +128,8 @@ fn sizes_of(rows: usize, weights: &[u32; OTHERS], threads: usize) -> [usize; OTH
     sizes
 }
 
-/// The weights after a bound: less for the thread that was done last, unless it is at the least already, and as much more for all others
-/// together.
+/// The weights after a bound: less for the thread that was done last, unless that would bring it below the least, and as much more for all
+/// others together.
 fn shifted(weights: [u32; OTHERS], threads: usize, last: Option<usize>) -> [u32; OTHERS] {
     let threads = threads.min(OTHERS);
     let Some(last) = last else {

@@ -13,7 +13,6 @@ ghost use Rattle.flow_solver.specs.Adding.{CanNote, HasBegun, HasNoted};
 ghost use Rattle.flow_solver.specs.Search.{CanAddPhase, CanRoute, IsRouted, IsRoutedByCrew, IsSearch, phase_count};
 
 use crate::PathHistory;
-use crate::followed::Followed;
 use crate::hands::{forget_all, forget_turns, new_hands};
 use crate::noted::Sought;
 use crate::noting::{name_routes_of, note_routes_of};
@@ -23,6 +22,7 @@ use crate::share::Share;
 use crate::turn::{take_all, trees_of};
 use claimed_calls::Crew;
 use dual_bound::{Row, source_rows};
+use fixed_exp::LengthTable;
 use flow_model::Net;
 use load_table::Loads;
 use mcf_base::Gate;
@@ -39,7 +39,7 @@ use std::thread::Threads;
 #[derive(Drop)]
 pub struct BoundRoom {
     pub lengths: Vec<u64>,
-    pub kept: Option<Followed>,
+    pub kept: Option<LengthTable>,
     pub rows: Vec<Row>,
 }
 
@@ -279,6 +279,14 @@ fn phase_with<'a, G: Gate, R: Threads + Sync, T, F: FnMut() -> T>(
     }
 }
 
+/// Whether the caller's thread, whose turn is the last one, has routed something.
+fn has_routed(hands: &[Hand]) -> bool {
+    match hands.last() {
+        Some(hand) => hand.routes.len() > 0,
+        None => false,
+    }
+}
+
 /// As `route`, with a crew in whose threads the hands take their turns; meanwhile the first commodities of the phase before are
 /// noted, whose entries stand in `entries` then. `Err` is for want of memory, or where the crew gave up or a turn shares the rows still,
 /// which no run does; and then the search can't go on.
@@ -319,6 +327,8 @@ pub(crate) fn route_with<'a, G: Gate, R: Threads + Sync>(
         return Err(AllocError);
     };
     search.room.rows = rows;
-    search.pace = search.pace.after_routing(crew.has_waited());
+    let has_waited = crew.last_waited_for().is_some();
+    let had_time = has_waited || has_routed(&search.hands);
+    search.pace = search.pace.after_routing(had_time);
     Ok(())
 }

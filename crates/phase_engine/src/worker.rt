@@ -65,7 +65,7 @@ fn route_ticket(
     requires group { g < group_count input.now.net.now }
     requires network { IsNetwork input.now.net.now }
     requires loads { loads.now.terms.net ≡ input.now.net.now }
-    requires room { IsRoomOf input.now.net.now room.old × (room.old.setting ≡ loads.now.terms.setting) }
+    requires room { IsRoomOf input.now.net.now room.old × (room.old.lengths.setting ≡ loads.now.terms.setting) }
     requires nodes { scratch.old.nodes ≡ input.now.net.now.nodes }
     requires no_cut { HasNoCut input.now.net.now }
     requires paths { length (members_of input.now.net.now g) ≤ buffer.old.paths }
@@ -78,7 +78,7 @@ fn route_ticket(
     ensures routes { let routes = routes_to input.now.net.now scratch.new (members_of input.now.net.now g) in
         (buffer.new.routes ≡ buffer.old.routes ++ routes)
         × (routes ≡ routes_in input.now.net.now (entry g room.new.loads.items (adds_of routes))) }
-    ensures room { IsRoomOf input.now.net.now room.new × (room.new.setting ≡ room.old.setting) }
+    ensures room { IsRoomOf input.now.net.now room.new × (room.new.lengths.setting ≡ room.old.lengths.setting) }
     ensures scratch { (scratch.new.nodes ≡ scratch.old.nodes) × (scratch.new.cells ≡ scratch.old.cells) }
 {
     loads.read_all(pass, &mut room.loads);
@@ -115,7 +115,7 @@ fn claim_all<G: Watch>(
     requires routes { buffer.old.routes ≡ [] }
     requires loads { shared.now.loads.now.terms.net ≡ shared.now.input.now.net.now }
     requires room { IsRoomOf shared.now.input.now.net.now room.old
-        × (room.old.setting ≡ shared.now.loads.now.terms.setting) }
+        × (room.old.lengths.setting ≡ shared.now.loads.now.terms.setting) }
     requires nodes { scratch.old.nodes ≡ shared.now.input.now.net.now.nodes }
     requires no_cut { HasNoCut shared.now.input.now.net.now }
     ensures of { IsPassOf shared.now.loads.now pass.new }

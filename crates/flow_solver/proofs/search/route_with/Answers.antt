@@ -36,8 +36,8 @@ phase_with-begun-requires-clause-fresh g c κs within =
     subst (λ (hs : List Hand). (k : ℕ) (d : Hand) → k < length hs → IsFresh net k (get_or hs k d)) (sym now)
     (fresh-hands net c.deref_mut.result.now c.forget_all.new.hands (subst (AreIdle net) (sym c.deref_mut.ensures.value) c.requires.can.can.hands.spare) (omega arith) c.forget_all.ensures)
 
-pub has_waited-requires-send-J : goal.has_waited-requires-send-J
-has_waited-requires-send-J g c κs within = param_send 0 _ (arg_send _ no _ (share-send _ _ (param_sync 0 _ c.type_bounds.sync-G)))
+pub last_waited_for-requires-send-J : goal.last_waited_for-requires-send-J
+last_waited_for-requires-send-J g c κs within = param_send 0 _ (arg_send _ no _ (share-send _ _ (param_sync 0 _ c.type_bounds.sync-G)))
 
 pub returns-clause-routed : goal.returns-clause-routed
 returns-clause-routed g c =

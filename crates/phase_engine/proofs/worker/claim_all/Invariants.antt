@@ -12,7 +12,7 @@ invariant-claims g l = record {
   made : l.pass.view.made ≡ l.fn.pass.view.made;
   going : IsGoing l.shared.loads.now.terms l.worker l.pass.view.hands l.buffer.routes;
   room : IsRoomOf l.shared.input.now.net.now l.room;
-  setting : l.room.setting ≡ l.shared.loads.now.terms.setting;
+  setting : l.room.lengths.setting ≡ l.shared.loads.now.terms.setting;
   nodes : l.scratch.nodes ≡ l.fn.scratch.nodes;
   cells : l.scratch.cells ≡ l.fn.scratch.cells;
 }

@@ -60,7 +60,7 @@ returns-clause-complete c =
     let is = with_items_is c.args.room.now.loads c.read_all.new.reads (omega (arith, c.read_all.auto.reads, c.deref_mut.ensures.len)) in
     let all : length reads ≡ length net.cells = ap (λ (xs : List ℕ). length xs) is ∙ omega (arith, c.read_all.auto.reads, c.requires.room.0.0, c.deref_mut.ensures.len) in
     let n : c.update.new.self.net ≡ net = c.update.ensures.net ∙ c.requires.room.0.1 in
-    let set : c.update.new.self.setting ≡ t.setting = c.update.ensures.setting ∙ (c.args.room.now.setting_is ∙ c.requires.room.1) in
+    let set : c.update.new.self.setting ≡ t.setting = c.update.ensures.setting ∙ c.requires.room.1 in
     let loads : c.update.new.self.loads ≡ reads = c.update.ensures.loads ∙ c.as_slice.ensures.value in
     let under : c.lengths.result.now ≡ lengths_of net t.setting reads = c.lengths.ensures.value ∙ (λ i. lengths_of (n i) (set i) (loads i)) in
     complete-entry t net c.lengths.result.now c.args.g s reads c.requires.loads c.requires.network c.requires.no_cut search nodes all under
