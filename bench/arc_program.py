@@ -11,10 +11,10 @@ import numpy as np
 from scipy.optimize import linprog
 from scipy.sparse import coo_matrix, csc_matrix, vstack
 
-sys.path.insert(0, str(Path(__file__).resolve().parents[1] / "tools"))
+sys.path.insert(0, str(Path(__file__).resolve().parents[1] / "python"))
 
-from certify_lp.clp import Model, load_clp  # noqa: E402
-from mcf_texts import ScaledNetwork  # noqa: E402
+from mcf import ScaledNetwork  # noqa: E402
+from mcf.lp.clp import Model, load_clp  # noqa: E402
 
 
 @dataclass(frozen=True)

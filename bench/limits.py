@@ -7,9 +7,9 @@ from collections import deque
 from dataclasses import replace
 from pathlib import Path
 
-sys.path.insert(0, str(Path(__file__).resolve().parents[1] / "tools"))
+sys.path.insert(0, str(Path(__file__).resolve().parents[1] / "python"))
 
-from mcf_texts import Network  # noqa: E402
+from mcf import Network  # noqa: E402
 
 
 def with_few_more(network: Network, more: int) -> Network:

@@ -8,10 +8,10 @@ from dataclasses import replace
 from fractions import Fraction
 from pathlib import Path
 
-from certify_lp.kinds import SOLVE, Kind
-from certify_lp.run import Begun, Request
-from certify_lp.start import Source
-from mcf_texts import Certificate, Network, Program, Routing, ScaledNetwork
+from mcf import Certificate, Network, Program, Routing, ScaledNetwork
+from mcf.lp.kinds import SOLVE, Kind
+from mcf.lp.run import Begun, Request
+from mcf.lp.start import Source
 
 
 def asked(net: Path, **options: object) -> Request:

@@ -1,4 +1,4 @@
-"""What the tests share: the packages under tools/, the program, and the repository's examples."""
+"""What the tests share: the package under python/, the program, and the repository's examples."""
 
 from __future__ import annotations
 
@@ -9,9 +9,9 @@ from pathlib import Path
 import pytest
 
 ROOT = Path(__file__).resolve().parents[2]
-sys.path[:0] = [str(ROOT / "tools"), str(ROOT / "bench")]
+sys.path[:0] = [str(ROOT / "python"), str(ROOT / "bench")]
 
-from mcf_texts import Program, find_program  # noqa: E402
+from mcf import Program, find_program  # noqa: E402
 
 
 @pytest.fixture(scope="session")

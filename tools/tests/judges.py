@@ -6,8 +6,8 @@ from collections import Counter
 from fractions import Fraction
 from typing import Callable
 
-from mcf_texts import (Certificate, HopCertificate, ScaledNetwork, TextError, TotalCertificate, cells_of_path, lengths, loads, lower,
-                       nodes_of_walk, rounded_down, rounded_up, upper)
+from mcf import (Certificate, HopCertificate, ScaledNetwork, TextError, TotalCertificate, cells_of_path, lengths, loads, lower,
+                 nodes_of_walk, rounded_down, rounded_up, upper)
 
 
 def judged(scaled: ScaledNetwork, certificate: Certificate) -> str:

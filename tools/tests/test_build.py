@@ -11,9 +11,9 @@ from pathlib import Path
 
 import pytest
 
-from mcf_build.copying import copy_below
-from mcf_build.crates import Crate, crates_below
-from mcf_build.progress import Progress
+from mcf.build.copying import copy_below
+from mcf.build.crates import Crate, crates_below
+from mcf.build.progress import Progress
 
 FAKE = """#!/bin/sh
 echo "$*: $(echo $(cat crates.txt | tr -d '\\n')), $(echo $(ls crates))" >>"$RT_CALLS"
@@ -36,7 +36,7 @@ echo "2 passed, 0 failed"
 def clone(tmp_path: Path, root: Path, monkeypatch: pytest.MonkeyPatch) -> Path:
     """A repository of two small crates with the starter, and an rt on the path that makes a program of one line."""
     top = tmp_path / "clone"
-    shutil.copytree(root / "tools", top / "tools", ignore=shutil.ignore_patterns("__pycache__"))
+    shutil.copytree(root / "python", top / "python", ignore=shutil.ignore_patterns("__pycache__"))
     shutil.copy(root / "mcf", top / "mcf")
     shutil.copy(root / "VERSION", top / "VERSION")
     (top / "crates.txt").write_text("# two, and one that no program needs\nmcf_limits:\nmcf: mcf_limits clap\ncases: mcf_limits\n")
@@ -167,7 +167,7 @@ def test_a_link_to_the_starter_serves(clone: Path) -> None:
 
 
 def test_progress_that_fails_does_not_stop_the_build(clone: Path) -> None:
-    (clone / "tools/mcf_build/progress.py").write_text("def Progress(*words):\n    raise SystemExit(1)\n")
+    (clone / "python/mcf/build/progress.py").write_text("def Progress(*words):\n    raise SystemExit(1)\n")
     status, out, err = run(clone, "x")
     assert (status, out, err.count("\n")) == (0, "built x\n", 1)
 

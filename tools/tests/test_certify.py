@@ -9,19 +9,19 @@ from pathlib import Path
 import numpy as np
 import pytest
 
-from certify_lp import clp, run
-from certify_lp.build import gap_of, in_form
-from certify_lp.path_lp import FractionProgram
-from certify_lp.pool import Pool, complete
-from certify_lp.prices import Bounds
-from certify_lp.problem import Arcs, pairs_of
-from certify_lp.rounding import Rounding
-from certify_lp.run import certify
-from certify_lp.search import AllPaths
-from certify_lp.start import simple
+from mcf.lp import clp, run
+from mcf.lp.build import gap_of, in_form
+from mcf.lp.path_lp import FractionProgram
+from mcf.lp.pool import Pool, complete
+from mcf.lp.prices import Bounds
+from mcf.lp.problem import Arcs, pairs_of
+from mcf.lp.rounding import Rounding
+from mcf.lp.run import certify
+from mcf.lp.search import AllPaths
+from mcf.lp.start import simple
 from certified import asked, bounds, command, unlimited
-from mcf_texts import (Certificate, Demand, Link, Network, Node, Program, TextError, load_text, read_certificate, save_text, scale,
-                       write_certificate, write_network)
+from mcf import (Certificate, Demand, Link, Network, Node, Program, TextError, load_text, read_certificate, save_text, scale,
+                 write_certificate, write_network)
 from networks import arc_optimum, near, odd_network
 
 SIX = ("abilene", "polska", "nobel-us", "geant", "germany50", "ta2")

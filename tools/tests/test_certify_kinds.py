@@ -12,19 +12,19 @@ import pytest
 from scipy.sparse import csc_matrix
 
 from certified import asked, bounds, command, unlimited, with_limits
-from certify_lp import clp, run
-from certify_lp.kinds import HOPS, SOLVE, THROUGHPUT, Kind
-from certify_lp.near import near_fractions
-from certify_lp.prices import TotalBounds
-from certify_lp.problem import UNLIMITED, Arcs, pairs_of
-from certify_lp.run import Request, Result, certify
-from certify_lp.search import WithinLimits
-from certify_lp.total_rounding import TotalRounding
+from mcf.lp import clp, run
+from mcf.lp.kinds import HOPS, SOLVE, THROUGHPUT, Kind
+from mcf.lp.near import near_fractions
+from mcf.lp.prices import TotalBounds
+from mcf.lp.problem import UNLIMITED, Arcs, pairs_of
+from mcf.lp.run import Request, Result, certify
+from mcf.lp.search import WithinLimits
+from mcf.lp.total_rounding import TotalRounding
 from judges import judged
 from limits import with_few_more
-from mcf_texts import (LINK_MODES, Certificate, Demand, HopCertificate, Link, Network, Node, Program, Routing, TextError,
-                       TotalCertificate, load_text, lower, nodes_of_walk, read_any, read_certificate, save_text, scale,
-                       write_certificate, write_network, write_routing)
+from mcf import (LINK_MODES, Certificate, Demand, HopCertificate, Link, Network, Node, Program, Routing, TextError,
+                 TotalCertificate, load_text, lower, nodes_of_walk, read_any, read_certificate, save_text, scale,
+                 write_certificate, write_network, write_routing)
 from networks import odd_network
 
 OTHERS = (HOPS, THROUGHPUT)

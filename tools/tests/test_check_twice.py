@@ -2,14 +2,16 @@
 
 from __future__ import annotations
 
+import re
 import subprocess
+import sys
 from collections import Counter
 from pathlib import Path
 
 import pytest
 
 from damage import damaged
-from mcf_texts import Program, load_text, save_text
+from mcf import Program, load_text, save_text
 
 NET = """?SNDlib native format; type: network; version: 1.0
 META ( a ( b ) )
@@ -167,7 +169,8 @@ def test_form_2_is_judged(root: Path, tmp_path: Path) -> None:
 def test_it_stands_alone_and_is_short(root: Path) -> None:
     source = load_text(root / "tools/check_twice")
     assert source.count("\n") < 200
-    assert "mcf_texts" not in source and "certify_lp" not in source
+    imported = set(re.findall(r"^\s*(?:from|import) (\w+)", source, re.M))
+    assert imported <= sys.stdlib_module_names and "sys.path" not in source
 
 
 def test_missing_file_is_one_line(root: Path) -> None:

@@ -9,10 +9,10 @@ from pathlib import Path
 
 import pytest
 
-from mcf_convert import work
-from mcf_convert.model import Notes, Refused
-from mcf_convert.work import Task
-from mcf_texts import Program
+from mcf import Program
+from mcf.convert import work
+from mcf.convert.model import Notes, Refused
+from mcf.convert.work import Task
 
 ROOT = Path(__file__).resolve().parents[2]
 CONVERT = ROOT / "tools/convert"

@@ -7,7 +7,7 @@ import re
 import subprocess
 from pathlib import Path
 
-from mcf_texts import Program
+from mcf import Program
 
 
 def typed(page: str) -> list[tuple[str, str]]:
@@ -29,7 +29,7 @@ def typed(page: str) -> list[tuple[str, str]]:
 
 
 def test_the_page_says_what_happens(program: Program, root: Path, tmp_path: Path) -> None:
-    for name in ("tools", "examples"):
+    for name in ("tools", "python", "examples"):
         (tmp_path / name).symlink_to(root / name)
     (tmp_path / "mcf").symlink_to(program.path)
     environment = {**os.environ, "MCF": program.path}

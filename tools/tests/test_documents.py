@@ -8,11 +8,11 @@ from pathlib import Path
 
 import pytest
 
-from mcf_hints.words import COMMANDS as WORDS
-from mcf_hints.words import OPTIONS
-from mcf_texts import Program
+from mcf import Program
+from mcf.hints.words import COMMANDS as WORDS
+from mcf.hints.words import OPTIONS
 
-STARTER = '#!/bin/sh\nhere={root}\n. "$here/tools/mcf_hints/starter.sh"\nanswer_help "$@"\nprogram={program}\nrun_program "$@"\n'
+STARTER = '#!/bin/sh\nhere={root}\n. "$here/python/mcf/hints/starter.sh"\nanswer_help "$@"\nprogram={program}\nrun_program "$@"\n'
 
 
 def sessions(text: str) -> list[tuple[str, str]]:
@@ -26,7 +26,7 @@ def sessions(text: str) -> list[tuple[str, str]]:
 @pytest.fixture
 def room(program: Program, root: Path, tmp_path: Path) -> Path:
     """A folder as the top of the repository, with a starter that builds nothing."""
-    for name in ("examples", "tools", "docs", "VERSION"):
+    for name in ("examples", "python", "tools", "docs", "VERSION"):
         (tmp_path / name).symlink_to(root / name)
     (tmp_path / "mcf").write_text(STARTER.format(root=root, program=program.path))
     (tmp_path / "mcf").chmod(0o755)

@@ -11,11 +11,11 @@ from pathlib import Path
 
 import pytest
 
-from mcf_hints.hint import USAGE, hint
-from mcf_hints.netfile import kind_of
-from mcf_hints.table import TABLE
-from mcf_hints.words import COMMANDS, ONE_WORKER_OPTIONS, OPTIONS, Command, Misfit, read, shown
-from mcf_texts import Program
+from mcf import Program
+from mcf.hints.hint import USAGE, hint
+from mcf.hints.netfile import kind_of
+from mcf.hints.table import TABLE
+from mcf.hints.words import COMMANDS, ONE_WORKER_OPTIONS, OPTIONS, Command, Misfit, read, shown
 
 HEADER = b"?SNDlib native format; type: network; version: 1.0\n"
 NET = HEADER + b"""NODES (
@@ -190,7 +190,7 @@ def test_commands_and_options_are_those_of_the_formats(root: Path) -> None:
 
 
 def test_help_pages_have_all_commands_and_options(root: Path) -> None:
-    pages = {file.stem: file.read_text() for file in (root / "tools/mcf_hints/help").iterdir()}
+    pages = {file.stem: file.read_text() for file in (root / "python/mcf/hints/help").iterdir()}
     assert set(pages) == {"mcf", *COMMANDS}
     for name, command in COMMANDS.items():
         assert pages[name].startswith(f"usage: mcf {name} {command.taken}"), name
@@ -415,7 +415,7 @@ def test_a_second_run_that_ends_otherwise_is_not_believed(tmp_path: Path) -> Non
 
 
 def test_a_second_run_has_a_time_limit(tmp_path: Path, monkeypatch: pytest.MonkeyPatch) -> None:
-    monkeypatch.setattr("mcf_hints.told.SECONDS", 0.2)
+    monkeypatch.setattr("mcf.hints.told.SECONDS", 0.2)
     program = tmp_path / "program"
     program.write_text("#!/bin/sh\nexec sleep 30\n")
     program.chmod(0o755)
@@ -502,7 +502,7 @@ CASES = Path(__file__).resolve().parents[2] / "cases"
 @pytest.mark.parametrize("to_file", [True, False])
 def test_cases_through_the_starter(program: Program, root: Path, tmp_path: Path, to_file: bool) -> None:
     starter = tmp_path / "starter"
-    starter.write_text(f'#!/bin/sh\nhere={root}\n. "$here/tools/mcf_hints/starter.sh"\nprogram={program.path}\nrun_program "$@"\n')
+    starter.write_text(f'#!/bin/sh\nhere={root}\n. "$here/python/mcf/hints/starter.sh"\nprogram={program.path}\nrun_program "$@"\n')
     starter.chmod(0o755)
     env = {**os.environ, "MCF_HINTS": "1", "examples": str(root / "examples")}
     hinted = 0

@@ -9,7 +9,7 @@ from pathlib import Path
 
 import pytest
 
-from mcf_texts import Program
+from mcf import Program
 
 ROOT = Path(__file__).resolve().parents[2]
 HOUR = ROOT / "docs/hour.md"
@@ -18,7 +18,7 @@ BLOCK = re.compile(r"```text\n(.*?)```", re.DOTALL)
 
 def room_of(program: Program, room: Path) -> Path:
     """A folder that is like the top of the repository, with the program in the starter's place."""
-    for name, target in (("tools", ROOT / "tools"), ("examples", ROOT / "examples"), ("mcf", Path(program.path))):
+    for name, target in (("tools", ROOT / "tools"), ("python", ROOT / "python"), ("examples", ROOT / "examples"), ("mcf", Path(program.path))):
         (room / name).symlink_to(target)
     return room
 

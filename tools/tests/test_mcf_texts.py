@@ -1,4 +1,4 @@
-"""The package mcf_texts: rows, numbers, cells, certificates and routings, and the values of both."""
+"""The package mcf: rows, numbers, cells, certificates and routings, and the values of both."""
 
 from __future__ import annotations
 
@@ -7,12 +7,12 @@ from pathlib import Path
 
 import pytest
 
-from mcf_texts import (Demand, HopCertificate, Layer, Link, Module, Network, Node, Program, TextError, TotalCertificate, cells_of_path,
-                       decimal_of, excess, find_program, fraction_of, judge_of, load_text, loads, lower, millionths_of, nodes_of_walk,
-                       read_any, read_certificate, read_hops, read_network, read_routing, read_throughput, rounded_down, rounded_up,
-                       routed, scale, shares_of_bound, true_gap, upper, utilisation, volume, weighted_distance, whole_of,
-                       write_certificate, write_network, write_routing)
-from mcf_texts.graph import graph_of
+from mcf import (Demand, HopCertificate, Layer, Link, Module, Network, Node, Program, TextError, TotalCertificate, cells_of_path,
+                 decimal_of, excess, find_program, fraction_of, judge_of, load_text, loads, lower, millionths_of, nodes_of_walk,
+                 read_any, read_certificate, read_hops, read_network, read_routing, read_throughput, rounded_down, rounded_up,
+                 routed, scale, shares_of_bound, true_gap, upper, utilisation, volume, weighted_distance, whole_of,
+                 write_certificate, write_network, write_routing)
+from mcf.graph import graph_of
 
 HEAD = "?SNDlib native format; type: network; version: 1.0\n"
 ROWS = ("NODES (\n  A ( 1.5 -2 )\n  B ( )\n  \xe9\x85\xa0C\n)\nLINKS (\n  L1 ( A B ) 1.0E1 0.00 x y ( .5 7 3 k )\n  L2 ( B A ) 5. 0 0 0 ( )\n)\n"

@@ -13,8 +13,8 @@ from pathlib import Path
 
 import pytest
 
-from mcf_release.archive import archive, built_program, files_of, is_for_this_kind, try_archive, version_of
-from mcf_texts import Program, TextError
+from mcf import Program, TextError
+from mcf.release.archive import archive, built_program, files_of, is_for_this_kind, try_archive, version_of
 
 STANDS_IN = Path("/bin/true")
 
@@ -32,8 +32,9 @@ def test_archive_has_what_a_receiver_needs(root: Path, tmp_path: Path) -> None:
     top = unpacked(data, tmp_path)
     assert top.name == name == f"mcf-{version_of(root)}-x86_64-linux"
     for file in ("mcf", "program/mcf", "docs/mcf.1", "docs/guide.md", "docs/formats.md", "LICENSE-APACHE", "LICENSE-MIT", "README.md",
-                 "VERSION", "SHA256SUMS", "tools/mcf_hints/starter.sh", "tools/mcf_hints/help/solve.txt", "tools/mcf_hints/__main__.py",
-                 "tools/mcf_texts/network.py", "examples/polska.net", "examples/polska.cert"):
+                 "VERSION", "SHA256SUMS", "python/mcf/hints/starter.sh", "python/mcf/hints/help/solve.txt",
+                 "python/mcf/hints/__main__.py", "python/mcf/__init__.py", "python/mcf/network.py", "python/mcf/graph.py",
+                 "tools/mcf_texts/__init__.py", "tools/mcf_texts/graph.py", "examples/polska.net", "examples/polska.cert"):
         assert (top / file).is_file(), file
     assert (top / "program/mcf").read_bytes() == STANDS_IN.read_bytes()
     programs = {str(file.relative_to(top)) for file in top.rglob("*") if file.is_file() and file.stat().st_mode & 0o111}

@@ -1,4 +1,4 @@
-"""`tools/report` and mcf_report: figures by hand, sentences, tables, and pages in a browser."""
+"""`tools/report` and mcf.report: figures by hand, sentences, tables, and pages in a browser."""
 
 from __future__ import annotations
 
@@ -13,9 +13,7 @@ from pathlib import Path
 import pytest
 
 import browser
-from mcf_report import drawing, layout, page, sentences, shown, tables
-from mcf_report.figures import Figures
-from mcf_texts import (
+from mcf import (
     Certificate,
     Length,
     Network,
@@ -28,6 +26,8 @@ from mcf_texts import (
     read_network,
     scale,
 )
+from mcf.report import drawing, layout, page, sentences, shown, tables
+from mcf.report.figures import Figures
 
 ROOT = Path(__file__).resolve().parents[2]
 REPORT = ROOT / "tools/report"
@@ -267,7 +267,7 @@ def test_flows_of_paths_sum_to_loads_of_links():
 
 def _network(name: str) -> Network:
     """An example, without the program: comments and other sections cut out, and words one space apart."""
-    from mcf_convert.native import tokens  # pylint: disable=import-outside-toplevel
+    from mcf.convert.native import tokens  # pylint: disable=import-outside-toplevel
 
     text = tokens(name, (EXAMPLES / f"{name}.net").read_bytes().partition(b"\n")[2])
     words = [word for word, _ in text.rest]

@@ -10,12 +10,12 @@ from pathlib import Path
 import networkx
 import pytest
 
-from mcf_texts import (Demand, Link, Network, Node, Program, TextError, lower, read_routing, save_text, scale, write_network)
+from mcf import (Demand, Link, Network, Node, Program, TextError, lower, read_routing, save_text, scale, write_network)
 from networks import odd_network
-from route_paths.lengths import whole_lengths
-from route_paths.run import METHODS, Question, route
-from route_paths.shortest import Ways
-from route_paths.whole import in_units, phases_for
+from mcf.route.lengths import whole_lengths
+from mcf.route.run import METHODS, Question, route
+from mcf.route.shortest import Ways
+from mcf.route.whole import in_units, phases_for
 
 
 def asked(net: Path, by: str, **options: object) -> Question:

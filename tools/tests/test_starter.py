@@ -12,9 +12,9 @@ from pathlib import Path
 
 import pytest
 
-from mcf_texts import Program
+from mcf import Program
 
-RUN = '#!/bin/sh\nhere={root}\n. "$here/tools/mcf_hints/starter.sh"\nanswer_help "$@"\nprogram={program}\nrun_program "$@"\n'
+RUN = '#!/bin/sh\nhere={root}\n. "$here/python/mcf/hints/starter.sh"\nanswer_help "$@"\nprogram={program}\nrun_program "$@"\n'
 HINTS = {"0": {"MCF_HINTS": "0"}, "1": {"MCF_HINTS": "1"}}
 
 
@@ -61,7 +61,7 @@ def begun(words: list[str], hints: str) -> subprocess.Popen:
 def test_help_is_the_page(starter, root: Path, words: list[str], page: str) -> None:
     ran = run([starter("#!/bin/sh\nexit 9\n"), *words], "0")
     assert (ran.returncode, ran.stderr) == (0, b"")
-    assert ran.stdout == (root / f"tools/mcf_hints/help/{page}.txt").read_bytes()
+    assert ran.stdout == (root / f"python/mcf/hints/help/{page}.txt").read_bytes()
 
 
 def test_version_is_that_of_the_one_file(starter, root: Path) -> None:
@@ -128,10 +128,10 @@ def test_hint_where_standard_error_is_a_terminal(starter, value: str | None, is_
 def test_without_python_or_setpriv_there_is_no_hint(starter, root: Path, tmp_path: Path, was: str) -> None:
     made = Path(starter("#!/bin/sh\necho usage\nexit 2\n"))
     other = tmp_path / "other"
-    (other / "tools/mcf_hints").mkdir(parents=True)
-    text = (root / "tools/mcf_hints/starter.sh").read_text()
+    (other / "python/mcf/hints").mkdir(parents=True)
+    text = (root / "python/mcf/hints/starter.sh").read_text()
     assert was in text
-    (other / "tools/mcf_hints/starter.sh").write_text(text.replace(was, "/nothing/is/here"))
+    (other / "python/mcf/hints/starter.sh").write_text(text.replace(was, "/nothing/is/here"))
     made.write_text(made.read_text().replace(f"here={root}", f"here={other}"))
     ran = run([str(made), "solve"], "1")
     assert (ran.returncode, ran.stdout, ran.stderr) == (2, b"usage\n", b"")
@@ -140,9 +140,9 @@ def test_without_python_or_setpriv_there_is_no_hint(starter, root: Path, tmp_pat
 def test_a_broken_python_gives_no_hint_and_no_error(starter, root: Path, tmp_path: Path) -> None:
     made = Path(starter("#!/bin/sh\necho usage\nexit 2\n"))
     other = tmp_path / "other"
-    (other / "tools/mcf_hints").mkdir(parents=True)
-    (other / "tools/mcf_hints/starter.sh").write_text((root / "tools/mcf_hints/starter.sh").read_text())
-    (other / "tools/mcf_hints/__main__.py").write_text("raise RuntimeError('broken')\n")
+    (other / "python/mcf/hints").mkdir(parents=True)
+    (other / "python/mcf/hints/starter.sh").write_text((root / "python/mcf/hints/starter.sh").read_text())
+    (other / "python/mcf/hints/__main__.py").write_text("raise RuntimeError('broken')\n")
     made.write_text(made.read_text().replace(f"here={root}", f"here={other}"))
     ran = run([str(made), "solve"], "1")
     assert (ran.returncode, ran.stdout, ran.stderr) == (2, b"usage\n", b"")

@@ -11,12 +11,12 @@ from pathlib import Path
 import pytest
 
 import browser
-from mcf_report import survey as surveys
-from mcf_report.figures import Figures
-from mcf_report.survey import Bounds, Case, Ground, Settings, Survey
-from mcf_report.survey_page import Part, survey_page
-from mcf_report.survey_words import grown, grown_sentence, sentence, survey_table
-from mcf_texts import Link, Module, Program, TextError, load_text, read_any, read_certificate, read_network, scale
+from mcf import Link, Module, Program, TextError, load_text, read_any, read_certificate, read_network, scale
+from mcf.report.figures import Figures
+from mcf.survey import cases as surveys
+from mcf.survey.cases import Bounds, Case, Ground, Settings, Survey
+from mcf.survey.page import Part, survey_page
+from mcf.survey.words import grown, grown_sentence, sentence, survey_table
 
 ROOT = Path(__file__).resolve().parents[2]
 SURVEY = ROOT / "tools/survey"

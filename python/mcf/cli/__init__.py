@@ -1,0 +1,1 @@
+"""The tools as they are called from a shell: one module a tool, with its words and `main`, which returns the status."""

@@ -1,0 +1,66 @@
+"""Writes the routing that a network really has, as a routing text, which mcf check judges.
+
+Methods: the shortest path of each demand by hops, by one over the capacity of links, or by a cost of the file; equal-cost multipath,
+where each node sends equal shares over all links that begin a shortest path; and the best split over k shortest paths. Of equal
+single paths the one over the first links of the file is taken. The longest path of a demand has no effect.
+
+Standard output has the routing, or the file of --output; what it carries, and how far that is below the best, is told on standard
+error. Status 0, or 2 with the trouble in one line.
+
+Examples:
+  tools/route examples/germany50.net --by hops > germany50.routing
+  tools/route examples/geant.net --by ecmp --lengths capacity --output geant.routing
+  tools/route examples/polska.net --by k-paths --paths 3
+  tools/route examples/polska.net --by cost --cost setup
+"""
+
+from __future__ import annotations
+
+import argparse
+import sys
+
+from mcf import LINK_MODES, MODULES, TextError, find_program, save_text
+from mcf.route.lengths import COSTS, LENGTHS
+from mcf.route.run import METHODS, Question, route
+
+
+def words() -> argparse.Namespace:
+    """The words of the command line."""
+    parser = argparse.ArgumentParser(description=__doc__, formatter_class=argparse.RawDescriptionHelpFormatter, allow_abbrev=False)
+    parser.add_argument("net", metavar="NET", help="a network file")
+    parser.add_argument("--by", choices=METHODS, required=True, help="the method")
+    parser.add_argument("--lengths", choices=LENGTHS, default="hops", help="the lengths for ecmp and k-paths (hops)")
+    parser.add_argument("--cost", choices=COSTS, default="routing", help="which cost of a link counts, for lengths by cost (routing)")
+    parser.add_argument("--paths", type=int, default=4, metavar="K", help="how many paths of each pair, for k-paths (4)")
+    parser.add_argument("--links", choices=LINK_MODES, default="undirected", help="how links are read (undirected)")
+    parser.add_argument("--modules", choices=MODULES, default="largest", help="which modules count (largest)")
+    parser.add_argument("--seconds", type=float, default=300.0, metavar="N", help="the time for the split, and again for the best (300)")
+    parser.add_argument("--output", metavar="FILE", help="write there, and only once the routing is feasible")
+    parser.add_argument("--mcf", metavar="PATH", help="the program mcf (the environment's MCF, else mcf of this repository)")
+    given = parser.parse_args()
+    if not 1 <= given.paths <= 1000:
+        parser.error("--paths is from 1 to 1000")
+    return given
+
+
+def main() -> int:
+    """One run."""
+    given = words()
+    question = Question(given.net, given.by, given.links, given.modules, given.lengths, given.cost, given.paths, given.seconds)
+    try:
+        routed = route(find_program(given.mcf), question)
+        if given.output:
+            save_text(given.output, routed.text)
+        else:
+            sys.stdout.buffer.write(routed.text.encode("latin-1"))
+            sys.stdout.flush()
+    except (TextError, OSError) as error:
+        print(f"route: {error}", file=sys.stderr)
+        return 2
+    for note in [routed.line, *routed.notes]:
+        print(f"route: {note}", file=sys.stderr)
+    return 0
+
+
+if __name__ == "__main__":
+    sys.exit(main())

@@ -1,0 +1,77 @@
+"""The hint for a run of the program that ended with status 1, 2, 3 or 4."""
+
+from __future__ import annotations
+
+import os
+
+from .netfile import front_of, kind_of
+from .table import TABLE
+from .told import line_of
+from .words import Misfit, Request, read, shown
+
+USAGE = "the words are not in the grammar: compare them with ./mcf help COMMAND"
+# the part of the guide on what is wrong
+WRONG = 10
+_KINDS = ((b"mcf-routing ", "routing"), (b"mcf-hops ", "limited"), (b"mcf-throughput ", "total"))
+
+
+def hint(status: int, program: str, words: list[str], output: int) -> str | None:
+    """One line: what the program said, a sentence on it, and the part of the guide; None where there is nothing to say."""
+    try:
+        request = read(words)
+    except Misfit as misfit:
+        return _told("usage", str(misfit), misfit.part or WRONG) if status == 2 else None
+    if status == 2:
+        return _told("usage", USAGE, WRONG)
+    if status == 4:
+        return _told("read fault", _unreadable(request), WRONG)
+    line = line_of(status, program, words, request, output)
+    return _of_line(line, program, request)
+
+
+def _told(line: str, sentence: str, part: int) -> str:
+    """The hint's one line."""
+    return f"hint: {line}: {sentence} (docs/guide.md, part {part})"
+
+
+def _of_line(line: str, program: str, request: Request) -> str:
+    """The hint for a line of a request that is in the grammar."""
+    if line == "refused net N1 line 1":
+        return _told(line, f"{shown(request.words['NET'])} {kind_of(front_of(request.words['NET']))}", 1)
+    kind = _kind(request.words.get("CERT2" if line.startswith("refused cert2 ") else "CERT", ""))
+    row = next((row for row in TABLE if row.line.fullmatch(line) and row.of in ("", kind, request.command)), None)
+    if row is None:
+        return _told(line, "docs/formats.md tells what is refused so, under this kind", WRONG)
+    found = _fullest(program, request) if line == "invalid C3" and kind == "routing" else None
+    return _told(line, found or row.sentence, row.part)
+
+
+def _kind(path: str) -> str:
+    """What a second file is by its first word: a routing, a certificate with hop limits or of a total, or else a certificate."""
+    front = front_of(path, 16)
+    return next((kind for word, kind in _KINDS if front.startswith(word)), "certificate")
+
+
+def _fullest(program: str, request: Request) -> str | None:
+    """The fullest link of a routing and the scale that fits, if both files can be read."""
+    # (no other hint has to wait for the package)
+    from mcf import TextError
+
+    from .fullest import fullest
+    try:
+        return fullest(program, request.words["NET"], request.words["CERT"])
+    except TextError:
+        return None
+
+
+def _unreadable(request: Request) -> str:
+    """Which file cannot be read, and why as far as one sees."""
+    for word in request.files:
+        if not os.path.exists(word):
+            standard = "; for standard input, write /dev/stdin" if word == "-" else ""
+            return f"{shown(word)} does not exist{standard}"
+        if os.path.isdir(word):
+            return f"{shown(word)} is a folder"
+        if not os.access(word, os.R_OK):
+            return f"{shown(word)} may not be read by this user"
+    return "a file could not be read to its end"

@@ -1,0 +1,63 @@
+# What both starters share, that of the repository and that of a release. To be read by sh with `here` set to the folder that has
+# python/, docs/ and VERSION.
+
+# Answers the words for help and version, which the program itself does not know, and ends; returns where the words are others.
+answer_help() {
+    case $#/${1-} in
+        1/--version)
+            printf 'mcf %s\n' "$(cat "$here/VERSION")"
+            exit
+            ;;
+        1/--help | 1/-h | 1/help) page=mcf ;;
+        2/help) page=$2 ;;
+        2/*)
+            case $2 in
+                --help | -h) page=$1 ;;
+                *) return ;;
+            esac
+            ;;
+        *) return ;;
+    esac
+    case $page in
+        '' | */* | .*) return ;;
+    esac
+    if [ -f "$here/python/mcf/hints/help/$page.txt" ]; then
+        exec cat "$here/python/mcf/hints/help/$page.txt"
+    fi
+}
+
+# Whether hints are wanted, and can be given with the program's files, output and end left as they are. Descriptor 9 has to be free.
+wants_hints() {
+    case ${MCF_HINTS-} in
+        1) ;;
+        '') [ -t 2 ] || return 1 ;;
+        *) return 1 ;;
+    esac
+    [ -x /usr/bin/python3 ] && [ -e /proc/$$/fd/0 ] && [ -e /proc/$$/fd/1 ] && [ ! -e /proc/$$/fd/9 ] &&
+        setpriv --pdeathsig KILL true 2>/dev/null
+}
+
+# Runs the program $program with the words given. Where hints are wanted it is a child with the caller's own files, which ends with
+# this shell where that is killed; and this shell ends as the program did.
+run_program() {
+    if ! wants_hints; then
+        exec "$program" "$@"
+    fi
+    # (sh gives a background child another standard input, unless it has one from elsewhere)
+    exec 9<&0
+    setpriv --pdeathsig KILL "$program" "$@" <&9 9<&- &
+    exec 9<&-
+    wait $! 2>/dev/null
+    status=$?
+    if [ "$status" -gt 128 ]; then
+        ulimit -c 0
+        kill -"$((status - 128))" $$
+    fi
+    case $status in
+        1 | 2 | 3 | 4)
+            { hint=$(/usr/bin/python3 -I -S -B -X utf8 "$here/python/mcf/hints" "$status" "$program" "$@" 2>/dev/null); } 9>&1
+            [ -z "$hint" ] || printf '%s\n' "$hint" >&2
+            ;;
+    esac
+    exit "$status"
+}

@@ -1,0 +1,152 @@
+"""A whole run: paths of a solve, the linear program, whole numbers, and the judgement of `mcf check`, or that of the kind."""
+
+from __future__ import annotations
+
+import tempfile
+import time
+from dataclasses import dataclass
+from fractions import Fraction
+from pathlib import Path as File
+
+import numpy as np
+from tqdm import tqdm
+
+from mcf import Certificate, Program, Routing, ScaledNetwork, TextError, save_text, write_certificate
+
+from .build import certificate_of, in_form, with_gap
+from .clp import load_clp
+from .kinds import SOLVE, Kind
+from .path_lp import Optimum, PathProgram
+from .pool import complete
+from .prices import Bound, Bounds
+from .problem import Arcs
+from .start import Source, combined, first_certificate, given, lengths_of, longer_certificates, pool_of
+
+
+@dataclass(frozen=True)
+class Request:
+    """What is asked for; `links` and `modules` are None where they were not given, `gap` is in millionths or None."""
+
+    net: str
+    links: str | None
+    modules: str | None
+    gap: int | None
+    seconds: float
+    start: str | None
+    kind: Kind = SOLVE
+
+
+@dataclass(frozen=True)
+class Result:
+    """The certificate's text, its verdict, the line of its judge, and why it is not the linear program's, where it is not."""
+
+    text: str
+    closed: bool
+    line: str
+    trouble: str | None
+
+
+@dataclass(frozen=True)
+class Begun:
+    """A network with a first certificate, and the text whose paths the linear program begins from."""
+
+    source: Source
+    scaled: ScaledNetwork
+    first: Certificate
+    paths: Routing
+    elsewhere: bool
+
+
+def certify(program: Program, request: Request) -> Result:
+    """The best certificate that is found in the time; TextError where there is none at all."""
+    deadline = time.monotonic() + request.seconds
+    begun = _begin(program, request, deadline)
+    if not Fraction(*begun.first.upper):
+        return _judged(program, request, begun.first, None)
+    try:
+        made = _optimum(begun, request.gap, deadline)
+        return _judged(program, request, combined([made, begun.first]), None)
+    except Exception as error:  # whatever fails there, a certificate of the kind's own command is handed out, with the reason
+        trouble = str(error) or type(error).__name__
+    rest = longer_certificates(begun.source, len(begun.scaled.commodities), deadline)
+    return _judged(program, request, combined([begun.first, *rest]), trouble)
+
+
+def _begin(program: Program, request: Request, deadline: float) -> Begun:
+    """The network and the start."""
+    paths = given(program, request.net, request.start) if request.start else None
+    source = Source(program, request.kind, request.net, *_options(request, paths))
+    scaled = source.scaled()
+    with tqdm(desc=f"paths of {request.kind.command}", disable=None, leave=False):
+        half = deadline - request.seconds / 2
+        is_first = paths is not None and type(paths) is request.kind.certificate
+        first = paths if is_first else first_certificate(source, len(scaled.commodities), half)
+    if paths is None:
+        return Begun(source, scaled, first, first, False)
+    return Begun(source, scaled, in_form(scaled, first, program.form), paths, True)
+
+
+def _options(request: Request, paths: Routing | None) -> tuple[str, str]:
+    """Links and modules: those of the text that is begun from, which those that were asked for may not contradict."""
+    wanted = request.links or "undirected", request.modules or "largest"
+    if paths is None:
+        return wanted
+    for asked, found in ((request.links, paths.links), (request.modules, paths.modules)):
+        if asked not in (None, found):
+            raise TextError(f"{request.start} was made with links {paths.links} and modules {paths.modules}")
+    return paths.links, paths.modules
+
+
+def _optimum(begun: Begun, gap: int | None, deadline: float) -> Certificate:
+    """The certificate of the linear program's answer."""
+    library = load_clp()
+    scaled, kind = begun.scaled, begun.source.kind
+    pairs, arcs = kind.pairs(scaled), Arcs(scaled)
+    search = kind.search(pairs, arcs)
+    capacities = [cell.capacity for cell in scaled.cells]
+    capacity = np.array(capacities, np.float64)
+    pool = pool_of(scaled, pairs, begun.paths, begun.elsewhere)
+    complete(pool, search, 1 / np.maximum(capacity, 0.5), kind.each)
+    left = deadline - time.monotonic()
+    optimum = _solved(kind.program(library, pairs, search, capacity, pool), time.monotonic() + left * 0.6)
+    amounts = [int(amount) for amount in pairs.amount]
+    bound = _bound(kind.bounds(amounts, capacities, search.distances), optimum, begun)
+    used = len(optimum.flows)
+    matrix = pool.cells_by_walks(len(capacities))[:, :used]
+    with tqdm(desc="whole numbers", disable=None, leave=False):
+        rounding = kind.rounding(matrix, np.array(pool.pair[:used]), amounts, capacities, optimum.flows)
+        enough = bound.value if gap is None else bound.value / (1 + Fraction(gap, 10**6))
+        whole = rounding.best(bound.value, enough, time.monotonic() + left * 0.2)
+    return certificate_of(scaled, begun.first, pairs, arcs, pool, whole, bound)
+
+
+def _solved(program: PathProgram, deadline: float) -> Optimum:
+    """The linear program's answer; its rounds are told on a terminal."""
+    with tqdm(desc="linear program", unit=" rounds", disable=None, leave=False) as bar:
+        def told(optimum: Optimum) -> None:
+            """Shows a round."""
+            bar.update()
+            bar.set_postfix(carried=f"{optimum.carried:.6f}", bound=f"{optimum.bound:.6f}")
+        return program.optimise(deadline, told)
+
+
+def _bound(bounds: Bounds, optimum: Optimum, begun: Begun) -> Bound:
+    """The bound of the linear program's prices, or of the first certificate's lengths where these give none."""
+    found = bounds.offer(optimum.prices) or bounds.offer(lengths_of(begun.scaled, begun.first))
+    if found is None:
+        raise TextError("neither the prices nor the lengths of the start give a bound")
+    return found
+
+
+def _judged(program: Program, request: Request, certificate: Certificate, trouble: str | None) -> Result:
+    """The certificate's text, once the command that judges its kind calls it valid."""
+    certificate = with_gap(certificate, request.gap)
+    text = write_certificate(certificate)
+    judge = request.kind.judge
+    with tempfile.TemporaryDirectory() as room, tqdm(desc=f"mcf {judge}", disable=None, leave=False):
+        file = File(room, "cert")
+        save_text(file, text)
+        answer = program.check(request.net, file, command=judge)
+    if answer.status != 0 or not answer.line.startswith("valid "):
+        raise TextError(f"mcf {judge} says {answer.line or answer.status} of the certificate")
+    return Result(text, certificate.verdict == "closed", answer.line, trouble)

@@ -1,0 +1,103 @@
+"""What goes into a release, and the archive: the same bytes for the same files."""
+
+from __future__ import annotations
+
+import gzip
+import hashlib
+import io
+import re
+import subprocess
+import tarfile
+import tempfile
+from pathlib import Path
+
+from mcf import Program, TextError
+
+# whole folders, and files by name or pattern, that are shipped as they stand
+SHIPPED = ("VERSION", "LICENSE-APACHE", "LICENSE-MIT", "docs", "examples", "python/mcf/*.py", "python/mcf/hints", "tools/mcf_texts")
+TITLE = '.TH MCF 1 "2026" "mcf"'
+
+
+def version_of(root: Path) -> str:
+    """The version, from the one file that has it."""
+    version = (root / "VERSION").read_text().strip()
+    if not re.fullmatch(r"[0-9]+\.[0-9]+\.[0-9]+(-[0-9A-Za-z.]+)?", version):
+        raise TextError(f"VERSION has {version!r}, and 1.2.3 is its form")
+    return version
+
+
+def built_program(root: Path) -> Path:
+    """The program that was built and is not older than any source; TextError where there is none."""
+    for program in (root / "crates/mcf/out/mcf", root / ".built/mcf"):
+        if program.is_file() and not _is_old(program, root / "crates"):
+            return program
+    raise TextError("the program is missing or older than its sources: run ./mcf once, or name one by --mcf")
+
+
+def _is_old(program: Path, crates: Path) -> bool:
+    """Whether a source is newer than the program."""
+    time = program.stat().st_mtime_ns
+    sources = (file for kind in ("*.rt", "*.antt") for file in crates.rglob(kind) if "out" not in file.relative_to(crates).parts)
+    return any(file.stat().st_mtime_ns > time for file in sources)
+
+
+def is_for_this_kind(program: Path) -> bool:
+    """Whether a file is a program for Linux on x86-64: its ELF header says 64 bits, low byte first, machine 62."""
+    with open(program, "rb") as file:
+        front = file.read(20)
+    return front[:6] == b"\x7fELF\x02\x01" and front[18:20] == b"\x3e\x00"
+
+
+def files_of(root: Path, program: Path) -> dict[str, tuple[int, bytes]]:
+    """Each file of the archive by its name there, with its mode."""
+    files = {"mcf": (0o755, (root / "python/mcf/release/starter.sh").read_bytes()), "program/mcf": (0o755, program.read_bytes()),
+             "README.md": (0o644, (root / "python/mcf/release/README.md").read_bytes())}
+    for name in SHIPPED:
+        found = sorted((root / name).rglob("*")) if (root / name).is_dir() else sorted(root.glob(name))
+        for file in found:
+            if file.is_file() and "__pycache__" not in file.parts:
+                files[str(file.relative_to(root))] = (0o644, file.read_bytes())
+    files["docs/mcf.1"] = (0o644, _titled(files["docs/mcf.1"][1].decode(), version_of(root)))
+    sums = "".join(f"{hashlib.sha256(files[name][1]).hexdigest()}  {name}\n" for name in sorted(files))
+    return {**files, "SHA256SUMS": (0o644, sums.encode())}
+
+
+def _titled(page: str, version: str) -> bytes:
+    """The man page with the version in its title."""
+    if not page.startswith(TITLE):
+        raise TextError(f"docs/mcf.1 does not begin with {TITLE}")
+    return (TITLE[:-1] + f' {version}"' + page[len(TITLE):]).encode()
+
+
+def archive(root: Path, program: Path, seconds: int) -> tuple[str, bytes]:
+    """The archive's name, without its ending, and its bytes; all files in it have that time."""
+    name = f"mcf-{version_of(root)}-x86_64-linux"
+    packed = io.BytesIO()
+    with gzip.GzipFile(filename="", mode="wb", fileobj=packed, mtime=seconds) as zipped, \
+            tarfile.open(fileobj=zipped, mode="w", format=tarfile.USTAR_FORMAT) as tar:
+        for file, (mode, data) in sorted(files_of(root, program).items()):
+            info = tarfile.TarInfo(f"{name}/{file}")
+            info.size, info.mode, info.mtime, info.uname, info.gname = len(data), mode, seconds, "root", "root"
+            tar.addfile(info, io.BytesIO(data))
+    return name, packed.getvalue()
+
+
+def try_archive(name: str, data: bytes, version: str) -> None:
+    """Unpacks the archive and asks it a few questions; TextError where an answer is wrong."""
+    with tempfile.TemporaryDirectory() as room:
+        with tarfile.open(fileobj=io.BytesIO(data)) as tar:
+            tar.extractall(room)
+        top = Path(room, name)
+        starter = Program(str(top / "mcf"))
+        sums = subprocess.run(["sha256sum", "--quiet", "-c", "SHA256SUMS"], cwd=top, capture_output=True, check=False)
+        net, certificate = str(top / "examples/polska.net"), str(top / "examples/polska.cert")
+        answers = {
+            "checksums": sums.returncode == 0,
+            "mcf --version": starter.ask("--version") == f"mcf {version}\n",
+            "mcf --help": starter.ask("--help").startswith("mcf - "),
+            "mcf check": starter.check(net, certificate).text.startswith("valid closed undirected largest "),
+            "mcf solve": starter.solve(net, "--workers", "1", seconds=60) == Path(certificate).read_text(),
+        }
+    wrong = [what for what, is_right in answers.items() if not is_right]
+    if wrong:
+        raise TextError(f"the archive does not work: {', '.join(wrong)}")

@@ -1,0 +1,139 @@
+"""A whole run: the paths of a method, whole weights, the judgement of `mcf check`, and how far below the best it is."""
+
+from __future__ import annotations
+
+import tempfile
+import time
+from collections.abc import Iterator
+from dataclasses import dataclass
+from fractions import Fraction
+from pathlib import Path as File
+
+from tqdm import tqdm
+
+from mcf import (Path, Program, Routing, ScaledNetwork, TextError, decimal_of, loads, lower, read_certificate, rounded_down,
+                 save_text, scale, write_routing)
+from mcf.lp.rounding import fullest
+from mcf.lp.run import Request, certify
+
+from .few_paths import split_over_few
+from .lengths import whole_lengths
+from .shortest import Walk, Ways
+from .whole import in_units, phases_for
+
+METHODS = ("hops", "capacity", "cost", "ecmp", "k-paths")
+
+Shares = list[tuple[Walk, Fraction]]
+
+
+@dataclass(frozen=True)
+class Question:
+    """What is asked for; `lengths` are those of `ecmp` and `k-paths`, `paths` is the k of the latter."""
+
+    net: str
+    by: str
+    links: str
+    modules: str
+    lengths: str
+    cost: str
+    paths: int
+    seconds: float
+
+
+@dataclass(frozen=True)
+class Routed:
+    """A routing, the line of `mcf check` on it, and what else is to be said."""
+
+    text: str
+    line: str
+    notes: list[str]
+
+
+def route(program: Program, question: Question) -> Routed:
+    """The routing of a network by a method."""
+    deadline = time.monotonic() + question.seconds
+    scaled = _scaled(program, question)
+    lengths = whole_lengths(scaled, question.lengths if question.by in ("ecmp", "k-paths") else question.by, question.cost)
+    notes: list[str] = []
+    if question.by == "k-paths":
+        phases, rows = split_over_few(scaled, Ways(scaled, lengths), question.paths, deadline, notes)
+    else:
+        phases, rows = _whole(scaled, list(_shares(scaled, Ways(scaled, lengths), question.by == "ecmp")), notes)
+    routing = _routing(scaled, program.form, phases, rows)
+    text = write_routing(routing)
+    with tempfile.TemporaryDirectory() as room:
+        file = File(room, "routing")
+        save_text(file, text)
+        answer = program.check(question.net, file)
+    if answer.status != 0:
+        raise TextError(f"mcf check says {answer.line or answer.status} of the routing")
+    notes.append(_below(program, question, lower(routing)))
+    return Routed(text, answer.line, notes)
+
+
+def _scaled(program: Program, question: Question) -> ScaledNetwork:
+    """The network in whole units."""
+    scaled = scale(program.network(question.net), question.links, question.modules)
+    if not scaled.commodities:
+        raise TextError(f"{question.net} has no demand with an amount between two nodes")
+    return scaled
+
+
+def _shares(scaled: ScaledNetwork, ways: Ways, equal_cost: bool) -> Iterator[Shares]:
+    """The paths of each commodity with their shares of it."""
+    distances: dict[int, list[int | None]] = {}
+    for number, commodity in enumerate(tqdm(scaled.commodities, desc="paths", disable=None, leave=False)):
+        if commodity.target not in distances:
+            distances[commodity.target] = ways.distances_to(commodity.target)
+        far = distances[commodity.target]
+        if far[commodity.source] is None:
+            raise TextError(f"demand {scaled.demand_id(number)} has no way over links with capacity")
+        if equal_cost:
+            yield ways.equal_cost(commodity.source, commodity.target, far)
+        else:
+            yield [(ways.shortest(commodity.source, commodity.target, far), Fraction(1))]
+
+
+def _whole(scaled: ScaledNetwork, shares: list[Shares], notes: list[str]) -> tuple[int, list[list[tuple[Walk, int]]]]:
+    """Phases and whole weights of all paths; notes how far they are from the shares where no number of phases meets these."""
+    parts = [[commodity.amount * share for _, share in found] for commodity, found in zip(scaled.commodities, shares)]
+    phases = phases_for(part for row in parts for part in row)
+    rows, worst = [], Fraction(0)
+    for commodity, found, row in zip(scaled.commodities, shares, parts):
+        weights = in_units(row, phases.number)
+        deviation = max(abs(weight - part * phases.number) for weight, part in zip(weights, row))
+        worst = max(worst, deviation / (phases.number * commodity.amount))
+        rows.append([(walk, weight) for (walk, _), weight in zip(found, weights) if weight])
+    if not phases.exact:
+        notes.append(f"no number of phases up to 65536 makes these splits exact; of {phases.number}, the farthest path is off by "
+                     f"{float(worst):.3g} of its demand")
+    return phases.number, rows
+
+
+def _routing(scaled: ScaledNetwork, form: int, phases: int, rows: list[list[tuple[Walk, int]]]) -> Routing:
+    """The routing text's content: paths by commodity and then by their cells, scaled until the fullest cell is full."""
+    words = scaled.words(form)
+    paths = [Path(scaled.demand_id(number), weight, tuple(words[cell] for cell in walk))
+             for number, row in enumerate(rows) for walk, weight in sorted(row)]
+    routing = Routing(form, scaled.links, scaled.modules, phases, 1, 1, paths)
+    routing.scale_capacity, routing.scale_load = fullest(loads(scaled, routing), [cell.capacity for cell in scaled.cells])
+    return routing
+
+
+def _below(program: Program, question: Question, carried: Fraction) -> str:
+    """By how much a fraction is below the best, which a certificate bounds."""
+    request = Request(question.net, question.links, question.modules, None, question.seconds, None)
+    try:
+        certificate = read_certificate(certify(program, request).text)
+    except TextError as error:
+        return f"how far below the best it is, is not known: {error}"
+    least, most = Fraction(*certificate.lower), Fraction(*certificate.upper)
+    below = f"{float(1 - carried / most):.2%} below"
+    if least == most:
+        return f"the best carries {_decimal(most)} of every demand, so this is {below}"
+    return f"the best carries {_decimal(least)} of every demand and no routing more than {_decimal(most)}, so this is at most {below}"
+
+
+def _decimal(value: Fraction) -> str:
+    """A fraction with six digits, rounded down."""
+    return decimal_of(rounded_down(value.numerator, value.denominator))

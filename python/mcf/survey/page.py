@@ -1,0 +1,116 @@
+"""The page of a survey."""
+
+from __future__ import annotations
+
+from dataclasses import dataclass
+from fractions import Fraction
+
+from mcf import ScaledNetwork
+
+from ..report import shown
+from ..report.drawing import CLOSED, Drawing, Line, drawn
+from ..report.layout import layout
+from ..report.page import about, render
+from . import words as survey_words
+from .cases import Bounds, Case, Survey
+
+HEADINGS = {"failure": "Single failures, the worst first", "double": "Links doubled, the most useful first"}
+STEPS = (Fraction(1, 100), Fraction(1, 10), Fraction(1, 4), Fraction(1, 2))
+FAILURE_COLOURS = (
+    ("0", "#92c5de", "by at most 1 %"),
+    ("1", "#e6c34a", "1 to 10 %"),
+    ("2", "#f4a05c", "10 to 25 %"),
+    ("3", "#d6604d", "25 to 50 %"),
+    ("4", "#8e0f24", "more than 50 %"),
+    (CLOSED, "#9aa5b1", "without capacity"),
+)
+DOUBLE_COLOURS = (
+    ("0", "#c2cad2", "by at most 1 %"),
+    ("1", "#a6dba0", "1 to 10 %"),
+    ("2", "#5aae61", "10 to 25 %"),
+    ("3", "#1b7837", "25 to 50 %"),
+    ("4", "#00441b", "more than 50 %"),
+    (CLOSED, "#9aa5b1", "without capacity"),
+)
+
+
+@dataclass(frozen=True)
+class Part:
+    """What a page says of one survey."""
+
+    survey: Survey
+
+    @property
+    def heading(self) -> str:
+        """The heading."""
+        return HEADINGS[self.survey.kind]
+
+    @property
+    def sentence(self) -> str:
+        """What was found."""
+        text = survey_words.sentence(self.survey)
+        return shown.joined(text[0].upper() + text[1:])
+
+    @property
+    def tone(self) -> str:
+        """The colour of the sentence."""
+        if self.survey.kind == "double":
+            return ""
+        found = {survey_words.fits(case.routed) for case in self.survey.cases}
+        return "bad" if "no" in found else "open" if "open" in found else "good"
+
+    @property
+    def colours(self) -> tuple[tuple[str, str, str], ...]:
+        """The legend."""
+        return FAILURE_COLOURS if self.survey.kind == "failure" else DOUBLE_COLOURS
+
+    @property
+    def legend(self) -> str:
+        """What colours mean."""
+        if not self.survey.settings.solves:
+            return "The bound of the fraction " + ("falls" if self.survey.kind == "failure" else "rises")
+        return "The fraction that is carried " + ("falls" if self.survey.kind == "failure" else "rises")
+
+    def drawing(self) -> Drawing:
+        """The map: each link as thick as its change matters."""
+        figures = self.survey.figures
+        by_link = {case.link.id: case for case in self.survey.cases}
+        links = figures.scaled.network.links
+        return drawn(
+            figures,
+            layout(figures.scaled),
+            lambda row, path: self._line(by_link[links[figures.scaled.cells[row.cell].link].id], path),
+        )
+
+    def _line(self, case: Case, path: str) -> Line:
+        """The line of a link."""
+        change = self.change(case)
+        key = CLOSED if case.capacity == 0 else str(sum(change > step for step in STEPS))
+        thin = 2.5 if len(self.survey.cases) <= 200 else 1.0
+        width = round(thin + 11 * min(1.0, float(change)), 2)
+        what = {"failure": "closed", "double": "doubled"}[case.kind]
+        title = f"{shown.name(case.link.id)} {what}: {spread(case.routed)}"
+        return Line(path, key, key, width, title)
+
+    def change(self, case: Case) -> Fraction:
+        """By what part of it the fraction changes, where 0 is not at all."""
+        solved = self.survey.settings.solves
+        base = self.survey.base.lower if solved else self.survey.base.upper
+        new = case.routed.lower if solved else case.routed.upper
+        if not base:
+            return Fraction(0)
+        return max(Fraction(0), (base - new) / base if case.kind == "failure" else (new - base) / base)
+
+
+def spread(bounds: Bounds) -> str:
+    """Both ends in percent."""
+    low = shown.percent_down(bounds.lower) if bounds.lower else "0.0 %"
+    return f"{low} to {shown.percent_up(bounds.upper)}"
+
+
+def survey_page(title: str, scaled: ScaledNetwork, surveys: list[Survey], growths: list[tuple[Fraction, Bounds]]) -> str:
+    """The page of surveys on one network."""
+    grown = [shown.joined(survey_words.grown_sentence(growth, bounds)) for growth, bounds in growths]
+    words = {"yes": "yes", "no": "no", "open": "not decided"}
+    values = {"surveyed": [Part(one) for one in surveys], "grown": grown, "about": about(scaled), "spread": spread}
+    return render("survey.html", title=title, fits=lambda bounds: words[survey_words.fits(bounds)], **values)

@@ -1,4 +1,0 @@
-"""Hints of the starter: one sentence on a `usage`, a refusal, an `invalid` line, a read fault or an open answer.
-
-Python's own library and `mcf_texts` alone; nothing here is read before the program has ended.
-"""
