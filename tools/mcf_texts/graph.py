@@ -1,0 +1,3 @@
+"""The old name of `mcf.graph`."""
+
+from mcf.graph import graph_of  # noqa: F401

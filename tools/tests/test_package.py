@@ -1,0 +1,113 @@
+"""The package mcf: what it imports, what it exports, its old name, and that tools/ has no code beside it."""
+
+from __future__ import annotations
+
+import importlib
+import importlib.util
+import re
+import subprocess
+import sys
+import tomllib
+from pathlib import Path
+
+import pytest
+
+import mcf
+
+TOOLS = ("certify", "convert", "release", "report", "route", "survey")
+CORE = ("certificate", "errors", "network", "numbers", "program", "scaled", "values")
+LAUNCHER = """#!/usr/bin/python3 -B
+import sys
+from pathlib import Path
+sys.path.insert(0, str(Path(__file__).resolve().parents[1] / "python"))
+from mcf.cli.{name} import main  # noqa: E402
+sys.exit(main())
+"""
+
+
+def alone(folder: Path, code: str) -> list[str]:
+    """The lines that code prints in a Python without any package, with a folder first on the path."""
+    start = [sys.executable, "-I", "-S", "-B", "-c", f"import sys; sys.path.insert(0, {str(folder)!r})\n{code}"]
+    done = subprocess.run(start, capture_output=True, text=True, check=False)
+    assert (done.returncode, done.stderr) == (0, "")
+    return done.stdout.splitlines()
+
+
+def modules_of(root: Path, package: str) -> list[str]:
+    """The modules of a package within mcf, by their whole names."""
+    return [f"mcf.{package}.{file.stem}" for file in sorted((root / "python/mcf" / package).glob("*.py")) if not file.stem.startswith("_")]
+
+
+def test_the_core_stands_on_the_standard_library_alone(root: Path) -> None:
+    modules = [f"mcf.{name}" for name in CORE] + modules_of(root, "hints") + modules_of(root, "build")
+    assert len(modules) > 12
+    code = "".join(f"import {name}\n" for name in modules) + "print(*{name.split('.')[0] for name in sys.modules}, sep='\\n')"
+    loaded = {name for name in alone(root / "python", code) if name != "__main__"}
+    assert "mcf" in loaded and loaded - {"mcf"} <= sys.stdlib_module_names
+
+
+def test_importing_the_package_imports_none_of_its_modules(root: Path) -> None:
+    code = "before = set(sys.modules)\nimport mcf\nprint(*set(sys.modules) - before, sep='\\n')"
+    loaded = alone(root / "python", code)
+    assert [name for name in loaded if name.startswith("mcf")] == ["mcf"]
+    assert {name.split(".")[0] for name in loaded} <= {"mcf", "__future__", "importlib", "warnings"}
+
+
+def test_a_name_imports_its_own_module_first(root: Path) -> None:
+    code = "import mcf\nmcf.fraction_of\nprint(*(name for name in sys.modules if name.startswith('mcf')), sep='\\n')"
+    assert sorted(alone(root / "python", code)) == ["mcf", "mcf.errors", "mcf.numbers"]
+
+
+def test_each_exported_name_is_there() -> None:
+    assert sorted(mcf._HOME) == sorted(mcf.__all__) and len(set(mcf.__all__)) == len(mcf.__all__)
+    for name, module in mcf._HOME.items():
+        assert getattr(mcf, name) is getattr(importlib.import_module(f"mcf.{module}"), name)
+    assert set(mcf.__all__) <= set(dir(mcf))
+    with pytest.raises(AttributeError, match="module 'mcf' has no attribute 'nothing'"):
+        getattr(mcf, "nothing")
+
+
+def test_the_old_name_has_the_same_names_and_modules(root: Path) -> None:
+    code = f"""
+import mcf_texts
+from mcf_texts import *
+import mcf
+assert mcf_texts.__all__ == mcf.__all__
+assert all(globals()[name] is getattr(mcf_texts, name) is getattr(mcf, name) for name in mcf.__all__)
+for name in {CORE!r}:
+    module = __import__("mcf_texts." + name, fromlist=["x"])
+    assert module is sys.modules["mcf." + name] is getattr(mcf_texts, name)
+print("same")
+"""
+    assert alone(root / "tools", code) == ["same"]
+    code = f"import sys; sys.path.insert(0, {str(root / 'tools')!r})\nfrom mcf_texts.graph import graph_of\nprint(graph_of.__module__)"
+    done = subprocess.run([sys.executable, "-B", "-c", code], capture_output=True, text=True, check=False)
+    assert (done.stdout, done.stderr) == ("mcf.graph\n", "")
+
+
+def test_tools_has_launchers_and_no_code(root: Path) -> None:
+    found = {file.name for file in (root / "tools").iterdir()} - {"__pycache__"}
+    assert found == {*TOOLS, "check_twice", "setup", "test", "tests", "mcf_texts"}
+    for name in TOOLS:
+        assert (root / "tools" / name).read_text() == LAUNCHER.format(name=name)
+        assert (root / "tools" / name).stat().st_mode & 0o111
+    shim = {file.name: file.read_text() for file in (root / "tools/mcf_texts").glob("*") if file.is_file()}
+    assert set(shim) == {"__init__.py", "graph.py"}
+    assert not [text for text in shim.values() if re.search(r"^\s*(def|class) ", text, re.M)]
+
+
+def test_each_tool_is_a_module_with_a_main(root: Path) -> None:
+    assert modules_of(root, "cli") == [f"mcf.cli.{name}" for name in TOOLS]
+    assert all(callable(importlib.import_module(f"mcf.cli.{name}").main) for name in TOOLS)
+    project = tomllib.loads((root / "python/pyproject.toml").read_text())["project"]
+    for name, entry in project["scripts"].items():
+        module, _, function = entry.partition(":")
+        assert name == f"mcf-{module.rpartition('.')[2]}" and callable(getattr(importlib.import_module(module), function))
+
+
+def test_the_version_is_that_of_the_repository(root: Path) -> None:
+    spec = importlib.util.spec_from_file_location("hatch_version", root / "python/hatch_version.py")
+    assert spec is not None and spec.loader is not None
+    module = importlib.util.module_from_spec(spec)
+    spec.loader.exec_module(module)
+    assert module.__version__ == (root / "VERSION").read_text().strip()
