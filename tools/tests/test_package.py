@@ -13,6 +13,8 @@ from pathlib import Path
 import pytest
 
 import mcf
+from mcf.cli import certify
+from mcf.needs import PACKAGES, needed
 
 TOOLS = ("certify", "convert", "release", "report", "route", "survey")
 CORE = ("certificate", "errors", "network", "numbers", "program", "scaled", "values")
@@ -103,6 +105,38 @@ def test_each_tool_is_a_module_with_a_main(root: Path) -> None:
     for name, entry in project["scripts"].items():
         module, _, function = entry.partition(":")
         assert name == f"mcf-{module.rpartition('.')[2]}" and callable(getattr(importlib.import_module(module), function))
+
+
+@pytest.mark.parametrize("name", TOOLS)
+def test_help_needs_no_package(root: Path, name: str) -> None:
+    tool = str(root / "tools" / name)
+    without = subprocess.run([sys.executable, "-I", "-S", "-B", tool, "--help"], capture_output=True, text=True, check=False)
+    having = subprocess.run([tool, "--help"], capture_output=True, text=True, check=False)
+    assert (without.returncode, without.stderr) == (0, "") and without.stdout == having.stdout and without.stdout.startswith("usage: ")
+
+
+@pytest.mark.parametrize("name, words", [
+    ("certify", ["triangle.net"]), ("convert", ["triangle.net", "none.graphml"]), ("report", ["triangle.net", "triangle.cert", "--csv", "-"]),
+    ("route", ["triangle.net", "--by", "hops"]), ("survey", ["triangle.net", "triangle.cert", "--failures"])])
+def test_missing_packages_are_named_in_one_line(root: Path, name: str, words: list[str]) -> None:
+    done = subprocess.run([sys.executable, "-I", "-S", "-B", str(root / "tools" / name), *words], cwd=root / "examples", capture_output=True,
+                          text=True, check=False)
+    assert (done.returncode, done.stdout) == (2, "")
+    assert done.stderr == f"{name}: Debian's packages are missing: {', '.join(PACKAGES.values())}; tools/setup installs them\n"
+    assert not (root / "examples/none.graphml").exists()
+
+
+def test_an_import_of_another_kind_is_no_missing_package() -> None:
+    with pytest.raises(ModuleNotFoundError, match="nothing_has_this_name"), needed():
+        importlib.import_module("nothing_has_this_name")
+
+
+def test_setup_installs_what_is_needed(root: Path) -> None:
+    assert set(PACKAGES.values()) <= set(re.findall(r"[a-z0-9-]+", (root / "tools/setup").read_text()))
+
+
+def test_kinds_of_certify_are_those_of_the_linear_program() -> None:
+    assert certify.COMMANDS == tuple(importlib.import_module("mcf.lp.kinds").KINDS)
 
 
 def test_the_version_is_that_of_the_repository(root: Path) -> None:

@@ -12,8 +12,8 @@ import pytest
 
 from mcf import (Demand, Link, Network, Node, Program, TextError, lower, read_routing, save_text, scale, write_network)
 from networks import odd_network
-from mcf.route.lengths import whole_lengths
-from mcf.route.run import METHODS, Question, route
+from mcf.route.lengths import METHODS, whole_lengths
+from mcf.route.run import Question, route
 from mcf.route.shortest import Ways
 from mcf.route.whole import in_units, phases_for
 

@@ -23,15 +23,16 @@ import argparse
 import sys
 
 from mcf import LINK_MODES, MODULES, TextError, find_program, fraction_of, save_text
-from mcf.lp.kinds import KINDS
-from mcf.lp.run import Request, certify
+from mcf.needs import needed
+
+COMMANDS = ("solve", "hops", "throughput")
 
 
 def words() -> argparse.Namespace:
     """The words of the command line."""
     parser = argparse.ArgumentParser(description=__doc__, formatter_class=argparse.RawDescriptionHelpFormatter, allow_abbrev=False)
     parser.add_argument("net", metavar="NET", help="a network file")
-    parser.add_argument("--kind", choices=tuple(KINDS), default="solve", help="the command whose kind of certificate is made (solve)")
+    parser.add_argument("--kind", choices=COMMANDS, default="solve", help="the command whose kind of certificate is made (solve)")
     parser.add_argument("--links", choices=LINK_MODES, help="how links are read (undirected)")
     parser.add_argument("--modules", choices=MODULES, help="which modules count (largest)")
     parser.add_argument("--gap", type=millionths, help="the gap that is asked for; without it the true one, rounded up to millionths")
@@ -54,6 +55,9 @@ def main() -> int:
     """One run."""
     given = words()
     try:
+        with needed():
+            from mcf.lp.kinds import KINDS
+            from mcf.lp.run import Request, certify
         request = Request(given.net, given.links, given.modules, given.gap, given.seconds, given.start, KINDS[given.kind])
         result = certify(find_program(given.mcf), request)
         if given.output:

@@ -5,10 +5,12 @@ from __future__ import annotations
 import argparse
 import sys
 
+from mcf import TextError
 from mcf.convert.model import Notes, Refused, shown
 from mcf.convert.numbers import UNITS, number
 from mcf.convert.tables import columns_of
 from mcf.convert.work import FORMATS, TARGETS, Task, convert
+from mcf.needs import needed
 
 EXAMPLES = """
 formats read (told by their contents, also within gzip): SNDlib native and XML (networks, and single files of
@@ -87,8 +89,9 @@ def main() -> int:
         words["columns"] = columns_of(words["columns"])
         words |= {name: number(words[name], f"--{name}") for name in ("scale", "gravity")}
         words["base"] = words.pop("net")
-        convert(Task(**words), Notes(quiet=quiet))
-    except Refused as why:
+        with needed():
+            convert(Task(**words), Notes(quiet=quiet))
+    except (Refused, TextError) as why:
         print(f"convert: {shown(str(why))}", file=sys.stderr)
         return 2
     return 0

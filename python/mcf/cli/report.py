@@ -8,7 +8,7 @@ import sys
 from pathlib import Path
 
 from mcf import TextError, find_program
-from mcf.report.work import Files, write_report
+from mcf.needs import needed
 
 EXAMPLES = """
 examples:
@@ -57,6 +57,8 @@ def main() -> int:
     if words.net2 and not words.second:
         parser.error("--net2 is the network of a second certificate")
     try:
+        with needed():
+            from mcf.report.work import Files, write_report
         program = find_program(words.mcf)
         title = words.title or Path(os.fsencode(words.net).decode("utf-8", "replace")).stem
         write_report(program, Files(words.net, words.certificate, words.second, words.net2), title, words)

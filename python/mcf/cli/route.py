@@ -20,8 +20,8 @@ import argparse
 import sys
 
 from mcf import LINK_MODES, MODULES, TextError, find_program, save_text
-from mcf.route.lengths import COSTS, LENGTHS
-from mcf.route.run import METHODS, Question, route
+from mcf.needs import needed
+from mcf.route.lengths import COSTS, LENGTHS, METHODS
 
 
 def words() -> argparse.Namespace:
@@ -46,8 +46,10 @@ def words() -> argparse.Namespace:
 def main() -> int:
     """One run."""
     given = words()
-    question = Question(given.net, given.by, given.links, given.modules, given.lengths, given.cost, given.paths, given.seconds)
     try:
+        with needed():
+            from mcf.route.run import Question, route
+        question = Question(given.net, given.by, given.links, given.modules, given.lengths, given.cost, given.paths, given.seconds)
         routed = route(find_program(given.mcf), question)
         if given.output:
             save_text(given.output, routed.text)

@@ -9,10 +9,7 @@ from fractions import Fraction
 from pathlib import Path
 
 from mcf import TextError, find_program, fraction_of
-from mcf.report.work import judged, write
-from mcf.survey.cases import Ground, Settings, survey
-from mcf.survey.page import survey_page
-from mcf.survey.words import grown, grown_sentence, sentence, survey_table
+from mcf.needs import needed
 
 EXAMPLES = """
 examples:
@@ -98,6 +95,11 @@ def main() -> int:
 
 def run(words: argparse.Namespace, kinds: list[str]) -> int:
     """Makes the surveys, writes them, and says the status."""
+    with needed():
+        from mcf.report.work import judged, write
+        from mcf.survey.cases import Ground, Settings, survey
+        from mcf.survey.page import survey_page
+        from mcf.survey.words import grown, grown_sentence, sentence, survey_table
     growths = [fraction_of(word) for word in words.grow]
     if not all(growths):
         raise TextError("--grow is more than 0")

@@ -5,7 +5,7 @@ from __future__ import annotations
 from dataclasses import dataclass, field, replace
 from fractions import Fraction
 
-from . import assemble, files, graphml, native, repetita, sndlib, tables
+from . import assemble, files, native, repetita, tables
 from .adjust import Changes, adjusted, in_unit, require_fit
 from .gravity import with_gravity
 from .model import Network, Notes, Refused, Source
@@ -122,6 +122,7 @@ def _text(network: Network, kind: str, notes: Notes) -> str:
     if kind == "list":
         return native.list_text(network)
     if kind == "graphml":
+        from . import graphml
         return graphml.text(network, notes)
     return tables.text(network, kind, notes)
 
@@ -132,8 +133,10 @@ def read(path: str, task: Task, notes: Notes) -> Source:
     data = files.without_mark(path, raw, notes)
     kind = task.kind or files.kind_of(path, data)
     if kind == "xml":
+        from . import sndlib
         return sndlib.read(path, raw, notes)
     if kind == "graphml":
+        from . import graphml
         return graphml.read(path, raw, notes, _form(task))
     if kind == "native":
         return native.read_network(path, data, notes)

@@ -6,6 +6,7 @@ from math import lcm
 
 from mcf import ScaledNetwork, TextError, fraction_of
 
+METHODS = ("hops", "capacity", "cost", "ecmp", "k-paths")
 LENGTHS = ("hops", "capacity", "cost")
 COSTS = ("routing", "capacity", "setup")
 

@@ -21,8 +21,6 @@ from .lengths import whole_lengths
 from .shortest import Walk, Ways
 from .whole import in_units, phases_for
 
-METHODS = ("hops", "capacity", "cost", "ecmp", "k-paths")
-
 Shares = list[tuple[Walk, Fraction]]
 
 
