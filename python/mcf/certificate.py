@@ -13,6 +13,7 @@ from .scaled import Counts
 _COUNTS = ("nodes", "cells", "commodities", "decimals", "skipped", "left", "hops")
 
 _Row = TypeVar("_Row")
+_Kind = TypeVar("_Kind", bound="Certificate")
 
 
 @dataclass(frozen=True, slots=True)
@@ -121,7 +122,8 @@ def save_text(file: str | File, text: str) -> None:
 def judge_of(text: str) -> str:
     """The command of `mcf` that judges a text, by the first word of its header; `check` where that is none of those known."""
     kind = text[:text.find(" ")]
-    return next((known.judge for known in (HopCertificate, TotalCertificate) if known.header == kind), Certificate.judge)
+    others: tuple[type[Certificate], ...] = (HopCertificate, TotalCertificate)
+    return next((known.judge for known in others if known.header == kind), Certificate.judge)
 
 
 def read_any(text: str) -> Certificate | Routing:
@@ -135,7 +137,7 @@ def read_any(text: str) -> Certificate | Routing:
 def read_certificate(text: str) -> Certificate:
     """The certificate of a text; names and numbers are not compared with those of any network, which `mcf check` does."""
     lines = _Lines(text)
-    certificate = Certificate(*_head(lines, Certificate))
+    certificate = _head(lines, Certificate)
     _rows(lines, certificate)
     lines.end("path, length and potential rows")
     return certificate
@@ -144,7 +146,7 @@ def read_certificate(text: str) -> Certificate:
 def read_hops(text: str) -> HopCertificate:
     """The certificate with hop limits of a text, likewise."""
     lines = _Lines(text)
-    certificate = HopCertificate(*_head(lines, HopCertificate))
+    certificate = _head(lines, HopCertificate)
     _rows(lines, certificate)
     certificate.layers = lines.rows("layer", lambda words: Layer(words[0], whole_of(words[1]), tuple(map(whole_of, words[2:]))))
     lines.end("path, length, potential and layer rows")
@@ -154,7 +156,7 @@ def read_hops(text: str) -> HopCertificate:
 def read_throughput(text: str) -> TotalCertificate:
     """The certificate of a total of a text, likewise."""
     lines = _Lines(text)
-    certificate = TotalCertificate(*_head(lines, TotalCertificate))
+    certificate = _head(lines, TotalCertificate)
     certificate.threshold = lines.value(whole_of, lines.words("threshold", 1)[0])
     _rows(lines, certificate)
     lines.end("path, length and potential rows")
@@ -215,8 +217,8 @@ def _fraction_line(keyword: str, fraction: tuple[int, int], millionths: int) -> 
     return f"{keyword} {fraction[0]}/{fraction[1]} {decimal_of(millionths)}"
 
 
-def _head(lines: _Lines, kind: type[Certificate]) -> tuple[object, ...]:
-    """Lines 1 to 10, as the fields of a certificate without rows."""
+def _head(lines: _Lines, kind: type[_Kind]) -> _Kind:
+    """Lines 1 to 10, as a certificate without rows."""
     form = lines.form(kind.header, (1, 2)) if kind is Certificate else lines.form(kind.header, (1,)) + 1
     verdict, = lines.words("verdict", 1, ("closed", "open"))
     links, = lines.words("links", 1, _modes(form))
@@ -224,7 +226,7 @@ def _head(lines: _Lines, kind: type[Certificate]) -> tuple[object, ...]:
     counts = _counts(lines)
     gap = lines.value(millionths_of, lines.words("gap", 1)[0])
     scale = _scale(lines)
-    return form, links, modules, *scale, [], verdict, counts, gap, *_fraction(lines, "lower"), *_fraction(lines, "upper")
+    return kind(form, links, modules, *scale, [], verdict, counts, gap, *_fraction(lines, "lower"), *_fraction(lines, "upper"))
 
 
 def _rows(lines: _Lines, certificate: Certificate) -> None:

@@ -121,7 +121,7 @@ class ScaledNetwork:
 
     def in_file_unit(self, units: int | Fraction) -> Fraction:
         """A number of units in the file's own unit."""
-        return Fraction(units) / 10**self.decimals
+        return Fraction(units, 10**self.decimals)
 
 
 def scale(network: Network, links: str = "undirected", modules: str = "largest") -> ScaledNetwork:

@@ -139,6 +139,15 @@ def test_kinds_of_certify_are_those_of_the_linear_program() -> None:
     assert certify.COMMANDS == tuple(importlib.import_module("mcf.lp.kinds").KINDS)
 
 
+def test_types_of_the_core_are_right(root: Path, tmp_path: Path) -> None:
+    if importlib.util.find_spec("mypy") is None:
+        pytest.skip("mypy is missing: tools/setup --tests")
+    modules = ["mcf", *(f"mcf.{name}" for name in (*CORE, "graph", "needs"))]
+    words = ["--cache-dir", str(tmp_path), "-p", "mcf.build", "-p", "mcf.hints", *(word for name in modules for word in ("-m", name))]
+    done = subprocess.run([sys.executable, "-m", "mypy", "--strict", *words], cwd=root / "python", capture_output=True, text=True, check=False)
+    assert done.returncode == 0, done.stdout + done.stderr
+
+
 def test_the_version_is_that_of_the_repository(root: Path) -> None:
     spec = importlib.util.spec_from_file_location("hatch_version", root / "python/hatch_version.py")
     assert spec is not None and spec.loader is not None

@@ -100,7 +100,9 @@ def read(words: list[str]) -> Request:
         # (the starter answers help on the commands that there are)
         name = words[1] if name == "help" and len(words) == 2 else name
         raise Misfit(f"{shown(name)} is no command{_nearest(name, tuple(COMMANDS))}")
-    command, found, seen, is_plain = COMMANDS[name], {}, set(), False
+    command, is_plain = COMMANDS[name], False
+    found: dict[str, str] = {}
+    seen: set[str] = set()
     for word in rest:
         if is_plain or word == "-" or not word.startswith("-"):
             _take_word(name, command, found, word)
@@ -141,12 +143,14 @@ def _take_option(name: str, command: Command, seen: set[str], word: str, rest: I
     if option in seen:
         raise Misfit(f"{option} stands twice")
     seen.add(option)
-    value = value if equals else next(rest, None)
-    if value is None:
+    given: str | None = value
+    if not equals:
+        given = next(rest, None)
+    if given is None:
         raise Misfit(f"the value of {option} is missing at the end")
     wanted, fits = _values_of(option)
-    if not fits(value):
-        raise Misfit(f"{shown(value)} is no value of {option}, which is {wanted}")
+    if not fits(given):
+        raise Misfit(f"{shown(given)} is no value of {option}, which is {wanted}")
 
 
 def _values_of(option: str) -> tuple[str, Callable[[str], bool]]:
