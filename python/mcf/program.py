@@ -9,6 +9,7 @@ from dataclasses import dataclass
 from functools import cached_property
 from pathlib import Path
 
+from . import children
 from .certificate import save_text
 from .errors import TextError
 from .network import Network, read_network
@@ -40,12 +41,11 @@ class Program:
         """Runs a command; TextError where the program cannot be started or takes longer than so many seconds."""
         try:
             # (the starter's hints are for a person who called it)
-            done = subprocess.run([self.path, *words], stdout=subprocess.PIPE, stdin=subprocess.DEVNULL, timeout=seconds, check=False,
-                                  env={**os.environ, "MCF_HINTS": "0"})
+            done = children.run([self.path, *words], seconds, environment={**os.environ, "MCF_HINTS": "0"})
         except OSError as error:
             raise TextError(f"{self.path}: {error.strerror}") from error
         except subprocess.TimeoutExpired as error:
-            raise TextError(f"mcf {words[0]} was not done in {seconds:.0f} seconds") from error
+            raise TextError(f"mcf {words[0]} was not done in {seconds:.3g} seconds") from error
         return Answer(done.returncode, done.stdout.decode("latin-1"))
 
     def ask(self, *words: str, statuses: tuple[int, ...] = (0,), seconds: float | None = None) -> str:

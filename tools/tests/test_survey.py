@@ -12,9 +12,11 @@ import pytest
 
 import browser
 from mcf import Link, Module, Program, TextError, load_text, read_any, read_certificate, read_network, scale
+from mcf.judged import Judged
+from mcf.ranges import Range
 from mcf.report.figures import Figures
 from mcf.survey import cases as surveys
-from mcf.survey.cases import Bounds, Case, Ground, Settings, Survey
+from mcf.survey.cases import Case, Ground, Settings, Survey
 from mcf.survey.page import Part, survey_page
 from mcf.survey.words import grown, grown_sentence, sentence, survey_table
 
@@ -55,10 +57,10 @@ def of_values(kind: str, values: dict[str, Fraction], growth: Fraction = Fractio
     """A survey of the triangle with given fractions."""
     links = {link.id: link for link in triangle().scaled.network.links}
     cases = [
-        Case(kind, links[name], Fraction(links[name].capacity), Bounds(Fraction(0), value), Bounds(value, value))
+        Case(kind, links[name], Fraction(links[name].capacity), Range(Fraction(0), value), Range(value, value))
         for name, value in values.items()
     ]
-    return Survey(triangle(), kind, Bounds(Fraction(4, 3), Fraction(4, 3)), tuple(cases), Settings(growth, solver))
+    return Survey(triangle(), kind, Range(Fraction(4, 3), Fraction(4, 3)), tuple(cases), Settings(growth, solver))
 
 
 @pytest.mark.parametrize(("option", "kind", "optima"), [("--failures", "failure", CLOSED), ("--double", "double", DOUBLED)])
@@ -207,7 +209,7 @@ def test_exact_surveys_are_certified(program: Program):
 def test_a_closed_and_a_doubled_link_in_a_script_and_in_a_network():
     link = Link("L", "A", "B", "1.5", "9", "8", "7", (Module("2.25", "1"), Module("4", "3")))
     net = read_network(TRIANGLE)
-    ground = Ground(Program("none"), "net", "cert", triangle())
+    ground = Ground(Program("none"), "net", "cert", triangle(), Judged("", ""))
     assert surveys._steps(ground, link, 2) == "set L 11 show set L 5.5\n"  # pylint: disable=protected-access
     assert surveys._steps(ground, link, 0) == "set L 0 show set L 5.5\n"  # pylint: disable=protected-access
     new = surveys.changed(net, 1, Fraction(25, 2))
@@ -215,9 +217,9 @@ def test_a_closed_and_a_doubled_link_in_a_script_and_in_a_network():
 
 
 def test_bounds_are_joined_and_divided():
-    one, other = Bounds(Fraction(1, 2), Fraction(3, 4)), Bounds(Fraction(1, 4), Fraction(2, 3))
-    assert one.best(other) == Bounds(Fraction(1, 2), Fraction(2, 3))
-    assert one.divided(Fraction(2)) == Bounds(Fraction(1, 4), Fraction(3, 8))
+    one, other = Range(Fraction(1, 2), Fraction(3, 4)), Range(Fraction(1, 4), Fraction(2, 3))
+    assert one.both(other) == Range(Fraction(1, 2), Fraction(2, 3))
+    assert one.divided(Fraction(2)) == Range(Fraction(1, 4), Fraction(3, 8))
     assert one.within(Fraction(1, 2)) and not one.within(Fraction(49, 100))
 
 
@@ -227,9 +229,9 @@ def test_sentences_of_surveys():
         "133.3 % to 133.4 % of every demand."
     )
     assert sentence(of_values("failure", {"AB": Fraction(2)})).startswith("all demands fit after each of 1 single failure. ")
-    assert "AB (A – B): at most 216.7 % of every demand with it" in sentence(of_values("double", DOUBLED, solver="none"))
+    assert "AB (A – B): 216.6 % to 216.7 % of every demand with it" in sentence(of_values("double", DOUBLED, solver="none"))
     assert sentence(of_values("failure", CLOSED, Fraction(3, 2))).startswith("With all demands times 1.5: not all demands fit")
-    base = Bounds(Fraction(4, 3), Fraction(7, 5))
+    base = Range(Fraction(4, 3), Fraction(7, 5))
     assert [growth for growth, _ in grown(base, [Fraction(1), Fraction(2)])] == [2, 1]
     assert (
         grown_sentence(Fraction(2), base.divided(Fraction(2)))
@@ -238,7 +240,7 @@ def test_sentences_of_surveys():
 
 
 def test_the_table_rounds_lower_down_and_upper_up():
-    rows = table(survey_table([of_values("failure", CLOSED)], [(Fraction(2), Bounds(Fraction(2, 3), Fraction(2, 3)))]))
+    rows = table(survey_table([of_values("failure", CLOSED)], [(Fraction(2), Range(Fraction(2, 3), Fraction(2, 3)))]))
     assert (rows[0]["change"], rows[0]["lower"], rows[0]["upper"], rows[0]["fits"]) == ("grow 2", "0.666666", "0.666667", "no")
     assert (rows[2]["link"], rows[2]["lower"], rows[2]["upper"], rows[2]["capacity"]) == (
         "AC",
@@ -262,14 +264,14 @@ def test_thickness_is_how_much_a_change_matters():
 def test_a_routing_has_no_ground():
     figures = Figures(scale(read_network(TRIANGLE)), read_any(load_text(EXAMPLES / "triangle.routing")))
     with pytest.raises(TextError, match="a routing has no bound"):
-        _ = Ground(Program("none"), "net", "cert", figures).base
+        _ = Ground(Program("none"), "net", "cert", figures, Judged("", "feasible undirected none 4/3 1.333333")).base
 
 
 @pytest.mark.parametrize("width", [400, 1600])
 def test_pages_of_surveys_in_a_browser(tmp_path: Path, width: int):
     both = [of_values("failure", CLOSED), of_values("double", DOUBLED)]
     page = survey_page(
-        "<script>window.top.hit=1</script>", triangle().scaled, both, [(Fraction(2), Bounds(Fraction(2, 3), Fraction(2, 3)))]
+        "<script>window.top.hit=1</script>", triangle().scaled, both, [(Fraction(2), Range(Fraction(2, 3), Fraction(2, 3)))]
     )
     seen = browser.measured(page, width, tmp_path)
     assert seen["outside"] == [] and seen["lost"] == [] and seen["wide"] <= width

@@ -4,30 +4,41 @@ from __future__ import annotations
 
 import argparse
 import os
-import sys
 from fractions import Fraction
 from pathlib import Path
+from typing import TYPE_CHECKING, NoReturn
 
 from mcf import TextError, find_program, fraction_of
 from mcf.needs import needed
+from mcf.output import main_of, require_output
+from mcf.ranges import status
+
+if TYPE_CHECKING:
+    from mcf.survey.cases import Settings
 
 EXAMPLES = """
 examples:
   survey polska.net polska.cert --failures                      one sentence; status 1 where some failure takes it below 1
-  survey polska.net polska.cert --failures --csv failures.csv   a row for each link, the worst failure first
+  survey polska.net polska.cert --failures --csv failures.csv   a row for each link, that after which least is carried first
   survey polska.net polska.cert --double --html double.html     which link is worth doubling, with a map
   survey polska.net polska.cert --failures --grow 1.3           failures where all demands are 1.3 times as great
   survey polska.net polska.cert --grow 1.2 --grow 1.5           growth alone
   survey big.net big.cert --failures --quick                    what the certificate alone says, in a moment
   survey polska.net polska.cert --failures --exact              which of two failures that are nearly the same is worse
 
-Each change is routed anew by `mcf solve`, with the certificate's links and modules, unless --quick says not to.
-The fraction is of every demand: at 1 or more all of them fit.
+Each change is routed anew by `mcf solve`, with the certificate's links and modules, unless --quick says not to; `mcf check`
+judges each certificate before its bounds are used. The fraction is of every demand: at 1 or more all of them fit.
+
+What is known of each change is a range: a fraction that is carried, and one that no routing exceeds. A failure is called the
+worst, or a link the most worth doubling, where its range does not overlap any other one; else all that may be it are named, or it
+is said that nothing is decided. A doubling gains where its range is above that of the network as it is. A smaller --gap, or
+--exact, decides more; --quick decides little.
 
 columns of --csv: change; link, source, target, capacity; lower and upper fraction where all is routed anew;
 kept_lower and kept_upper, what the certificate's own paths and bound are still worth; fits: yes, no or open
+rows are by their lower and then by their upper fraction: the least first, and of doublings the greatest
 
-status: 0 all demands fit in all cases of --failures and --grow; 1 some are not shown to fit; 2 no answer
+status: 0 all demands fit after each change; 1 after some they do not, or it is not decided; 2 no answer; 130 interrupted
 """
 
 
@@ -38,8 +49,8 @@ def options() -> argparse.ArgumentParser:
     )
     parser.add_argument("net", metavar="NET", help="the network")
     parser.add_argument("certificate", metavar="CERT", help="a certificate of it")
-    parser.add_argument("--failures", action="store_true", help="each single link closed, the worst first")
-    parser.add_argument("--double", action="store_true", help="each single link with twice its capacity, the most useful first")
+    parser.add_argument("--failures", action="store_true", help="each single link closed")
+    parser.add_argument("--double", action="store_true", help="each single link with twice its capacity")
     parser.add_argument(
         "--grow",
         action="append",
@@ -71,8 +82,13 @@ def options() -> argparse.ArgumentParser:
     return parser
 
 
-def main() -> int:
-    """Runs the words."""
+def main() -> NoReturn:
+    """Runs the words, and ends the process."""
+    main_of(surveyed, "survey")
+
+
+def surveyed() -> int:
+    """The status of the words that the process has."""
     parser = options()
     words = parser.parse_args()
     kinds = [kind for kind, asked in (("failure", words.failures), ("double", words.double)) if asked]
@@ -82,35 +98,32 @@ def main() -> int:
         parser.error("one growth at a time with --failures or --double")
     if words.quick and words.exact:
         parser.error("--quick does not solve, so it is not exact")
+    if words.exact and (words.phases or words.step):
+        parser.error("--phases and --step are for `mcf solve`, which --exact does not ask")
     if words.jobs < 1:
         parser.error("--jobs is at least 1")
-    try:
-        return run(words, kinds)
-    except TextError as why:
-        print(f"survey: {why}", file=sys.stderr)
-        return 2
-    except KeyboardInterrupt:
-        return 130
+    for output in filter(None, (words.csv, words.html)):
+        require_output(output, (words.net, words.certificate))
+    return run(words, kinds)
 
 
 def run(words: argparse.Namespace, kinds: list[str]) -> int:
     """Makes the surveys, writes them, and says the status."""
     with needed():
-        from mcf.report.work import judged, write
-        from mcf.survey.cases import Ground, Settings, survey
+        from mcf.report.work import judged_figures, write
+        from mcf.survey.cases import Ground, based, survey
         from mcf.survey.page import survey_page
         from mcf.survey.words import grown, grown_sentence, sentence, survey_table
     growths = [fraction_of(word) for word in words.grow]
     if not all(growths):
         raise TextError("--grow is more than 0")
     program = find_program(words.mcf)
-    figures, _ = judged(program, words.net, words.certificate)
-    ground = Ground(program, words.net, words.certificate, figures)
-    given = [word for name in ("gap", "phases", "step") if getattr(words, name) for word in (f"--{name}", getattr(words, name))]
-    solver = "none" if words.quick else "certify" if words.exact else "solve"
-    settings = Settings(growths[0] if kinds and growths else Fraction(1), solver, words.jobs, tuple(given), words.quiet)
-    alone = [] if kinds else grown(ground.base, growths)
-    surveys = [survey(ground, kind, settings) for kind in kinds]
+    figures, judgement = judged_figures(program, words.net, words.certificate)
+    ground = Ground(program, words.net, words.certificate, figures, judgement)
+    settings = settings_of(words, growths[0] if kinds and growths else Fraction(1))
+    base = based(ground, settings) if kinds or words.gap or words.exact else ground.base
+    alone = [] if kinds else grown(base, growths)
+    surveys = [survey(ground, kind, settings, base) for kind in kinds]
     if words.csv:
         write(words.csv, survey_table(surveys, alone))
     if words.html:
@@ -119,9 +132,23 @@ def run(words: argparse.Namespace, kinds: list[str]) -> int:
     if words.csv != "-" and words.html != "-":
         for text in [*(sentence(one) for one in surveys), *(grown_sentence(*one) for one in alone)]:
             print(text[0].upper() + text[1:])
-    cases = [case.routed for one in surveys if one.kind == "failure" for case in one.cases] + [bounds for _, bounds in alone]
-    return int(any(bounds.lower < 1 if settings.solves or not kinds else bounds.upper < 1 for bounds in cases))
+    # (a network without links has no changes; then it counts whether all demands fit as it is)
+    return status([case.range for one in surveys for case in one.cases] + [bounds for _, bounds in alone] or [base])
+
+
+def settings_of(words: argparse.Namespace, growth: Fraction) -> Settings:
+    """How each change is looked at."""
+    with needed():
+        from mcf.survey.cases import Settings
+    given = [word for name in ("gap", "phases", "step") if getattr(words, name) for word in (f"--{name}", getattr(words, name))]
+    solver = "none" if words.quick else "certify" if words.exact else "solve"
+    try:
+        gap = fraction_of(words.gap) if words.gap else None
+    except TextError:
+        # (the program says what is wrong with it)
+        gap = Fraction(0)
+    return Settings(growth, solver, words.jobs, tuple(given), words.quiet, gap)
 
 
 if __name__ == "__main__":
-    sys.exit(main())
+    main()

@@ -8,7 +8,8 @@ import sys
 from dataclasses import dataclass
 from pathlib import Path
 
-from mcf import Program, TextError, judge_of, load_text, read_any, scale
+from mcf import Program, TextError, judge_of, load_text, scale
+from mcf.judged import Judged, NotValid, judge_file
 from mcf.convert.files import contents
 from mcf.convert.model import Notes, Refused
 from mcf.convert.native import read_network
@@ -31,12 +32,18 @@ class Files:
 
 def judged(program: Program, net: str, certificate: str) -> tuple[Figures, str]:
     """The figures of a certificate or routing that `mcf check` finds valid, and what it said."""
-    answer = program.check(net, certificate)
-    if answer.status != 0:
-        said = answer.line or f"status {answer.status}"
-        raise TextError(f"{certificate} on {net}: mcf check says: {said}{_other_kind(certificate) if ' K1 ' in said else ''}")
-    text = read_any(load_text(certificate))
-    return Figures(scale(program.network(net), text.links, text.modules), text), answer.line
+    figures, judgement = judged_figures(program, net, certificate)
+    return figures, judgement.line
+
+
+def judged_figures(program: Program, net: str, certificate: str) -> tuple[Figures, Judged]:
+    """The figures of a certificate or routing that `mcf check` finds valid, and the judgement."""
+    try:
+        found = judge_file(program, net, certificate, "check")
+    except NotValid as why:
+        raise TextError(f"{certificate} on {net}: {why}{_other_kind(certificate) if ' K1 ' in why.said else ''}") from None
+    text = found.content
+    return Figures(scale(program.network(net), text.links, text.modules), text), found
 
 
 def _other_kind(certificate: str) -> str:

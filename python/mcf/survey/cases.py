@@ -6,7 +6,7 @@ import re
 import subprocess
 import tempfile
 from collections.abc import Iterable, Iterator
-from concurrent.futures import ThreadPoolExecutor
+from concurrent.futures import Future, ThreadPoolExecutor, wait
 from contextlib import contextmanager
 from dataclasses import dataclass, replace
 from fractions import Fraction
@@ -14,34 +14,19 @@ from pathlib import Path
 
 from tqdm import tqdm
 
-from mcf import Link, Network, Program, TextError, read_certificate, save_text, write_network
+from mcf import Link, Network, Program, TextError, save_text, write_network
 
+from ..children import end_all, run
+from ..judged import Judged, judge
+from ..ranges import Range, in_order
 from ..report.figures import Figures
 
 # The links of one script: with the longest names it stays below the 1 MiB that scripts may have.
 AT_ONCE = 1000
-SHOW = re.compile(r"show lower (\d+)/(\d+) \S+ upper (\d+)/(\d+) \S+")
-SWEEP = re.compile(r"sweep (\S+) (?:(?:closed|open) phases \d+ )?lower (\d+)/(\d+) \S+ upper (\d+)/(\d+) \S+")
-
-
-@dataclass(frozen=True)
-class Bounds:
-    """A fraction that is carried, and one that no routing exceeds."""
-
-    lower: Fraction
-    upper: Fraction
-
-    def divided(self, growth: Fraction) -> Bounds:
-        """The same where all demands are so many times as great: fractions are by so much smaller."""
-        return Bounds(self.lower / growth, self.upper / growth)
-
-    def best(self, other: Bounds) -> Bounds:
-        """Both hold, so the closer ends do."""
-        return Bounds(max(self.lower, other.lower), min(self.upper, other.upper))
-
-    def within(self, gap: Fraction) -> bool:
-        """Whether both ends are as close as that."""
-        return self.upper <= self.lower * (1 + gap)
+SHOW = re.compile(r"^show lower (\d+)/(\d+) \S+ upper (\d+)/(\d+) \S+$", re.ASCII | re.MULTILINE)
+SWEEP = re.compile(
+    r"^sweep (\S+) (?:(?:closed|open) phases \d+ )?lower (\d+)/(\d+) \S+ upper (\d+)/(\d+) \S+$", re.ASCII | re.MULTILINE
+)
 
 
 @dataclass(frozen=True)
@@ -51,8 +36,13 @@ class Case:
     kind: str
     link: Link
     capacity: Fraction
-    kept: Bounds
-    routed: Bounds
+    kept: Range
+    routed: Range
+
+    @property
+    def range(self) -> Range:
+        """What is known of the fraction after the change."""
+        return self.routed
 
 
 @dataclass(frozen=True)
@@ -64,6 +54,7 @@ class Settings:
     jobs: int = 1
     options: tuple[str, ...] = ()
     quiet: bool = False
+    gap: Fraction | None = None
 
     @property
     def solves(self) -> bool:
@@ -77,7 +68,7 @@ class Survey:
 
     figures: Figures
     kind: str
-    base: Bounds
+    base: Range
     cases: tuple[Case, ...]
     settings: Settings
 
@@ -90,14 +81,15 @@ class Ground:
     net: str
     certificate: str
     figures: Figures
+    judgement: Judged
 
     @property
-    def base(self) -> Bounds:
-        """The bounds of the network as it is."""
-        upper = self.figures.upper
-        if upper is None:
-            raise TextError(f"{self.certificate}: a routing has no bound, so a certificate is wanted")
-        return Bounds(self.figures.lower, upper)
+    def base(self) -> Range:
+        """The bounds of the network as it is, by the certificate."""
+        try:
+            return self.judgement.range
+        except TextError as why:
+            raise TextError(f"{self.certificate}: {why}") from None
 
     @property
     def links(self) -> tuple[Link, ...]:
@@ -109,10 +101,9 @@ class Ground:
         return link.installed(self.figures.scaled.modules)
 
 
-def survey(ground: Ground, kind: str, settings: Settings) -> Survey:
-    """The cases of a kind, `failure` or `double`, the worst failure or the best doubling first."""
+def survey(ground: Ground, kind: str, settings: Settings, base: Range) -> Survey:
+    """The cases of a kind, `failure` or `double`: failures by what is carried at least, doublings likewise and the greatest first."""
     factor = {"failure": 0, "double": 2}[kind]
-    base = ground.base
     kept = _kept(ground, kind, factor)
     routed = list(_routed(ground, factor, kept, settings)) if settings.solves else kept
     growth = settings.growth
@@ -120,19 +111,31 @@ def survey(ground: Ground, kind: str, settings: Settings) -> Survey:
         Case(kind, link, ground.installed(link), old.divided(growth), new.divided(growth))
         for link, old, new in zip(ground.links, kept, routed)
     ]
-    return Survey(ground.figures, kind, base.divided(growth), tuple(sorted(cases, key=_order)), settings)
+    return Survey(ground.figures, kind, base.divided(growth), in_order(cases, greatest_first=kind == "double"), settings)
 
 
-def _order(case: Case) -> tuple[Fraction, Fraction]:
-    """Failures by the least fraction, doublings by the greatest."""
-    key = (case.routed.lower, case.routed.upper)
-    return key if case.kind == "failure" else (-key[0], -key[1])
+def based(ground: Ground, settings: Settings) -> Range:
+    """The bounds of the network as it is: those of the certificate, and of a solve where these are not close enough."""
+    base = ground.base
+    if not settings.solves or base.within(_gap(ground, settings)):
+        return base
+    return base.both(_judged(ground, ground.figures.scaled.network, settings))
 
 
-def _kept(ground: Ground, kind: str, factor: int) -> list[Bounds]:
-    """What the certificate is still worth in each case: by `sweep` where the program has it, else by `whatif`."""
+def _gap(ground: Ground, settings: Settings) -> Fraction:
+    """The gap at which nothing is solved: the one that is asked for, else that of the certificate; an exact survey has none."""
+    if settings.solver != "solve":
+        return Fraction(0)
+    return Fraction(getattr(ground.judgement.content, "gap"), 10**6) if settings.gap is None else settings.gap
+
+
+def _kept(ground: Ground, kind: str, factor: int) -> list[Range]:
+    """What the certificate is still worth in each case: by `sweep` where the program has it, else by `whatif`.
+
+    Both judge the certificate themselves, and each of their lines is proved to hold on the changed network.
+    """
     if kind == "failure":
-        swept = _swept(ground, "sweep", ground.net, ground.certificate)
+        swept = _swept(ground, (0,), "sweep", ground.net, ground.certificate)
         if swept:
             return swept
     links = ground.links
@@ -140,22 +143,25 @@ def _kept(ground: Ground, kind: str, factor: int) -> list[Bounds]:
     return [bounds for part in parts for bounds in _shown(ground, part, factor)]
 
 
-def _shown(ground: Ground, links: tuple[Link, ...], factor: int) -> list[Bounds]:
+def _shown(ground: Ground, links: tuple[Link, ...], factor: int) -> list[Range]:
     """What `whatif` shows of the certificate with each of these links changed."""
     with _room() as room:
         save_text(room / "script", "".join(_steps(ground, link, factor) for link in links))
         text = ground.program.ask("whatif", ground.net, ground.certificate, str(room / "script"))
-    found = [_bounds(match.groups()) for match in SHOW.finditer(text)]
+    found = [_range(match.groups()) for match in SHOW.finditer(text)]
     if len(found) != len(links):
         raise TextError(f"mcf whatif wrote {len(found)} lines for {len(links)} links")
     return found
 
 
-def _swept(ground: Ground, *words: str) -> list[Bounds] | None:
-    """The lines of `sweep` or `sweepsolve`; none where the program has no such command, or not this work."""
+def _swept(ground: Ground, statuses: tuple[int, ...], *words: str) -> list[Range] | None:
+    """The lines of `sweep` or `sweepsolve`; none where the program has no such command, or not this work.
+
+    A line of `sweepsolve` is proved to be that of a solve of the network without the link, closed or open.
+    """
     answer = ground.program.run(*words)
-    by_link = {match[1]: _bounds(match.groups()[1:]) for match in SWEEP.finditer(answer.text)}
-    complete = answer.status in (0, 1) and all(link.id in by_link for link in ground.links)
+    by_link = {match[1]: _range(match.groups()[1:]) for match in SWEEP.finditer(answer.text)}
+    complete = answer.status in statuses and all(link.id in by_link for link in ground.links)
     return [by_link[link.id] for link in ground.links] if complete else None
 
 
@@ -171,39 +177,53 @@ def _decimal(value: Fraction) -> str:
     return f"{millionths // 10**6}.{millionths % 10**6:06d}".rstrip("0").rstrip(".")
 
 
-def _bounds(words: Iterable[str]) -> Bounds:
-    """The bounds of four numbers."""
+def _range(words: Iterable[str]) -> Range:
+    """The range of four numbers."""
     a, b, c, d = map(int, words)
-    return Bounds(Fraction(a, b), Fraction(c, d))
+    return Range(Fraction(a, b), Fraction(c, d))
 
 
-def _routed(ground: Ground, factor: int, kept: list[Bounds], settings: Settings) -> Iterator[Bounds]:
+def _routed(ground: Ground, factor: int, kept: list[Range], settings: Settings) -> Iterator[Range]:
     """The bounds of each case routed anew; where the old paths are as good already, nothing is solved."""
-    gap = Fraction(getattr(ground.figures.text, "gap"), 10**6) if settings.solver == "solve" else Fraction(0)
+    gap = _gap(ground, settings)
     if factor == 0 and settings.solver == "solve":
-        swept = _swept(ground, "sweepsolve", *_modes(ground), *settings.options, "--", ground.net)
-        kept = [old.best(new) for old, new in zip(kept, swept)] if swept else kept
+        swept = _swept(ground, (0, 1), "sweepsolve", *_modes(ground), *settings.options, "--", ground.net)
+        kept = [old.both(new) for old, new in zip(kept, swept)] if swept else kept
     with ThreadPoolExecutor(settings.jobs) as pool:
         tasks = [None if old.within(gap) else pool.submit(_solved, ground, at, factor, settings) for at, old in enumerate(kept)]
         try:
             bar = tqdm(zip(tasks, kept), total=len(tasks), unit="link", disable=True if settings.quiet else None)
             for task, old in bar:
-                yield task.result().best(old) if task else old
-        finally:
-            pool.shutdown(cancel_futures=True)
+                yield task.result().both(old) if task else old
+        except BaseException:
+            _end([task for task in tasks if task])
+            raise
 
 
-def _solved(ground: Ground, at: int, factor: int, settings: Settings) -> Bounds:
+def _end(tasks: list[Future[Range]]) -> None:
+    """Ends all solves: none begins any more, and children of those that run are ended, until all are done."""
+    running = {task for task in tasks if not task.cancel()}
+    while running:
+        end_all()
+        running = wait(running, timeout=0.1).not_done
+
+
+def _solved(ground: Ground, at: int, factor: int, settings: Settings) -> Range:
     """The bounds of the network with one link changed."""
-    scaled = ground.figures.scaled
+    network = changed(ground.figures.scaled.network, at, ground.installed(ground.links[at]) * factor)
+    return _judged(ground, network, settings)
+
+
+def _judged(ground: Ground, network: Network, settings: Settings) -> Range:
+    """The bounds of a network by a new certificate, once `check` calls that valid."""
     with _room() as room:
-        save_text(room / "net", write_network(changed(scaled.network, at, ground.installed(ground.links[at]) * factor)))
+        net = room / "net"
+        save_text(net, write_network(network))
         if settings.solver == "certify":
-            text = _certified(ground, room / "net", *_modes(ground), *settings.options)
+            text = _certified(ground, net, *_modes(ground), *settings.options)
         else:
-            text = ground.program.solve(room / "net", *_modes(ground), "--workers", "1", *settings.options)
-    found = read_certificate(text)
-    return Bounds(Fraction(*found.lower), Fraction(*found.upper))
+            text = ground.program.solve(net, *_modes(ground), "--workers", "1", *settings.options)
+        return judge(ground.program, net, text).range
 
 
 def _modes(ground: Ground) -> tuple[str, ...]:
@@ -214,7 +234,7 @@ def _modes(ground: Ground) -> tuple[str, ...]:
 def _certified(ground: Ground, net: Path, *words: str) -> str:
     """The certificate of `tools/certify`, for the changed network."""
     command = [str(Path(__file__).parents[3] / "tools/certify"), str(net), *words, "--mcf", ground.program.path]
-    done = subprocess.run(command, capture_output=True, stdin=subprocess.DEVNULL, check=False)
+    done = run(command, errors=subprocess.PIPE)
     if done.returncode not in (0, 1):
         lines = done.stderr.decode("utf-8", "replace").splitlines()
         raise TextError(lines[-1] if lines else f"certify ended with status {done.returncode}")

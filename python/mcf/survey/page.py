@@ -7,28 +7,29 @@ from fractions import Fraction
 
 from mcf import ScaledNetwork
 
+from ..ranges import Answer, Range, fits, least_gain, least_loss
 from ..report import shown
 from ..report.drawing import CLOSED, Drawing, Line, drawn
 from ..report.layout import layout
 from ..report.page import about, render
 from . import words as survey_words
-from .cases import Bounds, Case, Survey
+from .cases import Case, Survey
 
-HEADINGS = {"failure": "Single failures, the worst first", "double": "Links doubled, the most useful first"}
+HEADINGS = {"failure": "Single failures, by what is carried after each", "double": "Links doubled, by what is carried with each"}
 STEPS = (Fraction(1, 100), Fraction(1, 10), Fraction(1, 4), Fraction(1, 2))
 FAILURE_COLOURS = (
-    ("0", "#92c5de", "by at most 1 %"),
-    ("1", "#e6c34a", "1 to 10 %"),
-    ("2", "#f4a05c", "10 to 25 %"),
-    ("3", "#d6604d", "25 to 50 %"),
+    ("0", "#92c5de", "less is shown, or nothing"),
+    ("1", "#e6c34a", "more than 1 %"),
+    ("2", "#f4a05c", "more than 10 %"),
+    ("3", "#d6604d", "more than 25 %"),
     ("4", "#8e0f24", "more than 50 %"),
     (CLOSED, "#9aa5b1", "without capacity"),
 )
 DOUBLE_COLOURS = (
-    ("0", "#c2cad2", "by at most 1 %"),
-    ("1", "#a6dba0", "1 to 10 %"),
-    ("2", "#5aae61", "10 to 25 %"),
-    ("3", "#1b7837", "25 to 50 %"),
+    ("0", "#c2cad2", "less is shown, or nothing"),
+    ("1", "#a6dba0", "more than 1 %"),
+    ("2", "#5aae61", "more than 10 %"),
+    ("3", "#1b7837", "more than 25 %"),
     ("4", "#00441b", "more than 50 %"),
     (CLOSED, "#9aa5b1", "without capacity"),
 )
@@ -56,8 +57,8 @@ class Part:
         """The colour of the sentence."""
         if self.survey.kind == "double":
             return ""
-        found = {survey_words.fits(case.routed) for case in self.survey.cases}
-        return "bad" if "no" in found else "open" if "open" in found else "good"
+        found = {fits(case.range) for case in self.survey.cases}
+        return "bad" if Answer.NO in found else "open" if Answer.OPEN in found else "good"
 
     @property
     def colours(self) -> tuple[tuple[str, str, str], ...]:
@@ -67,9 +68,7 @@ class Part:
     @property
     def legend(self) -> str:
         """What colours mean."""
-        if not self.survey.settings.solves:
-            return "The bound of the fraction " + ("falls" if self.survey.kind == "failure" else "rises")
-        return "The fraction that is carried " + ("falls" if self.survey.kind == "failure" else "rises")
+        return "The fraction of every demand " + ("falls at least by" if self.survey.kind == "failure" else "rises at least by")
 
     def drawing(self) -> Drawing:
         """The map: each link as thick as its change matters."""
@@ -93,24 +92,20 @@ class Part:
         return Line(path, key, key, width, title)
 
     def change(self, case: Case) -> Fraction:
-        """By what part of it the fraction changes, where 0 is not at all."""
-        solved = self.survey.settings.solves
-        base = self.survey.base.lower if solved else self.survey.base.upper
-        new = case.routed.lower if solved else case.routed.upper
-        if not base:
-            return Fraction(0)
-        return max(Fraction(0), (base - new) / base if case.kind == "failure" else (new - base) / base)
+        """By what part of it the fraction changes at least, where 0 is not shown to change."""
+        change = least_loss if self.survey.kind == "failure" else least_gain
+        return change(case.range, self.survey.base)
 
 
-def spread(bounds: Bounds) -> str:
+def spread(bounds: Range) -> str:
     """Both ends in percent."""
     low = shown.percent_down(bounds.lower) if bounds.lower else "0.0 %"
     return f"{low} to {shown.percent_up(bounds.upper)}"
 
 
-def survey_page(title: str, scaled: ScaledNetwork, surveys: list[Survey], growths: list[tuple[Fraction, Bounds]]) -> str:
+def survey_page(title: str, scaled: ScaledNetwork, surveys: list[Survey], growths: list[tuple[Fraction, Range]]) -> str:
     """The page of surveys on one network."""
     grown = [shown.joined(survey_words.grown_sentence(growth, bounds)) for growth, bounds in growths]
-    words = {"yes": "yes", "no": "no", "open": "not decided"}
+    words = {Answer.YES: "yes", Answer.NO: "no", Answer.OPEN: "not decided"}
     values = {"surveyed": [Part(one) for one in surveys], "grown": grown, "about": about(scaled), "spread": spread}
-    return render("survey.html", title=title, fits=lambda bounds: words[survey_words.fits(bounds)], **values)
+    return render("survey.html", title=title, fits=lambda bounds: words[fits(bounds)], **values)

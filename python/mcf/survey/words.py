@@ -2,24 +2,23 @@
 
 from __future__ import annotations
 
+from collections.abc import Sequence
 from fractions import Fraction
 
 from mcf import decimal_of, rounded_down, rounded_up
 
+from ..ranges import Answer, Extreme, Range, best, fits, gains, most_gain, worst
 from ..report.shown import counted, decimal, name, percent_down, percent_up
 from ..report.tables import table
-from .cases import Bounds, Case, Survey
+from .cases import Case, Survey
 
 COLUMNS = ("change", "link", "source", "target", "capacity", "lower", "upper", "kept_lower", "kept_upper", "fits")
+FEW = 3
+"""How many of many links are named."""
 
 
-def fits(bounds: Bounds) -> str:
-    """Whether all demands fit: yes, no, or not decided."""
-    return "yes" if bounds.lower >= 1 else "no" if bounds.upper < 1 else "open"
-
-
-def grown(base: Bounds, growths: list[Fraction]) -> list[tuple[Fraction, Bounds]]:
-    """The bounds where all demands are so many times as great, the worst first."""
+def grown(base: Range, growths: list[Fraction]) -> list[tuple[Fraction, Range]]:
+    """The bounds where all demands are multiplied by a number, the greatest number first."""
     return [(growth, base.divided(growth)) for growth in sorted(growths, reverse=True)]
 
 
@@ -33,22 +32,64 @@ def sentence(survey: Survey) -> str:
 
 def _failures(survey: Survey) -> str:
     """Of failures: how many leave no room for all demands, and which is the worst."""
-    first, every = survey.cases[0], counted(len(survey.cases), "single failure")
-    lost, left = (sum(fits(case.routed) == word for case in survey.cases) for word in ("no", "open"))
+    every = counted(len(survey.cases), "single failure")
+    lost, left = (sum(fits(case.range) is answer for case in survey.cases) for answer in (Answer.NO, Answer.OPEN))
     front = f"all demands fit after each of {every}"
     if lost:
         front = f"not all demands fit after {lost} of {every}" + (f", and after {left} it is not decided" if left else "")
     elif left:
         front = f"it is not decided whether all demands fit after {left} of {every}"
-    worst = f"The worst is that of {_title(first)}: {_range(first.routed, survey.settings.solves)}"
-    return f"{front}. {worst}; without failures it is {_range(survey.base, True)}."
+    return f"{front}. {_worst(worst(survey.cases))}; without failures it is {_range(survey.base)}."
+
+
+def _worst(found: Extreme[Case]) -> str:
+    """Which failure is the worst, and what it leaves."""
+    left = _range(found.range)
+    if found.alone:
+        return f"The worst is that of {_titles(found.cases)}: {left}"
+    if found.equal:
+        return f"The worst are those of {_titles(found.cases)}, which are equally bad: {left}"
+    if found.sure:
+        return f"None is worse than that of {_titles(found.sure)}, and whether others are as bad is not decided: {left}"
+    if found.is_open:
+        return f"Which is the worst is not decided: it leaves {left}"
+    return f"The worst is one of {len(found.cases)}, and not decided between them, which are those of {_titles(found.cases)}: {left}"
 
 
 def _doublings(survey: Survey) -> str:
-    """Of doublings: which link is worth most."""
-    first = survey.cases[0]
-    with_it, without = _range(first.routed, survey.settings.solves), _range(survey.base, True)
-    return f"the link most worth doubling is {_title(first)}: {with_it} with it, and {without} without."
+    """Of doublings: whether one gains anything, and which link is worth most."""
+    base = survey.base
+    answers = {gains(case.range, base) for case in survey.cases}
+    if answers == {Answer.NO}:
+        return f"doubling any one link gains nothing: it is {_range(base)} with it and without."
+    found = best(survey.cases)
+    with_it, without = _range(found.range), _range(base)
+    if Answer.YES in answers:
+        return f"{_best(found)}: {with_it} with it, and {without} without."
+    most = most_gain(found.range, base)
+    limit = "" if most is None else f", and none gains more than {percent_up(most)}"
+    return f"it is not decided whether doubling any one link gains anything{limit}: {with_it} with the best, and {without} without."
+
+
+def _best(found: Extreme[Case]) -> str:
+    """Which link is most worth doubling."""
+    if found.alone:
+        return f"the link most worth doubling is {_titles(found.cases)}"
+    if found.equal:
+        return f"the links most worth doubling, one of them alone, are {_titles(found.cases)}, which are worth the same"
+    if found.sure:
+        return f"no link is more worth doubling than {_titles(found.sure)}, and whether others are worth as much is not decided"
+    if found.is_open:
+        return "some link is worth doubling, and which one most is not decided"
+    return f"the link most worth doubling is one of {len(found.cases)}, and not decided between them, which are {_titles(found.cases)}"
+
+
+def _titles(cases: Sequence[Case]) -> str:
+    """The links of cases, the first few of many."""
+    names = [_title(case) for case in cases]
+    if len(names) > FEW + 1:
+        names = [*names[:FEW], counted(len(names) - FEW, "other")]
+    return f"{', '.join(names[:-1])} and {names[-1]}" if len(names) > 1 else names[0]
 
 
 def _title(case: Case) -> str:
@@ -56,39 +97,41 @@ def _title(case: Case) -> str:
     return f"{name(case.link.id)} ({name(case.link.source)} – {name(case.link.target)})"
 
 
-def _range(bounds: Bounds, routed: bool) -> str:
+def _range(bounds: Range) -> str:
     """From where to where the fraction lies, in percent."""
     if bounds.upper == 0:
         return "some demand has no way at all"
-    if not routed:
+    if bounds.lower == 0:
         return f"at most {percent_up(bounds.upper)} of every demand"
     return f"{percent_down(bounds.lower)} to {percent_up(bounds.upper)} of every demand"
 
 
-def grown_sentence(growth: Fraction, bounds: Bounds) -> str:
+def grown_sentence(growth: Fraction, bounds: Range) -> str:
     """What becomes of the fraction where demands grow."""
-    words = {"yes": "all of them fit", "no": "they do not all fit", "open": "it is not decided whether they fit"}
-    return f"With all demands times {_plain(growth)} {words[fits(bounds)]}: {_range(bounds, True)}."
+    words = {Answer.YES: "all of them fit", Answer.NO: "they do not all fit", Answer.OPEN: "it is not decided whether they fit"}
+    return f"With all demands times {_plain(growth)} {words[fits(bounds)]}: {_range(bounds)}."
 
 
 def _plain(value: Fraction) -> str:
-    """A growth as it was given."""
-    return f"{float(value):g}"
+    """A growth, exactly: it was given as a decimal."""
+    places = next(places for places in range(10**4) if (value * 10**places).denominator == 1)
+    text = str(int(value * 10**places)).rjust(places + 1, "0")
+    return f"{text[:-places]}.{text[-places:]}" if places else text
 
 
-def survey_table(surveys: list[Survey], growths: list[tuple[Fraction, Bounds]]) -> str:
+def survey_table(surveys: list[Survey], growths: list[tuple[Fraction, Range]]) -> str:
     """A row for each case, in their order; growth of demands has rows of its own."""
     rows = [
-        [f"grow {_plain(growth)}", "", "", "", "", *_both(bounds), *_both(bounds), fits(bounds)] for growth, bounds in growths
+        [f"grow {_plain(growth)}", "", "", "", "", *_both(bounds), *_both(bounds), fits(bounds).value] for growth, bounds in growths
     ]
     for one in surveys:
         for case in one.cases:
             words = [case.kind, case.link.id, case.link.source, case.link.target, decimal(case.capacity)]
-            rows.append([*words, *_both(case.routed), *_both(case.kept), fits(case.routed)])
+            rows.append([*words, *_both(case.routed), *_both(case.kept), fits(case.range).value])
     return table(COLUMNS, rows)
 
 
-def _both(bounds: Bounds) -> tuple[str, str]:
+def _both(bounds: Range) -> tuple[str, str]:
     """Both ends with six decimals, the lower one rounded down and the upper one up."""
     low, high = bounds.lower, bounds.upper
     return decimal_of(rounded_down(low.numerator, low.denominator)), decimal_of(rounded_up(high.numerator, high.denominator))

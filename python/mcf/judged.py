@@ -1,0 +1,81 @@
+"""Certificates and routings that the proved program called valid or feasible in this run: what sentences are made of.
+
+The bounds are those of the program's own line. The text that was judged is the one that is kept, so a file that changes meanwhile
+changes nothing of what is said.
+"""
+
+from __future__ import annotations
+
+import re
+import tempfile
+from dataclasses import dataclass
+from fractions import Fraction
+from functools import cached_property
+from pathlib import Path as File
+
+from .certificate import Routing, judge_of, load_text, read_any, save_text
+from .errors import TextError
+from .program import Program
+from .ranges import Range
+
+_VALID = re.compile(r"valid (closed|open) \w+ \w+ lower (\d+)/([1-9]\d*) \S+ upper (\d+)/([1-9]\d*) \S+")
+_FEASIBLE = re.compile(r"feasible \w+ \w+ (\d+)/([1-9]\d*) \S+")
+
+
+@dataclass(frozen=True)
+class Judged:
+    """A text with the line that `check`, `checkhops` or `checkthroughput` wrote of it."""
+
+    text: str
+    line: str
+
+    @cached_property
+    def content(self) -> Routing:
+        """The certificate or routing."""
+        return read_any(self.text)
+
+    @property
+    def closed(self) -> bool:
+        """Whether the gap that the certificate names is kept."""
+        return self.line.startswith("valid closed ")
+
+    @property
+    def lower(self) -> Fraction:
+        """What is carried: a fraction of every demand, or a total."""
+        match = _FEASIBLE.fullmatch(self.line)
+        return Fraction(int(match[1]), int(match[2])) if match else self.range.lower
+
+    @property
+    def range(self) -> Range:
+        """Both bounds of a certificate; TextError for a routing, which has one alone."""
+        match = _VALID.fullmatch(self.line)
+        if match is None:
+            raise TextError("a routing has no bound, so a certificate is wanted")
+        a, b, c, d = map(int, match.groups()[1:])
+        return Range(Fraction(a, b), Fraction(c, d))
+
+
+class NotValid(TextError):
+    """A text that is not valid or feasible; `said` is the program's line."""
+
+    def __init__(self, command: str, said: str) -> None:
+        """The command that judged, and what it said."""
+        super().__init__(f"mcf {command} says: {said}")
+        self.command, self.said = command, said
+
+
+def judge(program: Program, net: str | File, text: str, command: str | None = None) -> Judged:
+    """A text, once it is judged by the command of its kind, or by the one that is named; NotValid where it is not valid or feasible."""
+    judging = command or judge_of(text)
+    with tempfile.TemporaryDirectory(prefix="mcf-judge-") as room:
+        file = File(room, "cert")
+        save_text(file, text)
+        answer = program.check(net, file, command=judging)
+    if answer.status != 0 or not (_VALID.fullmatch(answer.line) or _FEASIBLE.fullmatch(answer.line)):
+        raise NotValid(judging, answer.line or f"status {answer.status}")
+    return Judged(text, answer.line)
+
+
+def judge_file(program: Program, net: str | File, file: str | File, command: str | None = None) -> Judged:
+    """The text of a file, likewise."""
+    return judge(program, net, load_text(file), command)
