@@ -8,8 +8,8 @@ ghost use Rattle.hop_check.specs.Limits.{whole_of};
 
 use sndlib_grammar::NumberParts;
 
-/// What stands for all that is as great: more than any number of nodes.
-pub const MANY: u32 = 1000;
+/// Saturation value, above any node count.
+pub const MANY: u32 = 1 << 16;
 
 // The number, up to `MANY`.
 #[inline(always)]
