@@ -165,7 +165,7 @@ pub later-fits : (step : ℕ) (f : Fill) → IsFill f → step ≤ MAX_STEP → 
 later-fits step f is l = record { cap = is.cap; load = is.some; step = l }
 
 -- a bound divides
-bound-divides : (net : Network) (limits : List (Option ℕ)) (setting : Setting) (turns : List Row) (d : HopDual) → IsNetwork net → AreLimits net limits → IsHopBoundOf net limits (lengths_of net setting (loads_of net turns)) d → 1 ≤ (hop_upper_of net limits d).den
+pub bound-divides : (net : Network) (limits : List (Option ℕ)) (setting : Setting) (turns : List Row) (d : HopDual) → IsNetwork net → AreLimits net limits → IsHopBoundOf net limits (lengths_of net setting (loads_of net turns)) d → 1 ≤ (hop_upper_of net limits d).den
 bound-divides net limits setting turns d n are bound =
     let loads = loads_of net turns in
     let far = empty-far setting (greatest_exponent setting net.cells loads) (least_capacity net.cells) net.cells loads (loads-length net turns) in
