@@ -8,8 +8,8 @@ ghost use Rattle.hop_check.specs.Limits.{whole_of};
 
 use sndlib_grammar::NumberParts;
 
-/// Saturation value, above any node count.
-pub const MANY: u32 = 1 << 16;
+/// Saturation value, not below any node count.
+pub const MANY: u32 = 1000;
 
 // The number, up to `MANY`.
 #[inline(always)]
