@@ -6,6 +6,7 @@
 mod form;
 mod forms;
 mod head_lines;
+mod laws;
 mod names;
 mod net_line;
 mod numbers;
@@ -18,6 +19,7 @@ mod signed;
 pub use form::Form;
 pub use forms::{begins, list_behind, one_behind, row_behind, two_behind};
 pub use head_lines::{gap_line, is_fixed, phases_line, scale_line, value_line, verdict_line};
+pub use laws::limits_of_written_numbers;
 pub use names::Names;
 pub use net_line::counts_line;
 pub use numbers::{decimal_within, number_within};

@@ -1,12 +1,13 @@
 -- The best of certificates is valid, no worse than any of them, and the only one.
-use Rattle.std.proofs.Common.{◌≡◌, ◌≢◌, ℕ, ◌+◌, ◌<◌, ◌≤◌, List, [], ◌∷◌, ◌++◌, Bool, true, false, cond, length, get_or, map, refl, sym, ap, subst, ◌∙◌, arith}
-use Rattle.std.specs.Prelude.{All, IfSome, Option, Some, None, filter, option_to_list}
+use Rattle.std.proofs.Common.{◌≡◌, ◌≢◌, ℕ, zero, suc, ◌+◌, ◌<◌, ◌≤◌, List, [], ◌∷◌, ◌++◌, Bool, true, false, cond, length, get_or, map, refl, sym, ap, subst, ◌∙◌, arith}
+use Rattle.std.specs.Prelude.{All, IfSome, Option, Some, None, filter, option_to_list, slice_get}
 use Rattle.std.specs.Option.{option_map}
 use Rattle.std.specs.List.{flat_map, range_with_len}
 use Rattle.std.proofs.lemmas.List.{get_or-map, length-map}
 use Rattle.std.proofs.lemmas.List.Elements.{All-append, All-cons, All-filter, All-head, All-map, All-tail, All-weaker, filter_passes}
 use Rattle.std.proofs.lemmas.List.FromFn.{length-map-range_with_len}
 use Rattle.std.proofs.lemmas.Bool.{ltb-true}
+use Rattle.std.proofs.lemmas.Option.{same_Some}
 use Rattle.gap_fraction.specs.Fraction.{FractionLe}
 use Rattle.flow_model.specs.declared.net.Cell.{Cell}
 use Rattle.flow_model.specs.Groups.{group_sources, is_source}
@@ -20,9 +21,10 @@ use Rattle.flow_paths.specs.Least.{least_by}
 use Rattle.cut_bound.specs.Cuts.{Side, cut_value, cut_dual, length_rows, leaves, side_lengths, side_potential, side_row}
 use Rattle.cut_bound.specs.Candidates.{fronts, is_crossed, node_sides, no_dual, rows_in, IsBestDual}
 use Rattle.cut_bound.specs.Laws.{GoBothWays, IsBetter, IsFirstCandidate}
+use Rattle.cut_bound.specs.Least.{IsFirstGreatest}
 use Rattle.cut_bound.specs.Search.{IsDualOf}
 use Rattle.cut_bound.specs.Tightened.{duals, greatest_routing, routings, HasFraction, IsCertificateOf, IsMadeOf, IsTightened}
-use Rattle.cut_bound.proofs.Leasts.{le-trans, least-one, test-gt, test-le}
+use Rattle.cut_bound.proofs.Leasts.{le-test, le-trans, least-one, test-gt, test-le}
 use Rattle.cut_bound.proofs.Bounding.{best-first, best-not-above}
 use Rattle.cut_bound.proofs.CutDuals.{cut-valid}
 use Rattle.cut_bound.proofs.Making.{range-below}
@@ -107,6 +109,27 @@ greatest-above r (q ∷ qs) h =
         (λ x le. le-trans (lower_of x) (lower_of (greatest_routing q qs)) (lower_of r) low le (test-le (lower_of (greatest_routing q qs)) (lower_of r) is)) (q ∷ qs) above)
     by_test false is low above = All-cons (λ (x : Routing). FractionLe (lower_of x) (lower_of (greatest_routing q qs))) r (q ∷ qs)
         (test-gt (lower_of (greatest_routing q qs)) (lower_of r) is) above
+
+-- it is the first of those that carry the greatest fraction
+greatest-first : (r : Routing) (qs : List Routing) → All (λ (q : Routing). 1 ≤ (lower_of q).den) (r ∷ qs) → IsFirstGreatest lower_of (r ∷ qs) (greatest_routing r qs)
+greatest-first r [] h = record { place = 0; here = refl; greatest = greatest-above r [] h; before = λ i q l. absurd (omega arith) }
+greatest-first r (q ∷ qs) h =
+    by_test (fraction_le (lower_of (greatest_routing q qs)) (lower_of r)) refl (greatest-first q qs (All-tail (λ (x : Routing). 1 ≤ (lower_of x).den) r (q ∷ qs) h)) (greatest-above r (q ∷ qs) h)
+  where
+    below : fraction_le (lower_of (greatest_routing q qs)) (lower_of r) ≡ false → (x : Routing) → Some r ≡ Some x → FractionLe (lower_of (greatest_routing q qs)) (lower_of x) → ⊥
+    below is x at le =
+        let same : r ≡ x = same_Some r x at in
+        let test : true ≡ false = sym (ap (λ (z : Routing). fraction_le (lower_of (greatest_routing q qs)) (lower_of z)) same ∙ le-test (lower_of (greatest_routing q qs)) (lower_of x) le) ∙ is in
+        cc
+
+    by_test : (t : Bool) → fraction_le (lower_of (greatest_routing q qs)) (lower_of r) ≡ t → IsFirstGreatest lower_of (q ∷ qs) (greatest_routing q qs)
+        → All (λ (x : Routing). FractionLe (lower_of x) (lower_of (cond t r (greatest_routing q qs)))) (r ∷ q ∷ qs) → IsFirstGreatest lower_of (r ∷ q ∷ qs) (cond t r (greatest_routing q qs))
+    by_test true is rest all = record { place = 0; here = refl; greatest = all; before = λ i x l. absurd (omega arith) }
+    by_test false is rest all = record { place = suc rest.place; here = rest.here; greatest = all; before = earlier }
+      where
+        earlier : (i : ℕ) (x : Routing) → i < suc rest.place → slice_get (r ∷ q ∷ qs) i ≡ Some x → FractionLe (lower_of (greatest_routing q qs)) (lower_of x) → ⊥
+        earlier zero x l at = below is x at
+        earlier (suc i) x l at = rest.before i x (omega arith) at
 
 -- ---- of one or two certificates
 
@@ -202,3 +225,17 @@ pub tightened-first : (net : Network) (both : Bool) (first : Proof) (others : Li
 tightened-first net both first others best n h t =
     let divide = All-map (λ (d : DualRows). DistanceDivides net d) (λ (p : Proof). p.dual) (first ∷ others) (All-weaker (IsCertificateOf net) (λ (p : Proof). DistanceDivides net p.dual) (λ p g. g.valid.distance) (first ∷ others) h) in
     subst (λ (d : DualRows). IsFirstCandidate net both (duals (first ∷ others)) d) (sym t.made.dual) (best-first net both (duals (first ∷ others)) t.dual n (omega arith) divide t.best_dual)
+
+-- the routings of valid certificates divide
+routings-divide : (net : Network) (ps : List Proof) → All (IsCertificateOf net) ps → All (λ (r : Routing). 1 ≤ (lower_of r).den) (routings ps)
+routings-divide net ps h = All-map (λ (r : Routing). 1 ≤ (lower_of r).den) (λ (p : Proof). p.routing) ps
+    (All-weaker (IsCertificateOf net) (λ (p : Proof). 1 ≤ (lower_of p.routing).den) (λ p g. positive p.routing.scale_load g.valid.routing.scale) ps h)
+  where
+    positive : (m : ℕ) → m ≢ 0 → 1 ≤ m
+    positive m h = omega arith
+
+-- its routing is the first of those that carry the greatest fraction
+pub tightened-routing : (net : Network) (both : Bool) (first : Proof) (others : List Proof) (best : Proof) → All (IsCertificateOf net) (first ∷ others) → IsTightened net both first others best
+    → IsFirstGreatest lower_of (routings (first ∷ others)) best.routing
+tightened-routing net both first others best h t =
+    subst (IsFirstGreatest lower_of (routings (first ∷ others))) (sym t.made.routing) (greatest-first first.routing (routings others) (routings-divide net (first ∷ others) h))

@@ -12,7 +12,8 @@ use Rattle.flow_paths.specs.Certificate.{lower_of, upper_of, CellsHaveLengths, S
 use Rattle.cut_bound.specs.Cuts.{Side, cut_value, cut_dual}
 use Rattle.flow_paths.specs.Least.{IsFirstLeast}
 use Rattle.cut_bound.specs.Candidates.{candidates, rows_in, AreLevels, IsBestDual}
-use Rattle.cut_bound.specs.Tightened.{duals, IsCertificateOf, IsTightened}
+use Rattle.cut_bound.specs.Least.{IsFirstGreatest}
+use Rattle.cut_bound.specs.Tightened.{duals, routings, IsCertificateOf, IsTightened}
 
 -- where cells are said to go both ways, all of them do
 abbrev pub GoBothWays : Network → Bool → Type 0
@@ -74,6 +75,12 @@ abbrev pub TightenedIsFirst : Type 0
 TightenedIsFirst = (net : Network) (both : Bool) (first : Proof) (others : List Proof) (best : Proof) → IsNetwork net
     → All (IsCertificateOf net) (first ∷ others) → IsTightened net both first others best
     → IsFirstCandidate net both (duals (first ∷ others)) best.dual
+
+-- its routing is the first of those that carry the greatest fraction
+abbrev pub TightenedRoutingIsFirst : Type 0
+TightenedRoutingIsFirst = (net : Network) (both : Bool) (first : Proof) (others : List Proof) (best : Proof)
+    → All (IsCertificateOf net) (first ∷ others) → IsTightened net both first others best
+    → IsFirstGreatest lower_of (routings (first ∷ others)) best.routing
 
 -- there is one such certificate
 abbrev pub TightenedIsUnique : Type 0

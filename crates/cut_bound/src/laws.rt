@@ -2,7 +2,7 @@
 
 ghost use Rattle.flow_paths.specs.DualRows.{DualRows};
 ghost use Rattle.cut_bound.specs.Least.{LeastIsFirst};
-ghost use Rattle.cut_bound.specs.Laws.{BestIsNotAbove, CutDualIsItsValue, CutDualsAreValid, CutsBoundRoutings, TightenedIsBest, TightenedIsFirst, TightenedIsSmall, TightenedIsUnique, TightenedStays};
+ghost use Rattle.cut_bound.specs.Laws.{BestIsNotAbove, CutDualIsItsValue, CutDualsAreValid, CutsBoundRoutings, TightenedIsBest, TightenedIsFirst, TightenedIsSmall, TightenedIsUnique, TightenedRoutingIsFirst, TightenedStays};
 
 /// The dual of a cut that some commodity crosses meets the conditions of a certificate on lengths and potentials.
 pub fn cut_duals_are_valid()
@@ -40,6 +40,11 @@ pub fn tightened_is_best()
 /// their rows. It is one of them, none is below it, and all before it are above it.
 pub fn tightened_is_first()
     ensures { TightenedIsFirst }
+{}
+
+/// Its routing is the first of those that carry the greatest fraction: none carries more, and all before it carry less.
+pub fn tightened_routing_is_first()
+    ensures { TightenedRoutingIsFirst }
 {}
 
 /// Where the lengths and potentials of each certificate are within the limit of a text, those of what is tightened are: they are

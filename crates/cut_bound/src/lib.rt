@@ -15,6 +15,6 @@ pub use best::best_dual;
 pub use laws::{
     best_is_not_above, cut_dual_is_its_value, cut_duals_are_valid, cuts_bound_routings,
     least_is_first, tightened_is_best, tightened_is_first, tightened_is_small, tightened_is_unique,
-    tightened_stays,
+    tightened_routing_is_first, tightened_stays,
 };
 pub use tighten::tightened;

@@ -83,7 +83,7 @@ unfolding arcs_below
 below-zero cells = refl
 
 -- the number of arcs is small
-pub below-fits : (cells : List Cell) (n : ℕ) → length cells ≤ MAX_CELLS → n ≤ MAX_NODES → length (arcs_below cells n) ≤ 2 ^ 22
+pub below-fits : (cells : List Cell) (n : ℕ) → length cells ≤ MAX_CELLS → n ≤ MAX_NODES → length (arcs_below cells n) ≤ MAX_CELLS * MAX_NODES
 below-fits cells n h l = omega (arith, below-le cells n, mul-le-mul l h)
 
 pub begins-more : (cells : List Cell) (first : List ℕ) (u x : ℕ) → length first ≡ u → x ≡ length (arcs_below cells u)

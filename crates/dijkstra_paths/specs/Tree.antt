@@ -50,7 +50,7 @@ pub record AreLists (nodes : ℕ) (dist : List ℕ) (via : List Step) (order pla
 abbrev pub IsFront : ℕ → Front → Type 0
 IsFront nodes front = AreLists nodes front.dist.items front.steps.items front.order.items front.place.items front.keys.items
 
--- so they are as slices
+-- `AreLists` for a `FrontSlices`
 abbrev pub AreFront : ℕ → FrontSlices → Type 0
 AreFront nodes front = AreLists nodes front.dist.now front.steps.now front.order.now front.place.now front.keys.now
 

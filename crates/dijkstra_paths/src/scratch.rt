@@ -6,7 +6,7 @@ ghost use Rattle.dijkstra_paths.specs.Tree.{IsDone, IsFront, IsTree};
 ghost use Rattle.flow_model.specs.Lengths.{AreLengths};
 
 use crate::search::{Front, Step, search, search_on};
-use crate::tree::{Room, numbers};
+use crate::tree::{ReorderBuffers, numbers};
 use crate::{Graph, Tree};
 use mcf_limits::MAX_LENGTH;
 use std::alloc::{AllocError, Global};
@@ -22,7 +22,7 @@ pub struct Scratch {
     front: Front,
     path: Vec<u16>,
     trees: Vec<Tree>,
-    room: Room,
+    room: ReorderBuffers,
 }
 
 impl Model for Scratch {
@@ -105,13 +105,13 @@ fn search_by(
     }
 }
 
-/// The same, and the tree is then this search's.
+/// As `search_by`, then stores the new tree.
 fn search_along(
     graph: &Graph,
     lengths: &[u64],
     from: u16,
     tree: &mut Tree,
-    room: &mut Room,
+    room: &mut ReorderBuffers,
     front: &mut Front,
 )
     requires lengths { AreLengths graph.now.cells lengths.now }
@@ -136,7 +136,7 @@ fn search_among(
     lengths: &[u64],
     from: u16,
     trees: &mut [Tree],
-    room: &mut Room,
+    room: &mut ReorderBuffers,
     front: &mut Front,
 )
     requires lengths { AreLengths graph.now.cells lengths.now }
@@ -177,7 +177,7 @@ impl Scratch {
             front: new_front(alloc, nodes)?,
             path: vec![in alloc; 0; n]?,
             trees: Vec::new(alloc),
-            room: Room::new(alloc, nodes)?,
+            room: ReorderBuffers::new(alloc, nodes)?,
         })
     }
 

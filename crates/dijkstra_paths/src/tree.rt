@@ -49,7 +49,7 @@ impl Tree {
     }
 
     /// Takes over what a search from that node found, if it is one over as many nodes.
-    pub fn follow(&mut self, source: u16, front: &Front, room: &mut Room) {
+    pub fn follow(&mut self, source: u16, front: &Front, room: &mut ReorderBuffers) {
         let steps = front.steps.as_slice();
         if self.kept.len() != steps.len() {
             return;
@@ -75,17 +75,17 @@ fn blank_steps(alloc: Global, nodes: u16) -> Result<Vec<Kept>, AllocError> {
     Ok(kept)
 }
 
-/// What a tree is put in order in: a mark for each node that has its place, and the steps to nodes that wait for one.
+/// Scratch space for reordering a tree: a mark for each node that has its place, and the steps to nodes that wait for one.
 #[derive(Drop)]
-pub struct Room {
+pub struct ReorderBuffers {
     placed: Vec<bool>,
     late: Vec<Kept>,
 }
 
-impl Room {
+impl ReorderBuffers {
     /// Room for trees over so many nodes.
     pub fn new(alloc: Global, nodes: u16) -> Result<Self, AllocError> {
-        Ok(Room {
+        Ok(ReorderBuffers {
             placed: vec![in alloc; false; nodes as usize]?,
             late: blank_steps(alloc, nodes)?,
         })
@@ -130,7 +130,7 @@ fn mark(placed: &mut [bool], node: u16) {
 /// Puts the steps of a search to the front, in the tree's order, each whose node before has its place already, and gives
 /// the number of the others, which wait in the room. It is a function of its own, so that its pointers stay in registers.
 #[inline(never)]
-fn put_placed(kept: &mut [Kept], steps: &[Step], source: u16, room: &mut Room) -> usize {
+fn put_placed(kept: &mut [Kept], steps: &[Step], source: u16, room: &mut ReorderBuffers) -> usize {
     let placed = room.placed.as_mut_slice();
     let late = room.late.as_mut_slice();
     placed.fill(false);

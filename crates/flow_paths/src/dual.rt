@@ -110,8 +110,7 @@ impl Dual {
         Ok(())
     }
 
-    /// As `push_row`, with the memory of the values, in place of which as many others are left, whatever they are: those of a row that was
-    /// left out, if there is one. `Err` is for want of memory.
+    /// Appends `values` as a row without copying; leaves a spare buffer of the same length with unspecified content. `Err`: out of memory.
     pub fn push_taken(
         &mut self,
         alloc: Global,

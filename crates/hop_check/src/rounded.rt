@@ -8,7 +8,7 @@ ghost use Rattle.hop_check.specs.Limits.{whole_of};
 
 use sndlib_grammar::NumberParts;
 
-/// What stands for all that is as great: more than any number of nodes.
+/// Saturation value, not below any node count.
 pub const MANY: u32 = 1000;
 
 // The number, up to `MANY`.

@@ -16,7 +16,7 @@ use Rattle.flow_paths.specs.Fullness.{IsFill, fullness}
 use Rattle.flow_paths.specs.Evaluation.{fill, loads_of, fraction_le}
 use Rattle.flow_paths.specs.Least.{least_by}
 use Rattle.flow_paths.proofs.Least.{least-push}
-use Rattle.mcf_limits.specs.declared.TheConstants.{MAX_LENGTH, MAX_PHASES, MAX_STEP}
+use Rattle.mcf_limits.specs.declared.TheConstants.{MAX_LENGTH, MAX_PHASES, MAX_STEP, MAX_WORK}
 use Rattle.route_tally.specs.declared.options.RunOptions.{RunOptions}
 use Rattle.route_tally.specs.Asked.{AreRunOptions, first_setting, later_setting, setting_after}
 use Rattle.hop_paths.specs.Allowed.{AreLimits}
@@ -165,7 +165,7 @@ pub later-fits : (step : ℕ) (f : Fill) → IsFill f → step ≤ MAX_STEP → 
 later-fits step f is l = record { cap = is.cap; load = is.some; step = l }
 
 -- a bound divides
-bound-divides : (net : Network) (limits : List (Option ℕ)) (setting : Setting) (turns : List Row) (d : HopDual) → IsNetwork net → AreLimits net limits → IsHopBoundOf net limits (lengths_of net setting (loads_of net turns)) d → 1 ≤ (hop_upper_of net limits d).den
+pub bound-divides : (net : Network) (limits : List (Option ℕ)) (setting : Setting) (turns : List Row) (d : HopDual) → IsNetwork net → AreLimits net limits → IsHopBoundOf net limits (lengths_of net setting (loads_of net turns)) d → 1 ≤ (hop_upper_of net limits d).den
 bound-divides net limits setting turns d n are bound =
     let loads = loads_of net turns in
     let far = empty-far setting (greatest_exponent setting net.cells loads) (least_capacity net.cells) net.cells loads (loads-length net turns) in
@@ -246,7 +246,7 @@ room-more net limits counts o r n are options is l =
       small = omega (arith, weight, total, split);
     }
   where
-    few-rows : (p k q m : ℕ) → m ≡ p * k → p + 1 ≤ q → k * q ≤ 2097152 → m + k < 2 ^ 32
+    few-rows : (p k q m : ℕ) → m ≡ p * k → p + 1 ≤ q → k * q ≤ MAX_WORK → m + k < 2 ^ 32
     few-rows p k q m e l work =
         let product : k * (p + 1) ≤ k * q = mul-le-mul_left k l in
         let split : k * (p + 1) ≡ p * k + k = omega (arith, mul_comm k p) in

@@ -8,7 +8,7 @@ use Rattle.std.proofs.lemmas.List.Elements.{All-nil, All-cons, All-head, All-tai
 use Rattle.std.proofs.lemmas.List.FromFn.{length-enumerate_from, get_or-enumerate_from}
 use Rattle.std.proofs.lemmas.List.Sums.{get_or-le-sum_by}
 use Rattle.std.proofs.lemmas.Option.{slice_get_within, get_or_from_slice_get, slice_get-get_or}
-use Rattle.mcf_limits.specs.declared.TheConstants.{MAX_HOPS, MAX_LENGTH}
+use Rattle.mcf_limits.specs.declared.TheConstants.{MAX_HOPS, MAX_LENGTH, MAX_PATH_CELLS}
 use Rattle.flow_model.specs.declared.net.Cell.{Cell}
 use Rattle.flow_model.specs.declared.net.Commodity.{Commodity}
 use Rattle.flow_model.specs.Network.{Network, IsNetwork, IsCell, IsCommodity}
@@ -158,8 +158,8 @@ distance-small net lengths u v p n long l d = omega (arith, d.2, far d.0 d.1)
     far (Some m) h =
         let walk = h.0.0 in
         let short = least-short net lengths u v walk n long.low l (record { walks = h.0.1; least = λ other w. omega (arith, h.0.2, h.1 other w) }) in
-        let few : length walk ≤ 511 = omega (arith, n.nodes) in
-        let most : length walk * 2 ^ 52 ≤ 511 * 2 ^ 52 = mul-le-mul_right (2 ^ 52) few in
+        let few : length walk ≤ MAX_PATH_CELLS = omega (arith, n.nodes) in
+        let most : length walk * 2 ^ 52 ≤ MAX_PATH_CELLS * 2 ^ 52 = mul-le-mul_right (2 ^ 52) few in
         omega (arith, h.0.2, long-by net.cells lengths u v walk long h.0.1)
 
 -- so is the number of a layer
@@ -170,8 +170,8 @@ layer-small cells lengths s v i p long l d = omega (arith, d.2, far d.0 d.1)
     far None h = omega arith
     far (Some m) h =
         let walk = h.0.0 in
-        let few : length walk ≤ 64 = omega (arith, h.0.1.1) in
-        let most : length walk * 2 ^ 52 ≤ 64 * 2 ^ 52 = mul-le-mul_right (2 ^ 52) few in
+        let few : length walk ≤ MAX_HOPS = omega (arith, h.0.1.1) in
+        let most : length walk * 2 ^ 52 ≤ MAX_HOPS * 2 ^ 52 = mul-le-mul_right (2 ^ 52) few in
         omega (arith, h.0.2, long-by cells lengths s v walk long h.0.1.0)
 
 -- over a positive cell a number rises by at most its length

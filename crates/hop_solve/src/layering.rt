@@ -1,7 +1,7 @@
 //! The layers that are asked for, by searches.
 
 ghost use Rattle.std.specs.Prelude.{◌≡◌, ℕ, ◌+◌, ◌<◌, ◌≤◌, ◌++◌, [], All, IfOk, OnOk, List, length, map, slice_index};
-ghost use Rattle.mcf_limits.specs.declared.TheConstants.{MAX_LENGTH as MOST};
+ghost use Rattle.mcf_limits.specs.declared.TheConstants.{MAX_LENGTH as MOST, MAX_NODES};
 ghost use Rattle.flow_model.specs.Lengths.{AreLengths};
 ghost use Rattle.hop_paths.specs.Searched.{layer_dist};
 ghost use Rattle.hop_paths.specs.Allowed.{IsShortWalk, IsLeastOf};
@@ -28,7 +28,7 @@ pub enum Numbers {
 fn put_marks(layered: &HopScratch, index: u8, values: &mut [u64])
     requires index { index < layered.now.made }
     requires nodes { length values.old ≡ layered.now.nodes }
-    requires few { layered.now.nodes ≤ 512 }
+    requires few { layered.now.nodes ≤ MAX_NODES }
     ensures len { length values.new ≡ length values.old }
     ensures each { (v : ℕ) → v < layered.now.nodes
         → slice_index values.new v ≡ number_of Marks (layer_dist layered.now index v) }
@@ -43,7 +43,7 @@ fn put_marks(layered: &HopScratch, index: u8, values: &mut [u64])
 fn put_numbers(layered: &HopScratch, index: u8, kind: Numbers, values: &mut [u64])
     requires index { index < layered.now.made }
     requires nodes { length values.old ≡ layered.now.nodes }
-    requires few { layered.now.nodes ≤ 512 }
+    requires few { layered.now.nodes ≤ MAX_NODES }
     ensures len { length values.new ≡ length values.old }
     ensures each { (v : ℕ) → v < layered.now.nodes
         → slice_index values.new v ≡ number_of kind (layer_dist layered.now index v) }
@@ -65,7 +65,7 @@ fn push_layers(
     layers: &mut Layers,
 ) -> Result<(), AllocError>
     requires nodes { length finder.old.values.items ≡ finder.old.layered.nodes }
-    requires few { finder.old.layered.nodes ≤ 512 }
+    requires few { finder.old.layered.nodes ≤ MAX_NODES }
     requires count { count ≤ finder.old.layered.made }
     ensures values { length finder.new.values.items ≡ length finder.old.values.items }
     ensures plain { finder.new.plain ≡ finder.old.plain }

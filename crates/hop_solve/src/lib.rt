@@ -12,5 +12,5 @@ mod solving;
 mod turns;
 mod unlimited;
 
-pub use laws::hop_runs_are_valid;
+pub use laws::{hop_bound_is_first_of_the_least, hop_runs_are_valid};
 pub use solving::solve_hops;

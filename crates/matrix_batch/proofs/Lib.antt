@@ -1,5 +1,4 @@
 pub mod Unique
-pub mod Places
 pub mod Words
 pub mod Sound
 pub mod Only

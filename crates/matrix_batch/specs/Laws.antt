@@ -1,14 +1,12 @@
--- What holds of lists, of the network of a matrix, and of the places of refusals.
+-- What holds of lists, and of the network of a matrix.
 use Rattle.std.specs.Prelude.{◌≡◌, ℕ, List, All, Result, Ok}
-use Rattle.std.specs.Option.{option_map}
 use Rattle.unit_scale.specs.declared.options.NetOptions.{NetOptions}
-use Rattle.unit_scale.specs.declared.modes.ModuleMode.{ModuleMode}
 use Rattle.sndlib_grammar.specs.Grammar.{Symbol}
 use Rattle.sndlib_grammar.specs.Rows.{NetRows, AreNetRows}
-use Rattle.unit_scale.specs.Scaling.{scaled_of, refusal}
+use Rattle.unit_scale.specs.Scaling.{scaled_of}
 use Rattle.matrix_batch.specs.Grammar.{MatrixEntry, IsList}
 use Rattle.matrix_batch.specs.Refusals.{BatchRefusal}
-use Rattle.matrix_batch.specs.Matrices.{Matrix, refused_place, refusal_at}
+use Rattle.matrix_batch.specs.Matrices.{Matrix}
 use Rattle.matrix_batch.specs.Batch.{IsBatch}
 
 -- symbols are a list in one way
@@ -31,8 +29,3 @@ abbrev pub MatricesAreScaled : Type 0
 MatricesAreScaled = (rows : NetRows) (o : NetOptions) (text : List ℕ) (batch : List Matrix)
     → AreNetRows rows → IsBatch rows o text (Ok batch)
     → All (λ (m : Matrix). AreNetRows m.rows × (scaled_of m.rows o ≡ Ok m.net)) batch
-
--- the place at which scaling is refused has the line of the refusal
-abbrev pub PlacesHaveTheirLines : Type 0
-PlacesHaveTheirLines = (mode : ModuleMode) (s : ℕ) (rows : NetRows)
-    → refusal mode s rows ≡ option_map (refusal_at rows) (refused_place mode s rows)

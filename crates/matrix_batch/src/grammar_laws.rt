@@ -1,16 +1,10 @@
 //! Laws of lists, each as a function that does nothing.
 
-ghost use Rattle.matrix_batch.specs.Laws.{ListIsUnique, PlacesHaveTheirLines, MatricesAreScaled, BatchIsUnique, BatchExists};
+ghost use Rattle.matrix_batch.specs.Laws.{ListIsUnique, MatricesAreScaled, BatchIsUnique, BatchExists};
 
 /// Symbols are the spelling of at most one list of matrices.
 pub fn symbols_are_one_list()
     ensures { ListIsUnique }
-{}
-
-/// The row at which scaling is refused, found without its line, has the line and the kind of the
-/// refusal.
-pub fn places_have_their_lines()
-    ensures { PlacesHaveTheirLines }
 {}
 
 /// On sound rows, each matrix of a list that is not refused has sound rows, and the network that

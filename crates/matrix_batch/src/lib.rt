@@ -22,8 +22,7 @@ mod sofar;
 
 pub use batch::read_batch;
 pub use grammar_laws::{
-    matrices_are_scaled, places_have_their_lines, symbols_are_one_list, texts_are_one_batch,
-    texts_have_an_answer,
+    matrices_are_scaled, symbols_are_one_list, texts_are_one_batch, texts_have_an_answer,
 };
 pub use judge::read_list;
 pub use list_refusal::{ListKind, ListRefusal};

@@ -1,6 +1,13 @@
 //! The limits within which every text, network and certificate lies, each in one place.
 #![tactic(auto)]
 
+mod laws;
+
+pub use laws::{
+    defaults_of_options, limits_fit_together, limits_of_amounts, limits_of_certificates,
+    limits_of_lists, limits_of_networks, limits_of_runs, limits_of_texts,
+};
+
 /// The most bytes of a network text: 64 MiB.
 pub const MAX_NET_BYTES: usize = 64 << 20;
 

@@ -6,7 +6,7 @@ use Rattle.std.proofs.lemmas.List.{length-map}
 use Rattle.std.proofs.lemmas.List.FromFn.{length-map-range_with_len}
 use Rattle.std.proofs.lemmas.List.Elements.{All-nil, All-cons, All-head, All-tail, All-map, All-same, All-from_get_or}
 use Rattle.dijkstra_paths.proofs.Least.{length-first}
-use Rattle.mcf_limits.specs.declared.TheConstants.{MAX_LENGTH}
+use Rattle.mcf_limits.specs.declared.TheConstants.{MAX_LENGTH, MAX_PATH_CELLS}
 use Rattle.flow_model.specs.declared.net.Cell.{Cell}
 use Rattle.flow_model.specs.Network.{Network, IsNetwork}
 use Rattle.flow_model.specs.Lengths.{AreLengths, greatest_exponent, least_capacity, lengths_of}
@@ -59,8 +59,8 @@ distance-small net lengths u v p n long l d = omega (arith, d.2, far d.0 d.1)
     far (Some m) h =
         let walk = h.0.0 in
         let short = least-short net lengths u v walk n long.low l (record { walks = h.0.1; least = λ other w. omega (arith, h.0.2, h.1 other w) }) in
-        let few : length walk ≤ 511 = omega (arith, n.nodes) in
-        let most : length walk * 2 ^ 52 ≤ 511 * 2 ^ 52 = mul-le-mul_right (2 ^ 52) few in
+        let few : length walk ≤ MAX_PATH_CELLS = omega (arith, n.nodes) in
+        let most : length walk * 2 ^ 52 ≤ MAX_PATH_CELLS * 2 ^ 52 = mul-le-mul_right (2 ^ 52) few in
         omega (arith, h.0.2, walk-high net.cells lengths u v walk long h.0.1)
 
 bound-small : (net : Network) (lengths : List ℕ) (dual : DualRows) → IsNetwork net → AreLengths net.cells lengths → EmptyAreFar net.cells lengths → All (IsPotentialOf net) dual.potentials → IsBoundOf net lengths dual → AreSmall dual

@@ -2,7 +2,7 @@
 
 use mcf_base::Gate;
 
-/// Is told each ticket that a worker has drawn. Every gate is; but this one may belong to a single thread.
+/// Observes claimed tickets. Every `Gate` implements it, but implementors need not be `Sync`.
 pub trait Watch {
     fn drawn(&self, worker: u16, ticket: u64);
 }

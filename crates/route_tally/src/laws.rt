@@ -7,7 +7,7 @@ pub fn tally_is_its_turns()
     ensures { TallyIsItsTurns }
 {}
 
-/// So do rows in any order, as a `Tally` has them.
+/// Rows in any order, as a `Tally` has them, carry, load and weigh the same as the turns.
 pub fn rows_are_their_turns()
     ensures { RowsAreTheirTurns }
 {}

@@ -6,16 +6,16 @@ use Rattle.mcf_base.specs.Reading.{IsText}
 use Rattle.sndlib_grammar.specs.declared.refusal.NetRefusal.{NetRefusal}
 use Rattle.sndlib_grammar.specs.Rows.{NetRows}
 use Rattle.sndlib_grammar.specs.Net.{rows_of}
-use Rattle.run_base.specs.declared.outcome.Paper.{Paper}
-use Rattle.run_base.specs.declared.outcome.Paper.TheVariants.{Network}
+use Rattle.run_base.specs.declared.outcome.FileKind.{FileKind}
+use Rattle.run_base.specs.declared.outcome.FileKind.TheVariants.{Network}
 use Rattle.run_base.specs.declared.outcome.Outcome.{Outcome}
 use Rattle.run_base.specs.Answer.{Answer, answer_of}
 use Rattle.run_base.specs.Files.{Finds, OfFile, OfNet, OnRows, OrMemory, GivesRows}
 
 -- the file's text came, and what follows answers
-pub file_came : (limit : ℕ) (paper : Paper) (name : List ℕ) (OfText : List ℕ → ShelfView → ShelfView → Answer → Type 0) (old mid new : ShelfView) (text : List ℕ) (answer : Answer)
-    → IsText limit old.holds name text → mid ≡ with_file old name → OfText text mid new answer → OfFile limit paper name OfText old new answer
-file_came limit paper name OfText old mid new text answer is same of = inr (text, is, subst (λ (s : ShelfView). OfText text s new answer) same of)
+pub file_came : (limit : ℕ) (kind : FileKind) (name : List ℕ) (OfText : List ℕ → ShelfView → ShelfView → Answer → Type 0) (old mid new : ShelfView) (text : List ℕ) (answer : Answer)
+    → IsText limit old.holds name text → mid ≡ with_file old name → OfText text mid new answer → OfFile limit kind name OfText old new answer
+file_came limit kind name OfText old mid new text answer is same of = inr (text, is, subst (λ (s : ShelfView). OfText text s new answer) same of)
 
 -- the network's text came, and its rows, and they answer
 pub rows_came : (name : List ℕ) (OfRows : NetRows → ShelfView → ShelfView → Answer → Type 0) (old mid new : ShelfView) (text : List ℕ) (rows : NetRows) (answer : Answer)

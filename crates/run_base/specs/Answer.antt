@@ -9,8 +9,8 @@ use Rattle.cert_judge.specs.declared.judged.Judged.{Judged}
 use Rattle.run_base.specs.declared.ended.Ended.{Ended}
 use Rattle.run_base.specs.declared.ended.Found.{Found}
 use Rattle.run_base.specs.Found.{nothing}
-use Rattle.run_base.specs.declared.outcome.Paper.{Paper}
-use Rattle.run_base.specs.declared.outcome.Paper.TheVariants as papers
+use Rattle.run_base.specs.declared.outcome.FileKind.{FileKind}
+use Rattle.run_base.specs.declared.outcome.FileKind.TheVariants as kinds
 use Rattle.run_base.specs.declared.outcome.Outcome.{Outcome}
 use Rattle.run_base.specs.declared.outcome.Outcome.TheVariants as outcomes
 use Rattle.run_base.specs.Judged.{net_refused, script_refused, list_refused, second_refused, second_invalid, judged_words, judged_status}
@@ -21,12 +21,12 @@ pub record Answer : Type 0 where
   pub found : Found
 
 -- how a kind of file is named in a line
-abbrev pub paper_word : Paper → List ℕ
-paper_word papers.Network = codes "net"
-paper_word papers.Certificate = codes "cert"
-paper_word papers.Second = codes "cert2"
-paper_word papers.Script = codes "script"
-paper_word papers.List = codes "list"
+abbrev pub file_word : FileKind → List ℕ
+file_word kinds.Network = codes "net"
+file_word kinds.Certificate = codes "cert"
+file_word kinds.Second = codes "cert2"
+file_word kinds.Script = codes "script"
+file_word kinds.List = codes "list"
 
 -- the line of work over its limit
 abbrev pub work_refused : ℕ → Line
@@ -37,7 +37,7 @@ abbrev pub words_of : Outcome → Line
 words_of outcomes.Usage = codes "usage" ∷ []
 words_of outcomes.ReadFault = codes "read" ∷ codes "fault" ∷ []
 words_of outcomes.Memory = codes "memory" ∷ []
-words_of (outcomes.TooLong paper) = codes "refused" ∷ paper_word paper ∷ codes "TooLong" ∷ []
+words_of (outcomes.TooLong kind) = codes "refused" ∷ file_word kind ∷ codes "TooLong" ∷ []
 words_of (outcomes.NetRefused r) = net_refused r
 words_of (outcomes.TooMuch work) = work_refused work
 words_of (outcomes.ScriptRefused r) = script_refused r
@@ -50,7 +50,7 @@ abbrev pub status_of : Outcome → ℕ
 status_of outcomes.Usage = 2
 status_of outcomes.ReadFault = 4
 status_of outcomes.Memory = 6
-status_of (outcomes.TooLong paper) = 3
+status_of (outcomes.TooLong kind) = 3
 status_of (outcomes.NetRefused r) = 3
 status_of (outcomes.TooMuch work) = 3
 status_of (outcomes.ScriptRefused r) = 3

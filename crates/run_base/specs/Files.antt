@@ -9,8 +9,8 @@ use Rattle.sndlib_grammar.specs.declared.refusal.NetRefusal.{NetRefusal}
 use Rattle.sndlib_grammar.specs.Rows.{NetRows, AreNetRows}
 use Rattle.sndlib_grammar.specs.Net.{rows_of}
 use Rattle.cert_lines.specs.declared.net_line.TheConstants.{MAX_COUNT}
-use Rattle.run_base.specs.declared.outcome.Paper.{Paper}
-use Rattle.run_base.specs.declared.outcome.Paper.TheVariants.{Network}
+use Rattle.run_base.specs.declared.outcome.FileKind.{FileKind}
+use Rattle.run_base.specs.declared.outcome.FileKind.TheVariants.{Network}
 use Rattle.run_base.specs.declared.outcome.Outcome.{Outcome}
 use Rattle.run_base.specs.declared.outcome.Outcome.TheVariants.{ReadFault, TooLong, NetRefused, Memory}
 use Rattle.run_base.specs.Answer.{Answer, OrWant, answer_of}
@@ -29,16 +29,16 @@ abbrev pub OrMemory : (ShelfView → ShelfView → Answer → Type 0) → ShelfV
 OrMemory Of old new answer = ((answer ≡ answer_of Memory) × (new ≡ old)) ⊎ Of old new answer
 
 -- a file that was asked for gave no text: memory was wanting, the shelf failed at it, or it is over its limit
-abbrev pub GivesNone : ℕ → Paper → List ℕ → ShelfView → ShelfView → Answer → Type 0
-GivesNone limit paper name old new answer =
+abbrev pub GivesNone : ℕ → FileKind → List ℕ → ShelfView → ShelfView → Answer → Type 0
+GivesNone limit kind name old new answer =
     ((answer ≡ answer_of Memory) × LacksMemory name old new)
     ⊎ (((answer ≡ answer_of ReadFault) × FailedAt name old new)
-    ⊎ ((answer ≡ answer_of (TooLong paper)) × IsLonger limit old.holds name × (new ≡ with_file old name)))
+    ⊎ ((answer ≡ answer_of (TooLong kind)) × IsLonger limit old.holds name × (new ≡ with_file old name)))
 
 -- the answer of a file: it gives no text, or its text answers
-abbrev pub OfFile : ℕ → Paper → List ℕ → (List ℕ → ShelfView → ShelfView → Answer → Type 0) → ShelfView → ShelfView → Answer → Type 0
-OfFile limit paper name OfText old new answer =
-    GivesNone limit paper name old new answer
+abbrev pub OfFile : ℕ → FileKind → List ℕ → (List ℕ → ShelfView → ShelfView → Answer → Type 0) → ShelfView → ShelfView → Answer → Type 0
+OfFile limit kind name OfText old new answer =
+    GivesNone limit kind name old new answer
     ⊎ ((text : List ℕ) × IsText limit old.holds name text × OfText text (with_file old name) new answer)
 
 -- the network's text is refused, or its rows answer
@@ -53,9 +53,9 @@ OfNet name OfRows old new answer = OfFile MAX_NET_BYTES Network name (λ text. O
 -- ---- what the helpers of a command answer
 
 -- a file's bytes, or the outcome that ends the run
-abbrev pub GivesText : ℕ → Paper → List ℕ → ShelfView → ShelfView → Result (Vec ℕ) Outcome → Type 0
-GivesText limit paper name old new (Ok text) = IsText limit old.holds name text.items × (new ≡ with_file old name)
-GivesText limit paper name old new (Err outcome) = GivesNone limit paper name old new (answer_of outcome)
+abbrev pub GivesText : ℕ → FileKind → List ℕ → ShelfView → ShelfView → Result (Vec ℕ) Outcome → Type 0
+GivesText limit kind name old new (Ok text) = IsText limit old.holds name text.items × (new ≡ with_file old name)
+GivesText limit kind name old new (Err outcome) = GivesNone limit kind name old new (answer_of outcome)
 
 -- the rows of a text, or the outcome that ends the run: want of memory, or its refusal
 abbrev pub GivesRows : List ℕ → Result NetRows Outcome → Type 0

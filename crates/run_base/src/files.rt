@@ -5,7 +5,7 @@ ghost use Rattle.mcf_limits.specs.declared.TheConstants.{MAX_NET_BYTES};
 ghost use Rattle.sndlib_grammar.specs.Rows.{AreNetRows};
 ghost use Rattle.run_base.specs.Files.{GivesRows, GivesText};
 
-use crate::outcome::{Outcome, Paper};
+use crate::outcome::{FileKind, Outcome};
 use mcf_base::{ReadEnd, Shelf, read_all};
 use sndlib_grammar::rows_are_sound;
 use sndlib_read::{RawNet, ReadNetEnd, read_net};
@@ -17,14 +17,14 @@ pub fn file_text<F: Shelf>(
     shelf: &mut F,
     name: &str,
     limit: usize,
-    paper: Paper,
+    kind: FileKind,
 ) -> Result<Vec<u8>, Outcome>
-    ensures { GivesText limit paper name.now (F.seen shelf.old) (F.seen shelf.new) result }
+    ensures { GivesText limit kind name.now (F.seen shelf.old) (F.seen shelf.new) result }
 {
     match read_all(alloc, shelf, name, limit) {
         Ok(text) => Ok(text),
         Err(ReadEnd::Fault) => Err(Outcome::ReadFault),
-        Err(ReadEnd::TooLong) => Err(Outcome::TooLong(paper)),
+        Err(ReadEnd::TooLong) => Err(Outcome::TooLong(kind)),
         Err(ReadEnd::Memory) => Err(Outcome::Memory),
     }
 }

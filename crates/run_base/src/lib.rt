@@ -10,7 +10,7 @@ mod telling;
 
 pub use ended::{Ended, Found};
 pub use files::{file_text, net_rows};
-pub use outcome::{Outcome, Paper};
+pub use outcome::{FileKind, Outcome};
 pub use saying::say;
 pub use tell_judged::{tell_valid, verdict_status, verdict_word};
 pub use telling::tell;

@@ -8,7 +8,7 @@ use std::alloc::AllocError;
 
 /// A kind of file: a network, a certificate or a routing, a second certificate, a script, a list of demand matrices.
 #[derive(Clone, Copy, Debug, PartialEq, Eq)]
-pub enum Paper {
+pub enum FileKind {
     Network,
     Certificate,
     Second,
@@ -24,7 +24,7 @@ pub enum Outcome {
     ReadFault,
     Memory,
     /// The file is over its limit.
-    TooLong(Paper),
+    TooLong(FileKind),
     NetRefused(NetRefusal),
     /// There would be so many commodities times phases.
     TooMuch(u64),

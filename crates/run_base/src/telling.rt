@@ -2,10 +2,10 @@
 
 ghost use Rattle.std.specs.Prelude.{◌≡◌};
 ghost use Rattle.text_lines.specs.Lines.{spelled};
-ghost use Rattle.run_base.specs.Answer.{Writes, answer_of, line_answer, paper_word as paper_word_lem, work_refused};
+ghost use Rattle.run_base.specs.Answer.{Writes, answer_of, line_answer, file_word as file_word_lem, work_refused};
 
 use crate::ended::Ended;
-use crate::outcome::{Outcome, Paper};
+use crate::outcome::{FileKind, Outcome};
 use crate::saying::say;
 use crate::tell_judged::{
     tell_judged, tell_list_refusal, tell_net_refusal, tell_script_refusal, tell_second_fault,
@@ -14,15 +14,15 @@ use crate::tell_judged::{
 use mcf_base::Sink;
 use text_lines::Word;
 
-fn paper_word(paper: Paper) -> &'static [u8]
-    ensures { result.now ≡ paper_word_lem paper }
+fn file_word(kind: FileKind) -> &'static [u8]
+    ensures { result.now ≡ file_word_lem kind }
 {
-    match paper {
-        Paper::Network => b"net",
-        Paper::Certificate => b"cert",
-        Paper::Second => b"cert2",
-        Paper::Script => b"script",
-        Paper::List => b"list",
+    match kind {
+        FileKind::Network => b"net",
+        FileKind::Certificate => b"cert",
+        FileKind::Second => b"cert2",
+        FileKind::Script => b"script",
+        FileKind::List => b"list",
     }
 }
 
@@ -43,7 +43,7 @@ pub fn tell<K: Sink>(out: &mut K, outcome: Outcome) -> Ended
         Outcome::Usage => say(out, b"usage", &[], 2),
         Outcome::ReadFault => say(out, b"read", &[b"fault"], 4),
         Outcome::Memory => say(out, b"memory", &[], 6),
-        Outcome::TooLong(paper) => say(out, b"refused", &[paper_word(paper), b"TooLong"], 3),
+        Outcome::TooLong(kind) => say(out, b"refused", &[file_word(kind), b"TooLong"], 3),
         Outcome::NetRefused(refusal) => tell_net_refusal(out, refusal),
         Outcome::TooMuch(work) => tell_work(out, work),
         Outcome::ScriptRefused(refusal) => tell_script_refusal(out, refusal),

@@ -17,7 +17,7 @@ use Rattle.run_batches.specs.declared.asked.BatchAsked.{BatchAsked}
 use Rattle.run_batches.specs.Asked.{batch_options}
 use Rattle.run_batches.specs.Solves.{AreSolved, solved_status, solved_text}
 use Rattle.mcf_words.specs.declared.request.Request.{Request}
-use Rattle.run_base.specs.declared.outcome.Paper.TheVariants.{List as OfListPaper}
+use Rattle.run_base.specs.declared.outcome.FileKind.TheVariants.{List as OfListFile}
 use Rattle.run_base.specs.declared.outcome.Outcome.{Outcome}
 use Rattle.run_base.specs.declared.outcome.Outcome.TheVariants.{NetRefused, ListRefused, TooMuch, Memory}
 use Rattle.run_base.specs.Found.{nothing}
@@ -67,7 +67,7 @@ OnTexts request (Ok rows) list answer = OnList request rows list answer
 -- the answer of the list's file
 abbrev pub OfList : Request → NetRows → List ℕ → ShelfView → ShelfView → Answer → Type 0
 OfList request rows list old new answer =
-    OfFile MAX_LIST_BYTES OfListPaper list (λ text. Ends (OnList request rows text)) old new answer
+    OfFile MAX_LIST_BYTES OfListFile list (λ text. Ends (OnList request rows text)) old new answer
 
 -- the answer of both files, the network's before the list's
 abbrev pub OfBatch : List ℕ → List ℕ → Request → ShelfView → ShelfView → Answer → Type 0

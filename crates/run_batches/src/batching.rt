@@ -18,7 +18,7 @@ use matrix_batch::{BatchEnd, Matrix, read_batch};
 use mcf_base::{Gate, Shelf, Sink};
 use mcf_limits::{MAX_LIST_BYTES, MAX_NET_BYTES};
 use mcf_words::Request;
-use run_base::{Ended, Outcome, Paper, file_text, net_rows, tell};
+use run_base::{Ended, FileKind, Outcome, file_text, net_rows, tell};
 use sndlib_rows::RawNet;
 use std::alloc::Global;
 use std::thread::Threads;
@@ -185,7 +185,7 @@ pub fn batch<F: Shelf, K: Sink, G: Gate, R: Threads + Sync>(
         (K.seen out.old) (K.seen out.new) result }
 {
     let BatchFiles { net, list } = files;
-    let text = match file_text(alloc, shelf, net, MAX_NET_BYTES, Paper::Network) {
+    let text = match file_text(alloc, shelf, net, MAX_NET_BYTES, FileKind::Network) {
         Ok(text) => text,
         Err(outcome) => return tell(out, outcome),
     };
@@ -193,7 +193,7 @@ pub fn batch<F: Shelf, K: Sink, G: Gate, R: Threads + Sync>(
         Ok(_rows) => {}
         Err(outcome) => return tell(out, outcome),
     }
-    match file_text(alloc, shelf, list, MAX_LIST_BYTES, Paper::List) {
+    match file_text(alloc, shelf, list, MAX_LIST_BYTES, FileKind::List) {
         Ok(list) => batch_texts(rt, alloc, &text, request, &list, out, gate),
         Err(outcome) => tell(out, outcome),
     }

@@ -9,7 +9,7 @@ use Rattle.cert_lines.specs.Sheet.{Sheet}
 use Rattle.cert_writer.specs.Text.{certificate_text}
 use Rattle.sndlib_grammar.specs.Rows.{NetRows}
 use Rattle.sndlib_grammar.specs.Net.{rows_of}
-use Rattle.run_base.specs.declared.outcome.Paper.TheVariants.{Certificate}
+use Rattle.run_base.specs.declared.outcome.FileKind.TheVariants.{Certificate}
 use Rattle.run_base.specs.Answer.{Answer}
 use Rattle.run_base.specs.Files.{OfFile, OrMemory}
 use Rattle.run_base.proofs.Chain.{file_came, rows_came}

@@ -5,7 +5,7 @@ use Rattle.mcf_base.specs.Shelf.{ShelfView}
 use Rattle.sndlib_grammar.specs.Rows.{NetRows}
 use Rattle.cert_judge.specs.declared.judged.Judged.{Judged as Judgement}
 use Rattle.cert_judge.specs.Judgement.{IsJudgement}
-use Rattle.run_base.specs.declared.outcome.Paper.TheVariants.{Certificate}
+use Rattle.run_base.specs.declared.outcome.FileKind.TheVariants.{Certificate}
 use Rattle.run_base.specs.Answer.{Answer, judged_answer}
 use Rattle.run_base.specs.Files.{Ends, OfFile, OfNet}
 

@@ -16,7 +16,7 @@ use Rattle.cert_judge.specs.declared.second.Second.{Second as SecondRead}
 use Rattle.cert_judge.specs.declared.second.Second.TheVariants as seconds
 use Rattle.cert_judge.specs.Certified.{IsCertifiedText}
 use Rattle.cert_judge.specs.Second.{IsSecondText, with_net}
-use Rattle.run_base.specs.declared.outcome.Paper.TheVariants.{Certificate, Second}
+use Rattle.run_base.specs.declared.outcome.FileKind.TheVariants.{Certificate, Second}
 use Rattle.run_base.specs.declared.outcome.Outcome.TheVariants.{Judged, SecondRefused, SecondInvalid}
 use Rattle.run_base.specs.Found.{nothing}
 use Rattle.run_base.specs.Answer.{Answer, answer_of}

@@ -12,7 +12,7 @@ use Rattle.net_whatif.specs.declared.scripting.Scripted.{Scripted}
 use Rattle.net_whatif.specs.declared.scripting.Scripted.TheVariants.{Refused, Ready}
 use Rattle.cert_judge.specs.Certified.{IsCertifiedText}
 use Rattle.net_whatif.specs.Scripted.{IsScriptedText}
-use Rattle.run_base.specs.declared.outcome.Paper.TheVariants.{Certificate, Script}
+use Rattle.run_base.specs.declared.outcome.FileKind.TheVariants.{Certificate, Script}
 use Rattle.run_base.specs.declared.outcome.Outcome.TheVariants.{ScriptRefused, Judged}
 use Rattle.run_base.specs.Found.{nothing}
 use Rattle.run_base.specs.Answer.{Answer, answer_of}

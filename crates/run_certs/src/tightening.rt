@@ -7,7 +7,7 @@ ghost use Rattle.sndlib_grammar.specs.Rows.{AreNetRows};
 ghost use Rattle.cert_lines.specs.Sheet.{IsOf, sheet_of};
 ghost use Rattle.cert_writer.specs.Text.{FitsProof};
 ghost use Rattle.cert_judge.specs.Certified.{IsCertificate};
-ghost use Rattle.run_base.specs.declared.outcome.Paper.TheVariants as PaperIs;
+ghost use Rattle.run_base.specs.declared.outcome.FileKind.TheVariants as FileKindIs;
 ghost use Rattle.run_base.specs.Answer.{IsTold, OrWant, Writes};
 ghost use Rattle.run_base.specs.Files.{Ends, OfFile};
 ghost use Rattle.run_certs.specs.Tighten.{OfFirst, OfTighten, OnFirst, OnSecond, WritesBest, best_answer, go_both_ways};
@@ -19,7 +19,7 @@ use cut_bound::tightened;
 use flow_paths::Proof;
 use mcf_base::{Shelf, Sink};
 use mcf_limits::{MAX_CERT_BYTES, MAX_NET_BYTES};
-use run_base::{Ended, Outcome, Paper, file_text, net_rows, tell, verdict_status};
+use run_base::{Ended, FileKind, Outcome, file_text, net_rows, tell, verdict_status};
 use sndlib_rows::RawNet;
 use std::alloc::Global;
 use std::thread::Threads;
@@ -87,12 +87,12 @@ fn tighten_both<F: Shelf, K: Sink, R: Threads + Sync>(
     second: &str,
 ) -> Ended
     requires { IsCertificate rows.now first.net first.proof }
-    ensures { IsTold (OfFile MAX_CERT_BYTES PaperIs.Second second.now
+    ensures { IsTold (OfFile MAX_CERT_BYTES FileKindIs.Second second.now
         (λ text. Ends (OnSecond rows.now first.net first.proof text)) (F.seen shelf.old) (F.seen shelf.new))
         (K.seen out.old) (K.seen out.new) result }
 {
     let First { net, proof: first } = first;
-    let text = match file_text(alloc, shelf, second, MAX_CERT_BYTES, Paper::Second) {
+    let text = match file_text(alloc, shelf, second, MAX_CERT_BYTES, FileKind::Second) {
         Ok(text) => text,
         Err(outcome) => return tell(out, outcome),
     };
@@ -143,7 +143,7 @@ fn tighten_on<F: Shelf, K: Sink, R: Threads + Sync>(
     ensures { IsTold (OfFirst rows.now cert.now (option_map (λ w. w.now) second.entry)
         (F.seen shelf.old) (F.seen shelf.new)) (K.seen out.old) (K.seen out.new) result }
 {
-    let text = match file_text(alloc, shelf, cert, MAX_CERT_BYTES, Paper::Certificate) {
+    let text = match file_text(alloc, shelf, cert, MAX_CERT_BYTES, FileKind::Certificate) {
         Ok(text) => text,
         Err(outcome) => return tell(out, outcome),
     };
@@ -170,7 +170,7 @@ pub fn tighten<F: Shelf, K: Sink, R: Threads + Sync>(
     ensures { IsTold (OfTighten net.now cert.now (option_map (λ w. w.now) second.entry)
         (F.seen shelf.old) (F.seen shelf.new)) (K.seen out.old) (K.seen out.new) result }
 {
-    let text = match file_text(alloc, shelf, net, MAX_NET_BYTES, Paper::Network) {
+    let text = match file_text(alloc, shelf, net, MAX_NET_BYTES, FileKind::Network) {
         Ok(text) => text,
         Err(outcome) => return tell(out, outcome),
     };

@@ -12,7 +12,7 @@ use cert_writer::write_cert;
 use flow_paths::Proof;
 use mcf_base::{Shelf, Sink};
 use mcf_limits::{MAX_CERT_BYTES, MAX_NET_BYTES};
-use run_base::{Ended, Outcome, Paper, file_text, net_rows, tell};
+use run_base::{Ended, FileKind, Outcome, file_text, net_rows, tell};
 use sndlib_rows::RawNet;
 use std::alloc::Global;
 use unit_scale::Scaled;
@@ -41,7 +41,7 @@ fn upgrade_on<F: Shelf, K: Sink>(
     ensures { IsTold (OfUpgraded rows.now cert.now (F.seen shelf.old) (F.seen shelf.new))
         (K.seen out.old) (K.seen out.new) result }
 {
-    let text = match file_text(alloc, shelf, cert, MAX_CERT_BYTES, Paper::Certificate) {
+    let text = match file_text(alloc, shelf, cert, MAX_CERT_BYTES, FileKind::Certificate) {
         Ok(text) => text,
         Err(outcome) => return tell(out, outcome),
     };
@@ -64,7 +64,7 @@ pub fn upgrade<F: Shelf, K: Sink>(
     ensures { IsTold (OfUpgrade net.now cert.now (F.seen shelf.old) (F.seen shelf.new))
         (K.seen out.old) (K.seen out.new) result }
 {
-    let text = match file_text(alloc, shelf, net, MAX_NET_BYTES, Paper::Network) {
+    let text = match file_text(alloc, shelf, net, MAX_NET_BYTES, FileKind::Network) {
         Ok(text) => text,
         Err(outcome) => return tell(out, outcome),
     };

@@ -6,7 +6,7 @@ ghost use Rattle.script.specs.Steps.{AreStepsOfCells};
 ghost use Rattle.whatif.specs.Shown.{shown_text};
 ghost use Rattle.cert_judge.specs.Certified.{IsCertificate};
 ghost use Rattle.net_whatif.specs.Scripted.{CanRun};
-ghost use Rattle.run_base.specs.declared.outcome.Paper.TheVariants as PaperIs;
+ghost use Rattle.run_base.specs.declared.outcome.FileKind.TheVariants as FileKindIs;
 ghost use Rattle.run_base.specs.Answer.{IsTold, Writes, text_answer};
 ghost use Rattle.run_base.specs.Files.{Ends, Finds, OfFile};
 ghost use Rattle.run_certs.specs.WhatIf.{OfWhatIf, OnScript, scripted_answer};
@@ -16,7 +16,7 @@ use flow_paths::Proof;
 use mcf_base::{Shelf, Sink};
 use mcf_limits::{MAX_CERT_BYTES, MAX_NET_BYTES, MAX_SCRIPT_BYTES};
 use net_whatif::{Scripted, read_script, write_shown};
-use run_base::{Ended, Outcome, Paper, file_text, net_rows, tell};
+use run_base::{Ended, FileKind, Outcome, file_text, net_rows, tell};
 use script::Script;
 use sndlib_rows::RawNet;
 use std::alloc::Global;
@@ -34,12 +34,12 @@ fn scripted_file<F: Shelf>(
 ) -> Result<Scripted, Outcome>
     requires { IsCertificate rows.now net.now proof.now }
     ensures finds { Finds scripted_answer
-        (OfFile MAX_SCRIPT_BYTES PaperIs.Script script.now
+        (OfFile MAX_SCRIPT_BYTES FileKindIs.Script script.now
         (λ text. Ends (OnScript rows.now net.now proof.now text))) (F.seen shelf.old)
         (F.seen shelf.new) result }
     ensures run { IfOk result CanRun }
 {
-    let text = file_text(alloc, shelf, script, MAX_SCRIPT_BYTES, Paper::Script)?;
+    let text = file_text(alloc, shelf, script, MAX_SCRIPT_BYTES, FileKind::Script)?;
     match read_script(alloc, rows, net, proof, &text) {
         Ok(scripted) => Ok(scripted),
         Err(_) => Err(Outcome::Memory),
@@ -58,12 +58,12 @@ fn scripted_files<F: Shelf>(
         (F.seen shelf.new) result }
     ensures run { IfOk result CanRun }
 {
-    let net_text = file_text(alloc, shelf, net, MAX_NET_BYTES, Paper::Network)?;
+    let net_text = file_text(alloc, shelf, net, MAX_NET_BYTES, FileKind::Network)?;
     let rows = match net_rows(alloc, &net_text) {
         Ok(rows) => rows,
         Err(outcome) => return Err(outcome),
     };
-    let text = match file_text(alloc, shelf, cert, MAX_CERT_BYTES, Paper::Certificate) {
+    let text = match file_text(alloc, shelf, cert, MAX_CERT_BYTES, FileKind::Certificate) {
         Ok(text) => text,
         Err(outcome) => return Err(outcome),
     };

@@ -5,7 +5,7 @@ use Rattle.std.proofs.Math.Nat.{mul-le-mul_right}
 use Rattle.std.proofs.lemmas.List.{take_all}
 use Rattle.std.proofs.lemmas.List.FromFn.{length-map-range_with_len}
 use Rattle.std.proofs.lemmas.List.Elements.{All-nil, All-cons, All-head, All-tail, All-map, All-same, All-from_get_or}
-use Rattle.mcf_limits.specs.declared.TheConstants.{MAX_HOPS, MAX_LENGTH}
+use Rattle.mcf_limits.specs.declared.TheConstants.{MAX_HOPS, MAX_LENGTH, MAX_PATH_CELLS}
 use Rattle.flow_model.specs.declared.net.Cell.{Cell}
 use Rattle.flow_model.specs.Network.{Network, IsNetwork}
 use Rattle.flow_model.specs.Routing.{Row}
@@ -83,16 +83,16 @@ distance-small net lengths u v p n long l d = omega (arith, d.2, far d.0 d.1)
     far (Some m) h =
         let walk = h.0.0 in
         let short = least-short net lengths u v walk n long.low l (record { walks = h.0.1; least = λ other w. omega (arith, h.0.2, h.1 other w) }) in
-        let few : length walk ≤ 511 = omega (arith, n.nodes) in
-        let most : length walk * 2 ^ 52 ≤ 511 * 2 ^ 52 = mul-le-mul_right (2 ^ 52) few in
+        let few : length walk ≤ MAX_PATH_CELLS = omega (arith, n.nodes) in
+        let most : length walk * 2 ^ 52 ≤ MAX_PATH_CELLS * 2 ^ 52 = mul-le-mul_right (2 ^ 52) few in
         omega (arith, h.0.2, walk-high net.cells lengths u v walk long h.0.1)
 
 layer-small : (cells : List Cell) (lengths : List ℕ) (s i v n : ℕ) → AreLengths cells lengths → i ≤ MAX_HOPS → IsLeastLength (IsShortWalk cells s v i) lengths n → IsSmall n
 layer-small cells lengths s i v n long l (None, h, is) = omega (arith, is)
 layer-small cells lengths s i v n long l (Some m, h, is) =
     let walk = h.0.0 in
-    let few : length walk ≤ 64 = omega (arith, h.0.1.1) in
-    let most : length walk * 2 ^ 52 ≤ 64 * 2 ^ 52 = mul-le-mul_right (2 ^ 52) few in
+    let few : length walk ≤ MAX_HOPS = omega (arith, h.0.1.1) in
+    let most : length walk * 2 ^ 52 ≤ MAX_HOPS * 2 ^ 52 = mul-le-mul_right (2 ^ 52) few in
     omega (arith, is, h.0.2, walk-high cells lengths s v walk long h.0.1.0)
 
 bound-small : (net : Network) (limits : List (Option ℕ)) (lengths : List ℕ) (d : HopDual) → IsNetwork net → AreLengths net.cells lengths → EmptyAreFar net.cells lengths

@@ -22,7 +22,7 @@ use Rattle.hop_check.specs.Conditions.{HopHolds, IsValidHops, IsHopCertified}
 use Rattle.hop_check.specs.Limits.{limits_of, hop_refusal}
 use Rattle.run_texts.specs.Heads.{run_head}
 use Rattle.run_texts.specs.HopsRead.{hops_in}
-use Rattle.run_base.specs.declared.outcome.Paper.TheVariants.{Certificate}
+use Rattle.run_base.specs.declared.outcome.FileKind.TheVariants.{Certificate}
 use Rattle.run_base.specs.Answer.{Answer, judged_answer}
 use Rattle.run_base.specs.Files.{Ends, OfFile, OfNet}
 

@@ -8,7 +8,7 @@ use crate::judging::judge_hops;
 use cert_judge::Judged;
 use mcf_base::{Shelf, Sink};
 use mcf_limits::{MAX_CERT_BYTES, MAX_NET_BYTES};
-use run_base::{Ended, Outcome, Paper, file_text, net_rows, tell};
+use run_base::{Ended, FileKind, Outcome, file_text, net_rows, tell};
 use std::alloc::Global;
 
 // What is said of the second file on the network in the first.
@@ -21,12 +21,12 @@ fn judged_files<F: Shelf>(
     ensures { Finds judged_answer (OfCheckHops net.now cert.now)
         (F.seen shelf.old) (F.seen shelf.new) result }
 {
-    let net_text = file_text(alloc, shelf, net, MAX_NET_BYTES, Paper::Network)?;
+    let net_text = file_text(alloc, shelf, net, MAX_NET_BYTES, FileKind::Network)?;
     let rows = match net_rows(alloc, &net_text) {
         Ok(rows) => rows,
         Err(outcome) => return Err(outcome),
     };
-    let text = match file_text(alloc, shelf, cert, MAX_CERT_BYTES, Paper::Certificate) {
+    let text = match file_text(alloc, shelf, cert, MAX_CERT_BYTES, FileKind::Certificate) {
         Ok(text) => text,
         Err(outcome) => return Err(outcome),
     };

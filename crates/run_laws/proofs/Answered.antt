@@ -41,7 +41,7 @@ use Rattle.net_whatif.specs.Scripted.{IsScriptedText}
 use Rattle.mcf_words.specs.declared.request.Request.{Request}
 use Rattle.mcf_words.specs.declared.request.Command.{Command}
 use Rattle.mcf_words.specs.declared.request.Command.TheVariants as commands
-use Rattle.run_base.specs.declared.outcome.Paper.TheVariants as kinds
+use Rattle.run_base.specs.declared.outcome.FileKind.TheVariants as kinds
 use Rattle.run_base.specs.declared.outcome.Outcome.TheVariants as outcomes
 use Rattle.run_base.specs.Answer.{Answer, answer_of}
 use Rattle.run_base.specs.Files.{Ends, OfFile, OrMemory}

@@ -46,7 +46,7 @@ use Rattle.mcf_words.specs.Request.{request_of}
 use Rattle.mcf_words.specs.declared.request.Command.{Command}
 use Rattle.mcf_words.specs.declared.request.Command.TheVariants as commands
 use Rattle.run_base.specs.declared.ended.Ended.{Ended}
-use Rattle.run_base.specs.declared.outcome.Paper.TheVariants as kinds
+use Rattle.run_base.specs.declared.outcome.FileKind.TheVariants as kinds
 use Rattle.run_base.specs.declared.outcome.Outcome.TheVariants as outcomes
 use Rattle.run_base.specs.Answer.{Answer, IsGiven, Writes, answer_of, cut_off, ended_of}
 use Rattle.run_base.specs.Files.{Ends, OfFile, OrMemory}

@@ -29,7 +29,7 @@ use Rattle.matrix_batch.specs.Refusals.{BatchRefusal, InList, InNet}
 use Rattle.mcf_words.specs.declared.request.Command.TheVariants as commands
 use Rattle.mcf_words.specs.declared.request.Request.{Request}
 use Rattle.run_base.specs.declared.ended.Ended.{Ended}
-use Rattle.run_base.specs.declared.outcome.Paper.TheVariants as kinds
+use Rattle.run_base.specs.declared.outcome.FileKind.TheVariants as kinds
 use Rattle.run_base.specs.declared.outcome.Outcome.TheVariants as outcomes
 use Rattle.run_base.specs.Answer.{Answer}
 use Rattle.run_base.specs.Files.{Ends}

@@ -39,7 +39,7 @@ use Rattle.mcf_words.specs.declared.request.Command.{Command}
 use Rattle.mcf_words.specs.declared.request.Command.TheVariants as commands
 use Rattle.mcf_words.specs.declared.request.Request.{Request}
 use Rattle.run_base.specs.declared.ended.Ended.{Ended}
-use Rattle.run_base.specs.declared.outcome.Paper.TheVariants as kinds
+use Rattle.run_base.specs.declared.outcome.FileKind.TheVariants as kinds
 use Rattle.run_base.specs.declared.outcome.Outcome.TheVariants as outcomes
 use Rattle.run_base.specs.Answer.{Answer, IsGiven, Writes, cut_off, ended_of, judged_answer}
 use Rattle.run_base.specs.Found.{found_solve}

@@ -8,8 +8,8 @@ use Rattle.mcf_base.specs.Reading.{IsText}
 use Rattle.sndlib_grammar.specs.declared.refusal.NetRefusal.{NetRefusal}
 use Rattle.sndlib_grammar.specs.Rows.{NetRows}
 use Rattle.sndlib_grammar.specs.Net.{rows_of}
-use Rattle.run_base.specs.declared.outcome.Paper.{Paper}
-use Rattle.run_base.specs.declared.outcome.Paper.TheVariants.{Network}
+use Rattle.run_base.specs.declared.outcome.FileKind.{FileKind}
+use Rattle.run_base.specs.declared.outcome.FileKind.TheVariants.{Network}
 use Rattle.run_base.specs.declared.outcome.Outcome.{Outcome}
 use Rattle.run_base.specs.declared.outcome.Outcome.TheVariants.{Memory, NetRefused, ReadFault, TooLong}
 use Rattle.run_base.specs.Answer.{Answer, answer_of, status_of}
@@ -38,7 +38,7 @@ abbrev pub Memories : Answer → Type 0
 Memories answer = answer ≡ answer_of Memory
 
 -- the text of the file answers, and nothing else
-pub of_text : (limit : ℕ) (paper : Paper) (files : Holding) (name text : List ℕ) (OfText : List ℕ → ShelfView → ShelfView → Answer → Type 0) (old new : ShelfView) (answer : Answer)
+pub of_text : (limit : ℕ) (paper : FileKind) (files : Holding) (name text : List ℕ) (OfText : List ℕ → ShelfView → ShelfView → Answer → Type 0) (old new : ShelfView) (answer : Answer)
     → old.holds ≡ Some files → ¬ (Rose old.faults.count new.faults.count) → IsText limit (Some files) name text → OfFile limit paper name OfText old new answer
     → Memories answer ⊎ OfText text (with_file old name) new answer
 of_text limit paper files name text OfText old new answer tells calm is (inl (inl (memory, lacks))) = inl memory
@@ -65,7 +65,7 @@ of_rows files name rows OfRows old new answer tells calm net of =
 -- ---- where the run answered in full
 
 -- the file gave a text within its limit, which answers
-pub text_of_file : (limit : ℕ) (paper : Paper) (files : Holding) (name : List ℕ) (OfText : List ℕ → ShelfView → ShelfView → Answer → Type 0) (old new : ShelfView) (answer : Answer)
+pub text_of_file : (limit : ℕ) (paper : FileKind) (files : Holding) (name : List ℕ) (OfText : List ℕ → ShelfView → ShelfView → Answer → Type 0) (old new : ShelfView) (answer : Answer)
     → old.holds ≡ Some files → answer.status ≤ 1 → OfFile limit paper name OfText old new answer
     → (text : List ℕ) × IsText limit (Some files) name text × OfText text (with_file old name) new answer
 text_of_file limit paper files name OfText old new answer tells full (inl (inl (memory, lacks))) = absurd (not_full answer Memory memory full (omega arith))

@@ -18,7 +18,7 @@ use Rattle.cert_judge.specs.declared.refusal.Refusal.TheVariants.{Net, Cert}
 use Rattle.cert_judge.specs.Judgement.{refused}
 use Rattle.cert_judge.specs.Chain.{read_on, AreStages, IsSaid}
 use Rattle.cert_judge.proofs.Stages.{accepted_by, said_of}
-use Rattle.run_base.specs.declared.outcome.Paper.TheVariants as kinds
+use Rattle.run_base.specs.declared.outcome.FileKind.TheVariants as kinds
 use Rattle.run_base.specs.declared.outcome.Outcome.TheVariants as outcomes
 use Rattle.run_base.specs.Answer.{Answer, answer_of}
 use Rattle.run_base.specs.Files.{Ends, OfFile, OfNet}

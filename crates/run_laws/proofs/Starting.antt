@@ -25,8 +25,8 @@ use Rattle.mcf_words.specs.Request.{request_of}
 use Rattle.mcf_words.specs.declared.request.Command.{Command}
 use Rattle.mcf_words.specs.declared.request.Command.TheVariants as commands
 use Rattle.run_base.specs.declared.ended.Ended.{Ended}
-use Rattle.run_base.specs.declared.outcome.Paper.{Paper}
-use Rattle.run_base.specs.declared.outcome.Paper.TheVariants as kinds
+use Rattle.run_base.specs.declared.outcome.FileKind.{FileKind}
+use Rattle.run_base.specs.declared.outcome.FileKind.TheVariants as kinds
 use Rattle.run_base.specs.declared.outcome.Outcome.TheVariants as outcomes
 use Rattle.run_base.specs.Answer.{Answer, Writes, answer_of, judged_answer}
 use Rattle.run_base.specs.Files.{Ends, OfFile, OfNet, OnRows, OrMemory}
@@ -128,7 +128,7 @@ goes_on name files old new answer went = record {
 fault_output : (answer : Answer) → answer.status ≡ 4 → ¬ (answer.status ≡ 5)
 fault_output answer four five = absurd (omega (arith, four, five))
 
-file_went : (limit : ℕ) (paper : Paper) (name : List ℕ) (files : List (List ℕ)) (OfText : List ℕ → ShelfView → ShelfView → Answer → Type 0) (old new : ShelfView) (answer : Answer)
+file_went : (limit : ℕ) (paper : FileKind) (name : List ℕ) (files : List (List ℕ)) (OfText : List ℕ → ShelfView → ShelfView → Answer → Type 0) (old new : ShelfView) (answer : Answer)
     → ((text : List ℕ) → OfText text (with_file old name) new answer → Went files (with_file old name) new answer) → OfFile limit paper name OfText old new answer → Went (name ∷ files) old new answer
 file_went limit paper name files OfText old new answer f (inl (inl (memory, inl same))) = stays (name ∷ files) old new answer (memory_calm answer memory) same
 file_went limit paper name files OfText old new answer f (inl (inl (memory, inr same))) = goes_on name files old new answer (stays files (with_file old name) new answer (memory_calm answer memory) same)

@@ -21,7 +21,7 @@ use Rattle.net_whatif.proofs.SoundLines.{planned_at_start}
 use Rattle.mcf_words.specs.declared.request.Command.TheVariants as commands
 use Rattle.mcf_words.specs.declared.request.Request.{Request}
 use Rattle.run_base.specs.declared.ended.Ended.{Ended}
-use Rattle.run_base.specs.declared.outcome.Paper.TheVariants as kinds
+use Rattle.run_base.specs.declared.outcome.FileKind.TheVariants as kinds
 use Rattle.run_base.specs.Answer.{Answer}
 use Rattle.run_base.specs.Files.{Ends}
 use Rattle.run_sweeps.specs.Sweep.{sweep_answer, worth_without, OnSweep, OfSwept}

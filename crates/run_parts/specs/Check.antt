@@ -20,7 +20,7 @@ use Rattle.throughput.specs.Partial.{part_lower_of, part_upper_of}
 use Rattle.throughput.specs.Conditions.{PartHolds, IsValidPart, IsPartCertified}
 use Rattle.run_texts.specs.Heads.{run_head}
 use Rattle.run_texts.specs.PartRead.{part_in}
-use Rattle.run_base.specs.declared.outcome.Paper.TheVariants.{Certificate}
+use Rattle.run_base.specs.declared.outcome.FileKind.TheVariants.{Certificate}
 use Rattle.run_base.specs.Answer.{Answer, judged_answer}
 use Rattle.run_base.specs.Files.{Ends, OfFile, OfNet}
 

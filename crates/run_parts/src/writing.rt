@@ -15,7 +15,7 @@ use cert_lines::{Form, Names};
 use mcf_base::{Shelf, Sink};
 use mcf_limits::MAX_NET_BYTES;
 use mcf_words::Request;
-use run_base::{Ended, Found, Outcome, Paper, file_text, net_rows, tell, verdict_status};
+use run_base::{Ended, FileKind, Found, Outcome, file_text, net_rows, tell, verdict_status};
 use run_texts::write_part;
 use sndlib_rows::RawNet;
 use std::alloc::Global;
@@ -83,7 +83,7 @@ pub fn throughput_of<F: Shelf, K: Sink>(
     ensures { IsTold (OfThroughput net.now request.now (F.seen shelf.old) (F.seen shelf.new))
         (K.seen out.old) (K.seen out.new) result }
 {
-    let text = match file_text(alloc, shelf, net, MAX_NET_BYTES, Paper::Network) {
+    let text = match file_text(alloc, shelf, net, MAX_NET_BYTES, FileKind::Network) {
         Ok(text) => text,
         Err(outcome) => return tell(out, outcome),
     };

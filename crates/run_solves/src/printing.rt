@@ -6,7 +6,7 @@ ghost use Rattle.run_solves.specs.Print.{OfPrint, printed};
 use crate::canonical::print_net;
 use mcf_base::{Shelf, Sink};
 use mcf_limits::MAX_NET_BYTES;
-use run_base::{Ended, Paper, file_text, net_rows, tell};
+use run_base::{Ended, FileKind, file_text, net_rows, tell};
 use sndlib_rows::RawNet;
 use std::alloc::Global;
 
@@ -25,7 +25,7 @@ pub fn print<F: Shelf, K: Sink>(alloc: Global, shelf: &mut F, out: &mut K, name:
     ensures { IsTold (OfPrint name.now (F.seen shelf.old) (F.seen shelf.new)) (K.seen out.old)
         (K.seen out.new) result }
 {
-    let text = match file_text(alloc, shelf, name, MAX_NET_BYTES, Paper::Network) {
+    let text = match file_text(alloc, shelf, name, MAX_NET_BYTES, FileKind::Network) {
         Ok(text) => text,
         Err(outcome) => return tell(out, outcome),
     };

@@ -17,7 +17,7 @@ use mcf_base::{Gate, Shelf, Sink};
 use mcf_limits::MAX_NET_BYTES;
 use mcf_words::Request;
 use net_solve::{Asked, Solving, solve_rows, solved_can_be_written};
-use run_base::{Ended, Found, Outcome, Paper, file_text, net_rows, tell, verdict_status};
+use run_base::{Ended, FileKind, Found, Outcome, file_text, net_rows, tell, verdict_status};
 use sndlib_rows::RawNet;
 use std::alloc::Global;
 use std::thread::Threads;
@@ -97,7 +97,7 @@ pub fn solve_file<F: Shelf, K: Sink, G: Gate, R: Threads + Sync>(
     ensures { IsTold (OfSolve name.now request.now (F.seen shelf.old) (F.seen shelf.new))
         (K.seen out.old) (K.seen out.new) result }
 {
-    let text = match file_text(alloc, shelf, name, MAX_NET_BYTES, Paper::Network) {
+    let text = match file_text(alloc, shelf, name, MAX_NET_BYTES, FileKind::Network) {
         Ok(text) => text,
         Err(outcome) => return tell(out, outcome),
     };

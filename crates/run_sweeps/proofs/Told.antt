@@ -11,7 +11,7 @@ use Rattle.sweep.specs.Lines.{sweep_text}
 use Rattle.unit_scale.specs.Scaling.{ScaledNet}
 use Rattle.cert_judge.specs.declared.certifying.Certified.TheVariants.{Valid}
 use Rattle.cert_judge.specs.Certified.{IsCertifiedText}
-use Rattle.run_base.specs.declared.outcome.Paper.TheVariants.{Certificate}
+use Rattle.run_base.specs.declared.outcome.FileKind.TheVariants.{Certificate}
 use Rattle.run_base.specs.declared.ended.Ended.{Ended}
 use Rattle.run_base.specs.Answer.{IsTold, OrWant, Writes, text_answer}
 use Rattle.run_base.specs.Files.{Ends}

@@ -12,7 +12,7 @@ use Rattle.sweep.specs.Lines.{sweep_text}
 use Rattle.cert_judge.specs.declared.certifying.Certified.{Certified}
 use Rattle.cert_judge.specs.declared.certifying.Certified.TheVariants.{Valid, Said}
 use Rattle.cert_judge.specs.Certified.{IsCertifiedText}
-use Rattle.run_base.specs.declared.outcome.Paper.TheVariants.{Certificate}
+use Rattle.run_base.specs.declared.outcome.FileKind.TheVariants.{Certificate}
 use Rattle.run_base.specs.declared.outcome.Outcome.TheVariants.{Judged}
 use Rattle.run_base.specs.Answer.{Answer, answer_of, text_answer}
 use Rattle.run_base.specs.Files.{Ends, OfFile, OfNet}

@@ -13,7 +13,7 @@ use cert_judge::{Certified, read_certificate};
 use flow_paths::Proof;
 use mcf_base::{Shelf, Sink};
 use mcf_limits::{MAX_CERT_BYTES, MAX_NET_BYTES};
-use run_base::{Ended, Outcome, Paper, file_text, net_rows, tell};
+use run_base::{Ended, FileKind, Outcome, file_text, net_rows, tell};
 use sndlib_rows::RawNet;
 use std::alloc::{AllocError, Global};
 use std::thread::Threads;
@@ -84,7 +84,7 @@ fn sweep_on<F: Shelf, K: Sink, R: Threads + Sync>(
     ensures { IsTold (OfSwept rows.now cert.now (F.seen shelf.old) (F.seen shelf.new))
         (K.seen out.old) (K.seen out.new) result }
 {
-    let text = match file_text(alloc, shelf, cert, MAX_CERT_BYTES, Paper::Certificate) {
+    let text = match file_text(alloc, shelf, cert, MAX_CERT_BYTES, FileKind::Certificate) {
         Ok(text) => text,
         Err(outcome) => return tell(out, outcome),
     };
@@ -108,7 +108,7 @@ pub fn sweep<F: Shelf, K: Sink, R: Threads + Sync>(
     ensures { IsTold (OfSweep net.now cert.now (F.seen shelf.old) (F.seen shelf.new))
         (K.seen out.old) (K.seen out.new) result }
 {
-    let text = match file_text(alloc, shelf, net, MAX_NET_BYTES, Paper::Network) {
+    let text = match file_text(alloc, shelf, net, MAX_NET_BYTES, FileKind::Network) {
         Ok(text) => text,
         Err(outcome) => return tell(out, outcome),
     };

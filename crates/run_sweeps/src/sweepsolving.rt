@@ -15,7 +15,7 @@ use crate::{SweepAsked, Swept, options_of, sweep_solve, swept_status, write_swep
 use mcf_base::{Gate, Shelf, Sink};
 use mcf_limits::MAX_NET_BYTES;
 use mcf_words::Request;
-use run_base::{Ended, Outcome, Paper, file_text, net_rows, tell};
+use run_base::{Ended, FileKind, Outcome, file_text, net_rows, tell};
 use sndlib_rows::RawNet;
 use std::alloc::Global;
 use std::thread::Threads;
@@ -143,7 +143,7 @@ pub fn sweepsolve<F: Shelf, K: Sink, G: Gate, R: Threads + Sync>(
     ensures { IsTold (OfSweepSolve name.now request.now (F.seen shelf.old) (F.seen shelf.new))
         (K.seen out.old) (K.seen out.new) result }
 {
-    let text = match file_text(alloc, shelf, name, MAX_NET_BYTES, Paper::Network) {
+    let text = match file_text(alloc, shelf, name, MAX_NET_BYTES, FileKind::Network) {
         Ok(text) => text,
         Err(outcome) => return tell(out, outcome),
     };

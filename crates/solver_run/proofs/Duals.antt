@@ -8,7 +8,7 @@ use Rattle.std.proofs.lemmas.List.{get_or-map, length-map}
 use Rattle.std.proofs.lemmas.List.FromFn.{length-range_with_len, get_or-range_with_len}
 use Rattle.std.proofs.lemmas.List.Folds.{list_any_at}
 use Rattle.std.proofs.lemmas.List.Elements.{All-from_get_or, All-filter, All-cons, All-nil}
-use Rattle.mcf_limits.specs.declared.TheConstants.{MAX_LENGTH}
+use Rattle.mcf_limits.specs.declared.TheConstants.{MAX_LENGTH, MAX_PATH_CELLS}
 use Rattle.flow_model.specs.declared.net.Cell.{Cell}
 use Rattle.flow_model.specs.declared.net.Commodity.{Commodity}
 use Rattle.flow_model.specs.Network.{Network, IsNetwork, IsCommodity}
@@ -77,8 +77,8 @@ distance-small net lengths u v p n long l d = omega (arith, d.2, far d.0 d.1)
     far (Some m) h =
         let walk = h.0.0 in
         let short = least-short net lengths u v walk n long.low l (record { walks = h.0.1; least = λ other w. omega (arith, h.0.2, h.1 other w) }) in
-        let few : length walk ≤ 511 = omega (arith, n.nodes) in
-        let most : length walk * 2 ^ 52 ≤ 511 * 2 ^ 52 = mul-le-mul_right (2 ^ 52) few in
+        let few : length walk ≤ MAX_PATH_CELLS = omega (arith, n.nodes) in
+        let most : length walk * 2 ^ 52 ≤ MAX_PATH_CELLS * 2 ^ 52 = mul-le-mul_right (2 ^ 52) few in
         omega (arith, h.0.2, walk-high net.cells lengths u v walk long h.0.1)
 
 -- the dual of least lengths

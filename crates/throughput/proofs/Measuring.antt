@@ -6,7 +6,7 @@ use Rattle.std.proofs.lemmas.List.{length-append, length-take-le, get_or-append-
 use Rattle.std.proofs.lemmas.List.Folds.{list_any_at}
 use Rattle.std.proofs.lemmas.List.Sums.{sum_by-cons}
 use Rattle.std.proofs.lemmas.Option.{slice_get_within, slice_get-get_or, get_or_from_slice_get, same_Some}
-use Rattle.mcf_limits.specs.declared.TheConstants.{MAX_LENGTH}
+use Rattle.mcf_limits.specs.declared.TheConstants.{MAX_LENGTH, MAX_PATH_CELLS}
 use Rattle.flow_model.specs.declared.net.Cell.{Cell}
 use Rattle.flow_model.specs.declared.net.Commodity.{Commodity}
 use Rattle.flow_model.specs.declared.setting.Setting.{Setting}
@@ -151,8 +151,8 @@ price-fits net gates lengths k price n are fits p =
     let high = fits.high (length net.cells + k) (gate commodity commodity.amount) at some in
     let long = least-short net lengths commodity.from commodity.to walk n (λ d cell here cap. fits.low d cell (front-at net.cells gates d cell here) cap) c.from
     (record { walks = p.least.0.1; least = λ other w. omega (arith, p.least.0.2, p.least.1 other w) }) in
-    let few : length walk ≤ 511 = omega (arith, n.nodes) in
-    let most : length walk * 2 ^ 52 ≤ 511 * 2 ^ 52 = mul-le-mul_right (2 ^ 52) few in
+    let few : length walk ≤ MAX_PATH_CELLS = omega (arith, n.nodes) in
+    let most : length walk * 2 ^ 52 ≤ MAX_PATH_CELLS * 2 ^ 52 = mul-le-mul_right (2 ^ 52) few in
     let far = walk-high net.cells lengths commodity.from commodity.to walk (λ d cell here cap. fits.high d cell (front-at net.cells gates d cell here) cap) p.least.0.1 in
     (omega (arith, p.sum), omega (arith, p.sum, p.least.0.2))
 

@@ -16,9 +16,9 @@ use Rattle.flow_model.specs.Least.{IsCutOff}
 use Rattle.flow_model.proofs.Duality.{no_commodity}
 use Rattle.gap_fraction.specs.Fraction.{Fraction, IsWithinGap}
 use Rattle.flow_paths.specs.Certificate.{LoadsFit, IsRowOf}
-use Rattle.flow_paths.specs.Least.{least_by}
+use Rattle.flow_paths.specs.Least.{least_by, IsFirstLeast}
 use Rattle.flow_paths.proofs.FillLimits.{fill-positive, fill-cap}
-use Rattle.flow_paths.proofs.Least.{least-one}
+use Rattle.flow_paths.proofs.Least.{least-first, least-one}
 use Rattle.flow_paths.proofs.NoneFuller.{IsFullest, fullest}
 use Rattle.route_tally.specs.declared.options.RunOptions.{RunOptions}
 use Rattle.route_tally.specs.Asked.{AreRunOptions, later_setting, setting_after}
@@ -143,6 +143,15 @@ module _ (net : Network) (o : RunOptions) (p : PartProof) (n : IsNetwork net) (r
       let count = r.count in
       let whole : take (length r.phases) r.bounds ≡ r.bounds = ap (λ (m : ℕ). take m r.bounds) (sym count) ∙ take-length r.bounds in
       subst (IsSound net) (sym r.proof.bound) (subst (λ (bs : List PartDual). IsSound net (least_by (part_upper_of net) no_part_dual bs)) (sym whole) (of-some r.bounds (let some = r.some in omega arith) all-sound))
+
+  -- the kept bound is the first of the least
+  pub kept-first : IsFirstLeast (part_upper_of net) r.bounds p.bound
+  kept-first =
+      let count = r.count in
+      let whole : take (length r.phases) r.bounds ≡ r.bounds = ap (λ (m : ℕ). take m r.bounds) (sym count) ∙ take-length r.bounds in
+      let divide = All-weaker (IsSound net) (λ (b : PartDual). 1 ≤ (part_upper_of net b).den) (λ b s. s.positive) r.bounds all-sound in
+      subst (λ (b : PartDual). IsFirstLeast (part_upper_of net) r.bounds b) (sym (r.proof.bound ∙ ap (least_by (part_upper_of net) no_part_dual) whole))
+      (least-first (part_upper_of net) no_part_dual r.bounds (let some = r.some in omega arith) divide)
 
   lower-is : part_lower_after net r.gates r.phases (length r.phases) ≡ part_lower_of p.routing
   unfolding rows f

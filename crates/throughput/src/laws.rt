@@ -1,6 +1,6 @@
 //! Laws of totals and their certificates, proved for all networks.
 
-ghost use Rattle.throughput.specs.Laws.{ThresholdBoundsTotals, ThroughputRunsAreValid, ValidPartsCertify};
+ghost use Rattle.throughput.specs.Laws.{PartBoundIsFirst, ThresholdBoundsTotals, ThroughputRunsAreValid, ValidPartsCertify};
 
 /// Whatever the threshold: the total of a partial routing times the threshold is at most the volume of any lengths and
 /// what the threshold has above any distances that are not above its walks.
@@ -17,4 +17,9 @@ pub fn valid_parts_certify()
 /// The certificate of a run for the greatest total is valid.
 pub fn throughput_runs_are_valid()
     ensures { ThroughputRunsAreValid }
+{}
+
+/// Of the bounds of a run's phases its certificate has the first of the least: none is below it, and all before it are above it.
+pub fn total_bound_is_first_of_the_least()
+    ensures { PartBoundIsFirst }
 {}

@@ -23,6 +23,9 @@ pub use amounts::total;
 pub use bound::upper_num;
 pub use check::check_part;
 pub use fractions::is_within;
-pub use laws::{threshold_bounds_totals, throughput_runs_are_valid, valid_parts_certify};
+pub use laws::{
+    threshold_bounds_totals, throughput_runs_are_valid, total_bound_is_first_of_the_least,
+    valid_parts_certify,
+};
 pub use part_proof::{PartDual, PartProof};
 pub use solving::solve_parts;

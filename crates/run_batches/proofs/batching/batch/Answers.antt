@@ -1,7 +1,7 @@
 use Rattle.std.proofs.Common.{◌≡◌, Ok, inl, refl}
 use Rattle.mcf_limits.specs.declared.TheConstants.{MAX_LIST_BYTES}
 use Rattle.sndlib_grammar.specs.Net.{rows_of}
-use Rattle.run_base.specs.declared.outcome.Paper.TheVariants.{List as OfListPaper}
+use Rattle.run_base.specs.declared.outcome.FileKind.TheVariants.{List as OfListFile}
 use Rattle.run_base.specs.Answer.{IsTold, OrWant, answer_of}
 use Rattle.run_base.specs.Files.{Ends}
 use Rattle.run_base.proofs.Chain.{file_came, rows_came}
@@ -20,7 +20,7 @@ returns-in-Ok-file_text g c =
     let told : IsTold (OrWant (OnTexts request (rows_of text) list)) (g.K.Sink.seen c.args.out.now) (g.K.Sink.seen c.batch_texts.new.out) c.batch_texts.result =
     rw (c.deref-in-Ok-file_text.ensures.value, c.deref-in-Ok-file_text-2.ensures.value) at c.batch_texts.ensures in
     let on = list_told request text list rows told.0 read told.1 in
-    let of = file_came MAX_LIST_BYTES OfListPaper name (λ text. Ends (OnList request rows text)) _ _ _ list told.0 c.in-Ok-file_text.ensures.0 c.in-Ok-file_text.ensures.1 (refl, on) in
+    let of = file_came MAX_LIST_BYTES OfListFile name (λ text. Ends (OnList request rows text)) _ _ _ list told.0 c.in-Ok-file_text.ensures.0 c.in-Ok-file_text.ensures.1 (refl, on) in
     let came = rows_came c.args.files.net.now (λ rows. OfList request rows name) _ _ _ text rows told.0 c.in-Ok.ensures.0 c.in-Ok.ensures.1 read of in
     (told.0, came, told.2)
 

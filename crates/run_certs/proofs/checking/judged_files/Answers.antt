@@ -1,6 +1,6 @@
 use Rattle.std.proofs.Common.{inl, inr, refl}
 use Rattle.mcf_limits.specs.declared.TheConstants.{MAX_CERT_BYTES}
-use Rattle.run_base.specs.declared.outcome.Paper.TheVariants.{Certificate}
+use Rattle.run_base.specs.declared.outcome.FileKind.TheVariants.{Certificate}
 use Rattle.run_base.specs.Files.{Ends, OfFile}
 use Rattle.run_base.proofs.Chain.{file_came, rows_came}
 use Rattle.run_certs.specs.Check.{OnTexts}

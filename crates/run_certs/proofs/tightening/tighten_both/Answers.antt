@@ -3,7 +3,7 @@ use Rattle.cert_judge.specs.declared.second.Second.TheVariants.{Valid, Refused, 
 use Rattle.cert_judge.specs.Second.{IsSecondText, with_net}
 use Rattle.mcf_limits.specs.declared.TheConstants.{MAX_CERT_BYTES}
 use Rattle.run_base.specs.declared.outcome.Outcome.TheVariants.{SecondRefused, SecondInvalid}
-use Rattle.run_base.specs.declared.outcome.Paper.TheVariants.{Second}
+use Rattle.run_base.specs.declared.outcome.FileKind.TheVariants.{Second}
 use Rattle.run_base.specs.Answer.{answer_of}
 use Rattle.run_base.specs.Files.{Ends}
 use Rattle.run_base.proofs.Chain.{file_came}

@@ -4,7 +4,7 @@ use Rattle.mcf_limits.specs.declared.TheConstants.{MAX_CERT_BYTES}
 use Rattle.cert_judge.specs.declared.certifying.Certified.TheVariants.{Valid, Said}
 use Rattle.cert_judge.specs.Certified.{IsCertifiedText}
 use Rattle.run_base.specs.declared.outcome.Outcome.TheVariants.{Judged}
-use Rattle.run_base.specs.declared.outcome.Paper.TheVariants.{Certificate}
+use Rattle.run_base.specs.declared.outcome.FileKind.TheVariants.{Certificate}
 use Rattle.run_base.specs.Answer.{answer_of}
 use Rattle.run_base.specs.Files.{OrMemory}
 use Rattle.run_base.proofs.Chain.{file_came}

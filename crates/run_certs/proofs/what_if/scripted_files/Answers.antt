@@ -2,7 +2,7 @@ use Rattle.std.proofs.Common.{rules, inl, refl}
 use Rattle.mcf_limits.specs.declared.TheConstants.{MAX_CERT_BYTES, MAX_SCRIPT_BYTES}
 use Rattle.cert_judge.specs.declared.certifying.Certified.TheVariants.{Valid, Said}
 use Rattle.cert_judge.specs.Certified.{IsCertifiedText}
-use Rattle.run_base.specs.declared.outcome.Paper.TheVariants.{Certificate, Script}
+use Rattle.run_base.specs.declared.outcome.FileKind.TheVariants.{Certificate, Script}
 use Rattle.run_base.specs.Files.{Ends, OfFile, OrMemory}
 use Rattle.run_base.proofs.Chain.{found_too, rows_came}
 use Rattle.run_certs.specs.WhatIf.{OnCertificate, OnScript, OfWhatIf, scripted_answer}
