@@ -1,11 +1,10 @@
 -- A run of fewer workers is a run of more.
-use Rattle.std.proofs.Common.{◌≡◌, ◌⊎◌, inl, inr, ◌×◌, ℕ, ◌≤◌, ◌<◌, [], List, length, subst, sym, arith}
+use Rattle.std.proofs.Common.{◌≡◌, ◌⊎◌, inl, inr, ℕ, ◌≤◌, ◌<◌, [], List, length, subst, sym, arith}
 use Rattle.flow_model.specs.Network.{Network}
 use Rattle.flow_model.specs.Least.{HasCut, HasNoCut}
 use Rattle.flow_core.specs.Phase.{Routed}
 use Rattle.solver_run.specs.declared.options.SolveOptions.{SolveOptions}
 use Rattle.solver_run.specs.History.{SolvedView, AreRoutedBy}
-use Rattle.solver_run.specs.Options.{AreOptions}
 use Rattle.solver_run.specs.Run.{ArePhases, IsCutProof, IsPhasedRun, IsSolverRun}
 use Rattle.flow_solver.specs.Fewer.{IsWithFewer}
 
@@ -15,19 +14,6 @@ with_workers o n = record { gap = o.gap; phases = o.phases; workers = n; step = 
 
 is-with : (o fewer : SolveOptions) → IsWithFewer o fewer → fewer ≡ with_workers o fewer.workers
 is-with o fewer h = λ i. record { gap = h.gap i; phases = h.phases i; workers = fewer.workers; step = h.step i }
-
-pub fewer-options : (net : Network) (o fewer : SolveOptions) → AreOptions net o → IsWithFewer o fewer → AreOptions net fewer
-fewer-options net o fewer h is =
-    subst (λ (p : SolveOptions). AreOptions net p) (sym (is-with o fewer is)) (record {
-      gap = h.gap;
-      some_phase = h.some_phase;
-      phases = h.phases;
-      some_worker = is.some;
-      workers = omega (arith, is.workers, h.workers);
-      some_step = h.some_step;
-      step = h.step;
-      work = h.work;
-    })
 
 routed-by-more : (n m : ℕ) (phases : List (List Routed)) → n ≤ m → AreRoutedBy n phases → AreRoutedBy m phases
 routed-by-more n m phases le h k entries at j r l = omega (arith, h k entries at j r l, le)

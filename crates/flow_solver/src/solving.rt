@@ -204,7 +204,8 @@ fn uncut<G: Gate, R: Threads + Sync>(
         gate,
         threads: processors.min(threads).max(1),
     })?;
-    finished(alloc, net, &fewer, ended)
+    let solved = finished(alloc, net, &fewer, ended)?;
+    Ok(solved)
 }
 
 /// A cut's proof, or that of all phases.
