@@ -8,7 +8,7 @@ use prog.Atomic.{either}
 use Rattle.atomic_table.specs.Table.{State, step, Act, keeps, takes, gives, carried_after, stepped, Valid, Allows, Splits, opening, rest}
 use Rattle.claimed_calls.specs.declared.role.Role.{Role}
 use Rattle.claimed_calls.specs.declared.role.Role.TheVariants.{Fresh, Whole, Gives, Given, Serves, Serving}
-use Rattle.claimed_calls.specs.Posts.{Stage, fresh, whole, away, free, handed, taken, done, word_of, home_of, roles_of, state_of, Fits, IsAtStage, Sat, role_of, first_in, is_given, SitsDown, IsUnchanged, Leaves, IsBack, TakesBack, IsTaken, TakesJob, Finishes}
+use Rattle.claimed_calls.specs.Posts.{Stage, fresh, whole, away, free, handed, taken, done, word_of, home_of, roles_of, state_of, Fits, IsAtStage, Sat, role_of, first_in, is_given, SitsDown, IsUnchanged, Leaves, IsRecalled, Recalls, IsBack, TakesBack, IsTaken, TakesJob, Finishes}
 
 module _ {J : Type 0} where
   abbrev number : Role J → ℕ
@@ -206,7 +206,7 @@ module _ {J : Type 0} (asks : J → Type 0) (does : J → J → Type 0) where
   at_second : (me : Sat J) (f : ℕ → ℕ) (then : ℕ → Sat J → Type 0) (id : ℕ) (s : St) → id ≡ 1 → Can me f then 1 s → Can me f then id s
   at_second me f then id s is can = subst (λ (n : ℕ). Can me f then n s) (sym is) can
 
-  pub opens : IsAtStage asks does (opening (3 ∷ []) (None ∷ []) Fresh)
+  pub opens : IsAtStage asks does (opening (0 ∷ []) (None ∷ []) Fresh)
   opens = kept fresh tt
 
   pub sits : (slots id : ℕ) (me : Sat J) → me ≡ (Fresh, []) → Allows (IsAtStage asks does) slots id me 0 (λ n. n) (SitsDown (step slots 0 0 0 none) me)
@@ -233,21 +233,7 @@ module _ {J : Type 0} (asks : J → Type 0) (does : J → J → Type 0) where
       at_zero (handed j) zero_is p = absurd p
       at_zero (taken j) zero_is p = absurd p
       at_zero (done j k) zero_is p = absurd p
-      at_zero whole zero_is p = subst (λ (n : ℕ). IsAtStage asks does record { words = 3 ∷ []; homes = none ∷ []; views = slice_set (Whole ∷ []) n Gives ++ Serves ∷ [] }) (sym zero_is) (kept away tt)
-
-  -- the other thread comes
-  pub comes : (slots id : ℕ) (me : Sat J) → me ≡ (Serves, []) → Allows (IsAtStage asks does) slots id me 0 (λ n. either (n == 3) 0 n) (IsUnchanged (step slots 0 3 0 none) me)
-  comes slots id me is = subst (λ (m : Sat J). Allows (IsAtStage asks does) slots id m 0 (λ n. either (n == 3) 0 n) (IsUnchanged (step slots 0 3 0 none) m)) (sym is)
-      (allows slots id (Serves, []) (λ n. either (n == 3) 0 n) (IsUnchanged (step slots 0 3 0 none) (Serves, [])) (λ g f at. (let p = mate_free g id at in at_second (Serves, []) (λ n. either (n == 3) 0 n) (IsUnchanged (step slots 0 3 0 none) (Serves, [])) id (state_of g) p.0 (by_stage g f p.1))))
-    where
-      by_stage : (g : Stage J) → Fits asks does g → MateFree g → Can (Serves, []) (λ n. either (n == 3) 0 n) (IsUnchanged (step slots 0 3 0 none) (Serves, [])) 1 (state_of g)
-      by_stage fresh f p = absurd p
-      by_stage whole f p = absurd p
-      by_stage (taken j) f p = absurd p
-      by_stage away f p = (Serves, keeps, tt, kept free tt, refl)
-      by_stage free f p = (Serves, keeps, tt, kept free tt, refl)
-      by_stage (handed j) f p = (Serves, keeps, tt, kept (handed j) f, refl)
-      by_stage (done j k) f p = (Serves, keeps, tt, kept (done j k) f, refl)
+      at_zero whole zero_is p = subst (λ (n : ℕ). IsAtStage asks does record { words = 0 ∷ []; homes = none ∷ []; views = slice_set (Whole ∷ []) n Gives ++ Serves ∷ [] }) (sym zero_is) (kept free tt)
 
   -- the other thread goes
   pub goes : (slots id : ℕ) (me : Sat J) → me ≡ (Serves, []) → Allows (IsAtStage asks does) slots id me 0 (λ n. either (n == 0) 3 n) (IsUnchanged (step slots 0 0 3 none) me)
@@ -264,11 +250,11 @@ module _ {J : Type 0} (asks : J → Type 0) (does : J → J → Type 0) where
       by_stage (done j k) f p = (Serves, keeps, tt, kept (done j k) f, refl)
 
   -- the other thread takes a job that waits
-  pub takes_job : (slots id : ℕ) (me : Sat J) → me ≡ (Serves, []) → Allows (IsAtStage asks does) slots id me 0 (λ n. n) (TakesJob asks (step slots 0 0 0 none) me)
-  takes_job slots id me is = subst (λ (m : Sat J). Allows (IsAtStage asks does) slots id m 0 (λ n. n) (TakesJob asks (step slots 0 0 0 none) m)) (sym is)
-      (allows slots id (Serves, []) (λ n. n) (TakesJob asks (step slots 0 0 0 none) (Serves, [])) (λ g f at. (let p = mate_free g id at in at_second (Serves, []) (λ n. n) (TakesJob asks (step slots 0 0 0 none) (Serves, [])) id (state_of g) p.0 (by_stage g f p.1))))
+  pub takes_job : (slots id : ℕ) (me : Sat J) → me ≡ (Serves, []) → Allows (IsAtStage asks does) slots id me 0 (λ n. either (n == 1) 4 n) (TakesJob asks (step slots 0 1 4 none) me)
+  takes_job slots id me is = subst (λ (m : Sat J). Allows (IsAtStage asks does) slots id m 0 (λ n. either (n == 1) 4 n) (TakesJob asks (step slots 0 1 4 none) m)) (sym is)
+      (allows slots id (Serves, []) (λ n. either (n == 1) 4 n) (TakesJob asks (step slots 0 1 4 none) (Serves, [])) (λ g f at. (let p = mate_free g id at in at_second (Serves, []) (λ n. either (n == 1) 4 n) (TakesJob asks (step slots 0 1 4 none) (Serves, [])) id (state_of g) p.0 (by_stage g f p.1))))
     where
-      by_stage : (g : Stage J) → Fits asks does g → MateFree g → Can (Serves, []) (λ n. n) (TakesJob asks (step slots 0 0 0 none) (Serves, [])) 1 (state_of g)
+      by_stage : (g : Stage J) → Fits asks does g → MateFree g → Can (Serves, []) (λ n. either (n == 1) 4 n) (TakesJob asks (step slots 0 1 4 none) (Serves, [])) 1 (state_of g)
       by_stage fresh f p = absurd p
       by_stage whole f p = absurd p
       by_stage (taken j) f p = absurd p
@@ -322,9 +308,29 @@ module _ {J : Type 0} (asks : J → Type 0) (does : J → J → Type 0) where
       by_stage i (taken j) f p = (Given j, keeps, tt, kept (taken j) f, (λ k. (p k, [])))
       by_stage i (done j k) f p = (Gives, takes 0 (Some k), refl, kept free tt, record { job = j; given = sym p; back = k; worked = f; now = refl })
 
+  -- the owner takes back a job that waits
+  pub recalls : (slots id : ℕ) (me : Sat J) → is_given me.0 ≡ true → me.1 ≡ [] → Allows (IsAtStage asks does) slots id me 0 (λ n. either (n == 1) 0 n) (Recalls asks (step slots 0 1 0 none) me)
+  recalls slots id me given empty =
+      let j = job_of me.0 given in
+      let is : me ≡ (Given j.0, []) = (λ i. (j.1 i, empty i)) in
+      subst (λ (m : Sat J). Allows (IsAtStage asks does) slots id m 0 (λ n. either (n == 1) 0 n) (Recalls asks (step slots 0 1 0 none) m)) (sym is)
+      (allows slots id (Given j.0, []) (λ n. either (n == 1) 0 n) (Recalls asks (step slots 0 1 0 none) (Given j.0, [])) (λ g f at. (let p = end_out g id j.0 at in at_first (Given j.0, []) (λ n. either (n == 1) 0 n) (Recalls asks (step slots 0 1 0 none) (Given j.0, [])) id (state_of g) p.0 (by_stage j.0 g f p.1))))
+    where
+      by_stage : (i : J) (g : Stage J) → Fits asks does g → EndOut i g → Can (Given i, []) (λ n. either (n == 1) 0 n) (Recalls asks (step slots 0 1 0 none) (Given i, [])) 0 (state_of g)
+      by_stage i fresh f p = absurd p
+      by_stage i whole f p = absurd p
+      by_stage i away f p = absurd p
+      by_stage i free f p = absurd p
+      by_stage i (handed j) f p = (Gives, takes 0 (Some j), refl, kept free tt, record { job = j; given = sym p; may = f; now = refl })
+      by_stage i (taken j) f p = (Given j, keeps, tt, kept (taken j) f, (λ k. (p k, [])))
+      by_stage i (done x y) f p = (Given x, keeps, tt, kept (done x y) f, (λ k. (p k, [])))
+
   -- what a step tells where it found this, and where it did not
   pub taken_there : (m n : Sat J) (found : ℕ) → found ≡ 1 → MatchBool (found == 1) (IsTaken asks n) (n ≡ m) → IsTaken asks n
   taken_there m n found is told = subst (λ (x : ℕ). MatchBool (x == 1) (IsTaken asks n) (n ≡ m)) is told
+
+  pub recalled_there : (m n : Sat J) (found : ℕ) → found ≡ 1 → MatchBool (found == 1) (IsRecalled asks m n) (n ≡ m) → IsRecalled asks m n
+  recalled_there m n found is told = subst (λ (x : ℕ). MatchBool (x == 1) (IsRecalled asks m n) (n ≡ m)) is told
 
   pub back_there : (m n : Sat J) (found : ℕ) → found ≡ 2 → MatchBool (found == 2) (IsBack does m n) (n ≡ m) → IsBack does m n
   back_there m n found is told = subst (λ (x : ℕ). MatchBool (x == 2) (IsBack does m n) (n ≡ m)) is told

@@ -7,8 +7,8 @@ use Rattle.atomic_table.specs.Seated.{TableId}
 use Rattle.claimed_calls.specs.declared.role.Role.{Role}
 use Rattle.claimed_calls.specs.declared.role.Role.TheVariants.{Fresh, Whole, Gives, Given, Serves, Serving}
 
--- how far things have come: nobody has sat down, one has for both, no job is out (and whether the other thread is there), one is handed
--- over, one is being worked on, one is done
+-- how far things have come: nobody has sat down, one has for both, no job is out (and whether the other thread has gone), one waits, one is
+-- being worked on, one is done
 pub data Stage (J : Type 0) : Type 0 where
   fresh : Stage J
   whole : Stage J
@@ -20,12 +20,12 @@ pub data Stage (J : Type 0) : Type 0 where
 
 module _ {J : Type 0} where
   abbrev pub word_of : Stage J → ℕ
-  word_of fresh = 3
-  word_of whole = 3
+  word_of fresh = 0
+  word_of whole = 0
   word_of away = 3
   word_of free = 0
   word_of (handed j) = 1
-  word_of (taken j) = 1
+  word_of (taken j) = 4
   word_of (done j k) = 2
 
   -- what lies at the post, while nobody has it in hand
@@ -105,6 +105,16 @@ module _ {J : Type 0} where
   abbrev pub TakesBack : (J → J → Type 0) → Step (Option J) → Sat J → ℕ → Sat J → Type 0
   TakesBack does s m found n = MatchBool (found == 2) (IsBack does m n) (n ≡ m)
 
+  pub record IsRecalled (asks : J → Type 0) (m n : Sat J) : Type 0 where
+    pub job : J
+    pub given : m.0 ≡ Given job
+    pub may : asks job
+    pub now : n ≡ (Gives, (0, Some job) ∷ [])
+
+  -- the job is out no more, and in hand as it was, where it waited
+  abbrev pub Recalls : (J → Type 0) → Step (Option J) → Sat J → ℕ → Sat J → Type 0
+  Recalls asks s m found n = MatchBool (found == 1) (IsRecalled asks m n) (n ≡ m)
+
   pub record IsTaken (asks : J → Type 0) (n : Sat J) : Type 0 where
     pub job : J
     pub may : asks job
@@ -125,6 +135,11 @@ module _ {J : Type 0} where
   -- the owner's end: no job is out, and it has the place in hand; or one is
   abbrev pub IsEnd : Bool → Sat J → Type 0
   IsEnd out m = (out ≡ false → m ≡ (Gives, (0, None) ∷ [])) × (out ≡ true → (is_given m.0 ≡ true) × (m.1 ≡ []))
+
+  -- the job that was out, as it was
+  pub record IsAsGiven (asks : J → Type 0) (m : Sat J) (back : J) : Type 0 where
+    pub given : m.0 ≡ Given back
+    pub may : asks back
 
   -- the job that was out, and what the work made of it
   pub record IsMade (does : J → J → Type 0) (m : Sat J) (back : J) : Type 0 where

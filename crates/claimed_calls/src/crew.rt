@@ -6,7 +6,6 @@ ghost use Rattle.claimed_calls.specs.Posts.{AreAt};
 
 use crate::job::Job;
 use crate::post::{End, Mate, Post, Seats};
-use crate::waiting::{START, back_off};
 use std::alloc::{AllocError, Global};
 
 /// The threads beside the caller's, as it sees them: those that were taken on.
@@ -33,10 +32,10 @@ impl<'a, J: Job> Crew<'a, J> {
         Ok(Mate::new(post, mate))
     }
 
-    /// Whether all threads are there, to be handed a job at once. They are not where one has gone, since it was told to or had no job for a
-    /// while; it doesn't come back. No proof rests on what this tells.
+    /// Whether none of the threads has gone. One goes when it is told to or had no job for a while, and doesn't come back. No proof rests on
+    /// what this tells.
     pub fn is_there(&self) -> bool {
-        self.ends.iter().all(|end| end.is_free())
+        self.ends.iter().all(|end| end.is_there())
     }
 
     /// Which thread the caller's waited for last, counted from the first that was taken on, when jobs were last worked on: as far as the
@@ -45,19 +44,9 @@ impl<'a, J: Job> Crew<'a, J> {
         self.ends.iter().position(|end| end.has_waited())
     }
 
-    /// Waits until all threads are there, but not without end: one that can't be started never comes.
-    pub fn wait_until_there(&self) {
-        'looks: for looks in 0..START {
-            if self.is_there() {
-                return;
-            }
-            back_off(looks);
-        }
-    }
-
     /// Works on each job: on the first in the first thread that was taken on, and so on. The caller's thread calls `lead` meanwhile, and
-    /// then works on those that are too many and on each whose thread is not there. `false` where the caller has looked for a job 2^64
-    /// times, which no run does; then that job is lost.
+    /// then works on those that are too many, on each whose thread has gone, and on each that its thread has not begun. So it waits for
+    /// jobs under way alone. `false` where one of them has been under way for minutes of the processor; then that job is lost.
     pub fn work_beside<T, F: FnMut() -> T>(
         &mut self,
         jobs: &mut [Option<J>],
@@ -96,7 +85,7 @@ fn work_all<J: Job>(jobs: &mut [Option<J>])
     }
 }
 
-/// Hands the job over, unless no thread is there to take it: then it stays.
+/// Hands the job over, unless the thread that is to take it has gone: then it stays.
 fn hand_over<J: Job>(end: &mut End<'_, J>, job: &mut Option<J>) -> bool
     requires { Waits J.asks job.old }
     ensures out { IsTrue result → (end.new.out ≡ true) × IsOut job.old end.new.seat.me.0 × (job.new ≡ None) }
@@ -164,7 +153,7 @@ fn hand_and_lead<J: Job, T, F: FnMut() -> T>(
         work_one(job);
         return (whole, made);
     }
-    match end.wait_back() {
+    match end.bring_back() {
         Some(back) => {
             *job = Some(back);
             (whole, made)

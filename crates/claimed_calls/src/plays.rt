@@ -1,7 +1,7 @@
 //! The rule of a post, and what each step tells. These types are for the proofs alone.
 
 ghost use Rattle.claimed_calls.specs.declared.role.Role.TheVariants.{Fresh, Gives, Serves};
-ghost use Rattle.claimed_calls.specs.Posts.{IsAtStage, SitsDown, IsUnchanged, Leaves, TakesBack, TakesJob, Finishes};
+ghost use Rattle.claimed_calls.specs.Posts.{IsAtStage, SitsDown, IsUnchanged, Leaves, Recalls, TakesBack, TakesJob, Finishes};
 
 use crate::job::Job;
 use crate::role::Role;
@@ -41,6 +41,12 @@ pub(crate) struct Leave;
 
 impl<J> Play<Option<J>, Role<J>> for Leave {
     ghost then = { Leaves };
+}
+
+pub(crate) struct Recall;
+
+impl<J: Job> Play<Option<J>, Role<J>> for Recall {
+    ghost then = { Recalls J.asks };
 }
 
 pub(crate) struct TakeBack;

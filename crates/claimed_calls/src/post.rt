@@ -2,18 +2,17 @@
 
 ghost use Rattle.std.specs.Prelude.{◌≡◌, ◌∷◌, [], None, IfErr, IfOk, IfSome, IfNone, OnOk, true};
 ghost use Rattle.claimed_calls.specs.declared.role.Role.TheVariants.{Gives, Given, Serves};
-ghost use Rattle.claimed_calls.specs.Posts.{AreAt, IsEnd, IsMade};
+ghost use Rattle.claimed_calls.specs.Posts.{AreAt, IsAsGiven, IsEnd, IsMade};
 
 use crate::job::Job;
-use crate::plays::{Ends, Finish, Leave, PostRule, Sit, TakeBack, TakeJob, Unchanged};
+use crate::plays::{Ends, Finish, Leave, PostRule, Recall, Sit, TakeBack, TakeJob, Unchanged};
 use crate::role::Role;
-use crate::waiting::{START, back_off};
+use crate::waiting::{SOON, back_off};
 use atomic_table::{Seat, Table};
 use std::alloc::{AllocError, Global};
 use std::sync::atomic::{AtomicBool, Ordering};
 
-// What the word of a post says: the other thread is there, and no job is out; one waits, or is worked on; it is done; or the other
-// thread is not there.
+// What the word of a post says: no job is out; one waits; it is done; the other thread has gone; or a job is under way.
 const FREE: u64 = 0;
 
 const HANDED: u64 = 1;
@@ -22,11 +21,14 @@ const DONE: u64 = 2;
 
 const AWAY: u64 = 3;
 
-/// So many times a thread looks for its next job before it goes. On a processor of its own that is some twenty milliseconds.
-const PATIENCE: u64 = 40_000;
+const TAKEN: u64 = 4;
 
-/// So many times it looks for its first one: more than the owner waits until all threads are there.
-const START_PATIENCE: u64 = 4 * START;
+/// How often the owner looks for a job that is under way before it gives it up: minutes of the processor, which take longer where that is
+/// busy.
+const LOOKS: u64 = SOON + 200_000;
+
+/// How often a thread has a job or looks for one in vain before it goes for good, which no run comes to.
+const ROUNDS: u64 = 1 << 32;
 
 /// A seat at a post.
 pub(crate) type PostSeat<J> = Seat<Option<J>, Role<J>>;
@@ -72,7 +74,7 @@ impl<J: Job> Post<J> {
     pub fn new(alloc: Global) -> Result<(Self, Seats<J>), AllocError>
         ensures { IfOk result (λ r. AreAt r.0.table.shared.table_id r.1.end.table_id r.1.mate.table_id) }
     {
-        let (table, mut end) = Table::vacant(alloc, &[AWAY], 1, &())?;
+        let (table, mut end) = Table::vacant(alloc, &[FREE], 1, &())?;
         table.shared.load::<Sit>(&mut end, 0);
         let mate = table.shared.split_seat::<Ends>(&mut end);
         Ok((Post { table }, Seats { end, mate }))
@@ -102,12 +104,12 @@ impl<'a, J: Job> End<'a, J> {
         self.has_waited
     }
 
-    /// Whether the other thread is there, to be handed a job.
-    pub(crate) fn is_free(&self) -> bool {
-        self.post.word() == FREE
+    /// Whether the other thread has not gone. No proof rests on what this tells.
+    pub(crate) fn is_there(&self) -> bool {
+        self.post.word() != AWAY
     }
 
-    /// Hands over a job, unless one is out or the other thread is not there: then the job comes back.
+    /// Hands over a job, unless one is out or the other thread has gone: then the job comes back.
     pub(crate) fn hand(&mut self, job: J) -> Result<(), J>
         requires { J.asks job }
         ensures out { OnOk result (self.new.seat.me.0 ≡ Given job) }
@@ -129,9 +131,28 @@ impl<'a, J: Job> End<'a, J> {
         }
     }
 
+    /// Whether the job that is out waits for its thread. No proof rests on what this tells.
+    fn is_waiting(&self) -> bool {
+        self.post.word() == HANDED
+    }
+
     /// Whether the job that is out may be taken back. No proof rests on what this tells.
     fn is_done(&self) -> bool {
         self.post.word() == DONE
+    }
+
+    /// Takes back the job that is out, if no thread has begun it.
+    fn recall(&mut self) -> Option<J>
+        requires { self.old.out ≡ true }
+        ensures job { IfSome result (IsAsGiven J.asks self.old.seat.me) }
+        ensures same { IfNone result ((self.new.seat.me ≡ self.old.seat.me) × (self.new.out ≡ true)) }
+    {
+        let shared = &self.post.table.shared;
+        if shared.compare_exchange::<Recall>(&mut self.seat, 0, HANDED, FREE) != HANDED {
+            return None;
+        }
+        self.out = false;
+        shared.exchange(&mut self.seat, 0, None)
     }
 
     /// Takes back what was made of the job that is out, if that is done.
@@ -148,21 +169,36 @@ impl<'a, J: Job> End<'a, J> {
         shared.exchange(&mut self.seat, 0, None)
     }
 
-    /// Waits for what is made of the job that is out. `None` after 2^64 tries, which no run makes.
-    pub(crate) fn wait_back(&mut self) -> Option<J>
+    /// Waits for what a thread makes of the job that is out and under way. `None` where it has been under way for all looks.
+    fn wait_back(&mut self) -> Option<J>
         requires { self.old.out ≡ true }
         ensures { IfSome result (IsMade J.does self.old.seat.me) }
     {
-        'tries: for tries in 0..u64::MAX {
-            self.has_waited = tries > 0;
+        'looks: for looks in 0..LOOKS {
+            self.has_waited = looks > 0;
             if self.is_done() {
                 if let Some(job) = self.take_back() {
                     return Some(job);
                 }
             }
-            back_off(tries);
+            back_off(looks);
         }
         None
+    }
+
+    /// What is made of the job that is out: here, where no thread has begun it, and else in the thread that has, for which it waits. `None`
+    /// where that has been at it for all looks.
+    pub(crate) fn bring_back(&mut self) -> Option<J>
+        requires { self.old.out ≡ true }
+        ensures { IfSome result (IsMade J.does self.old.seat.me) }
+    {
+        if self.is_waiting() {
+            if let Some(job) = self.recall() {
+                self.has_waited = true;
+                return Some(job.work());
+            }
+        }
+        self.wait_back()
     }
 }
 
@@ -174,13 +210,7 @@ impl<'a, J: Job> Mate<'a, J> {
         Mate { post, seat }
     }
 
-    /// Says that this thread is there.
-    pub(crate) fn come(&mut self) {
-        let shared = &self.post.table.shared;
-        shared.compare_exchange::<Unchanged>(&mut self.seat, 0, AWAY, FREE);
-    }
-
-    /// Says that this thread is there no more, unless a job is out.
+    /// Says that this thread has gone, unless a job is out.
     pub(crate) fn go(&mut self) -> bool {
         let shared = &self.post.table.shared;
         shared.compare_exchange::<Unchanged>(&mut self.seat, 0, FREE, AWAY) == FREE
@@ -194,7 +224,7 @@ impl<'a, J: Job> Mate<'a, J> {
     /// Works on the job that waits, if one does.
     fn serve(&mut self) -> bool {
         let shared = &self.post.table.shared;
-        if shared.load::<TakeJob>(&mut self.seat, 0) != HANDED {
+        if shared.compare_exchange::<TakeJob>(&mut self.seat, 0, HANDED, TAKEN) != HANDED {
             return false;
         }
         match shared.exchange(&mut self.seat, 0, None) {
@@ -210,30 +240,28 @@ impl<'a, J: Job> Mate<'a, J> {
         closed.load(Ordering::SeqCst) && (self.go() || self.post.word() == DONE)
     }
 
-    /// Is there, and works on each job that waits, until the flag is set, or no job has been out for so many looks that the thread goes.
-    /// The flag is to be set by the owner of the jobs, while none is out, or else by nobody. A thread stays once.
+    /// Works on the next job, or goes where it is told to or looks for one in vain: whether it stays.
+    fn serve_next(&mut self, closed: &AtomicBool) -> bool {
+        for looks in 0..SOON {
+            if self.has_job() && self.serve() {
+                return true;
+            }
+            if self.goes_at(closed) {
+                return false;
+            }
+            back_off(looks);
+        }
+        !self.go()
+    }
+
+    /// Works on each job that waits, until the flag is set, or none has waited for so many looks that the thread goes. The flag is to be
+    /// set by the owner of the jobs, while none is out, or else by nobody. A thread stays once.
     pub fn stay(self, closed: &AtomicBool) {
         let mut mate = self;
-        let mut patience = START_PATIENCE;
-        let mut looks = 0u64;
-        let mut idle = 0u64;
-        mate.come();
-        'looks: for _ in 0..u64::MAX {
-            if mate.has_job() && mate.serve() {
-                patience = PATIENCE;
-                looks = 0;
-                idle = 0;
-            }
-            if mate.goes_at(closed) || idle >= patience && mate.go() {
+        'rounds: for _ in 0..ROUNDS {
+            if !mate.serve_next(closed) {
                 return;
             }
-            looks = looks.saturating_add(1);
-            idle = if mate.post.word() == FREE {
-                idle.saturating_add(1)
-            } else {
-                0
-            };
-            back_off(looks);
         }
     }
 }

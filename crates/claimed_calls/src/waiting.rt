@@ -3,19 +3,31 @@
 use std::hint::spin_loop;
 use std::thread::yield_now;
 
-/// So many times a thread looks again at once, before it lets others run in between: some ten microseconds. The one that it waits for
-/// may be on the same processor.
+/// Before this many looks a thread looks again at once: some ten microseconds. Then it lets others run in between, since the one that it
+/// waits for may be on the same processor.
 const SPINS: u64 = 200;
 
-/// So many times the owner of jobs looks whether all threads have come, which a busy system may start late. One that can't be started
-/// never comes.
-pub(crate) const START: u64 = 1_000_000;
+/// Looks of a thread that soon has to go on. On a processor of its own they last some twenty milliseconds.
+pub(crate) const SOON: u64 = 40_000;
+
+/// Pauses between looks of a thread that has waited for longer: about a millisecond of the processor.
+const PAUSES: u32 = 20_000;
 
 /// Lets some time pass before a thread looks again.
-pub(crate) fn back_off(tries: u64) {
-    if tries < SPINS {
+pub(crate) fn back_off(looks: u64) {
+    if looks < SPINS {
         spin_loop();
-    } else {
-        yield_now();
+        return;
+    }
+    yield_now();
+    if looks >= SOON {
+        pause();
+    }
+}
+
+/// Lets about a millisecond pass.
+fn pause() {
+    for _ in 0..PAUSES {
+        spin_loop();
     }
 }

@@ -11,6 +11,7 @@ pub mod Placed
 pub mod Named
 pub mod Renumbered
 pub mod Sent
+pub mod Fewer
 pub mod Turning
 pub mod Parting
 pub mod Phasing

@@ -7,4 +7,5 @@ pub mod Adding
 pub mod Turns
 pub mod Parts
 pub mod Shares
+pub mod Fewer
 pub mod Leading

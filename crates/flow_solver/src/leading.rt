@@ -56,7 +56,7 @@ fn phases_with<'a, G: Gate, R: Threads + Sync>(
     }
 }
 
-/// Waits for the crew, leads it for one phase or more, and then tells its threads to go.
+/// Leads the crew for one phase or more, and then tells its threads to go.
 fn led<'a, G: Gate, R: Threads + Sync>(
     run: &Run<'a, G, R>,
     crew: Crew<'_, Share<'a, G>>,
@@ -67,7 +67,6 @@ fn led<'a, G: Gate, R: Threads + Sync>(
     ensures { IfOk result (GoesOn run.now.on.now.net.now run.now.options.now reached) }
 {
     let mut crew = crew;
-    crew.wait_until_there();
     let result = phases_with(run, &mut crew, reached);
     closed.store(true, Ordering::SeqCst);
     result

@@ -10,6 +10,7 @@ ghost use Rattle.solver_run.specs.Run.{IsSolverRun};
 ghost use Rattle.flow_solver.specs.Leading.{CanGoOn, GoesOn};
 ghost use Rattle.flow_solver.specs.Reached.{IsMet, IsReached};
 ghost use Rattle.flow_solver.specs.Search.{phase_count};
+ghost use Rattle.flow_solver.specs.Fewer.{IsWithFewer};
 
 use crate::leading::further;
 use crate::prepared::{Prepared, Run};
@@ -155,6 +156,19 @@ fn cut_off(
     Ok(Solved::new(proof, entries))
 }
 
+/// The same options with no more workers than so many processors have, but with two where several are asked for.
+fn with_fewer_workers(options: &SolveOptions, processors: u16) -> SolveOptions
+    requires { 1 ≤ options.now.workers }
+    ensures { IsWithFewer options.now result }
+{
+    SolveOptions {
+        gap: options.gap,
+        phases: options.phases,
+        workers: options.workers.min(processors.max(2)),
+        step: options.step,
+    }
+}
+
 /// The proof of a network in which each commodity has a walk over positive cells.
 fn uncut<G: Gate, R: Threads + Sync>(
     rt: &R,
@@ -180,15 +194,18 @@ fn uncut<G: Gate, R: Threads + Sync>(
         graph,
         powers: &powers,
     };
+    let processors = mcf_base::thread_count(rt, MAX_WORKERS) as u16;
+    let fewer = with_fewer_workers(options, processors);
     let ended = all_phases(&Run {
         rt,
         alloc,
         on: &on,
-        options,
+        options: &fewer,
         gate,
-        threads: mcf_base::thread_count(rt, threads) as u16,
+        threads: processors.min(threads).max(1),
     })?;
-    finished(alloc, net, options, ended)
+    let solved = finished(alloc, net, &fewer, ended)?;
+    Ok(solved)
 }
 
 /// A cut's proof, or that of all phases.
@@ -214,7 +231,8 @@ fn certified<G: Gate, R: Threads + Sync>(
 
 /// A certificate of the network, and its history. Paths carry one fraction of every amount within every capacity, and
 /// lengths bound the fraction of every feasible routing. It is closed exactly where the two lie within the asked gap,
-/// and open only after the whole phase budget. `Err` is for want of memory. It may wait for its workers.
+/// and open only after the whole phase budget. `Err` is for want of memory, or, with several workers, where a thread of its own has been at
+/// one turn, or at its rows of one bound, while the caller's waited for minutes of the processor. It may wait for its workers.
 pub fn solve<G: Gate, R: Threads + Sync>(
     rt: &R,
     alloc: Global,

@@ -175,8 +175,8 @@ fn hands_of<G: Gate>(
 }
 
 /// What `lead` answers, which the caller's thread calls before it takes a turn, and the hands after their work, in their order: each turn
-/// is taken in a thread of the crew, or in the caller's. `Err` is for want of memory, or where the crew gave up waiting, after 2^64 tries,
-/// which no run makes.
+/// is taken in a thread of the crew, or in the caller's. `Err` is for want of memory, or where the crew gave up, since a turn was under way
+/// for minutes.
 pub(crate) fn take_all<'a, G: Gate, T, F: FnMut() -> T>(
     task: &Task<'a, G>,
     crew: &mut Crew<'_, Share<'a, G>>,

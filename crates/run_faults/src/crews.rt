@@ -120,14 +120,13 @@ fn work_beside_a_call<'a>(
     Ok(whole && found == 0 && are_doubled(&jobs))
 }
 
-/// Whether all threads were there, and have worked on three jobs, of which the first waits for the second. Then they are told to go.
+/// Whether no thread had gone, and they have worked on three jobs, of which the first waits for the second. Then they are told to go.
 fn lead<'a>(
     alloc: Global,
     crew: &mut Crew<'_, Doubling<'a>>,
     begun: &'a AtomicU64,
     closed: &AtomicBool,
 ) -> bool {
-    crew.wait_until_there();
     let there = crew.is_there();
     let worked = matches!(work_on(alloc, crew, begun, 2), Ok(true));
     closed.store(true, Ordering::SeqCst);
@@ -173,8 +172,8 @@ fn jobs_that_no_thread_takes_are_worked_on_here(rt: HostRuntime) -> Result<(), F
     let (one, at_one) = Post::new(alloc)?;
     let mut crew = Crew::new(alloc);
     let _nobody = crew.take_on(&one, at_one)?;
-    assert!(rt; !crew.is_there());
     assert!(rt; work_on(alloc, &mut crew, &begun, 1)?);
+    assert!(rt; crew.is_there());
     Ok(())
 }
 

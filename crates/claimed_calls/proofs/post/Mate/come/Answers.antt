@@ -1,8 +1,0 @@
-use Rattle.std.proofs.Common.{rules}
-use Rattle.claimed_calls.proofs.Posting.{comes}
-use Rattle.claimed_calls.proofs.post.Mate.come.Goals as goal
-
-pub compare_exchange-requires : goal.compare_exchange-requires
-compare_exchange-requires g c =
-    let seat = c.args.self.now.seat in
-    (c.args.self.now.of, search rules, comes g.J.Job.asks g.J.Job.does _ seat.id seat.me c.args.self.now.is_free)

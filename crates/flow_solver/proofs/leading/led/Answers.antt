@@ -1,7 +1,0 @@
-use denote.Exit.{no}
-use denote.Param.Send.{arg_send, param_send, param_sync}
-use Rattle.flow_solver.proofs.Sent.{share-send}
-use Rattle.flow_solver.proofs.leading.led.Goals as goal
-
-pub wait_until_there-requires-send-J : goal.wait_until_there-requires-send-J
-wait_until_there-requires-send-J g c κs within = param_send 0 _ (arg_send _ no _ (share-send _ _ (param_sync 0 _ c.type_bounds.sync-G)))
