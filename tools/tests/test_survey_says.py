@@ -272,7 +272,7 @@ def test_a_signal_ends_all(program: Program, tmp_path: Path, number: signal.Sign
             time.sleep(0.01)
         running.send_signal(number)
         out, told = running.communicate()
-    assert (running.returncode, out, told.count("\n")) == (130, "", 1) and told.startswith("survey: ")
+    assert (running.returncode, out) == (130, "") and told.startswith("survey: ") and told.count("\n") == 1, told
     assert list(scratch.iterdir()) == [] and not (tmp_path / "out").exists()
     listed = subprocess.run(["ps", "-eo", "args"], capture_output=True, text=True, check=True).stdout
     assert str(slow.path) not in listed
