@@ -2,6 +2,7 @@
 
 from __future__ import annotations
 
+import contextlib
 import os
 import sys
 from pathlib import Path
@@ -12,6 +13,14 @@ ROOT = Path(__file__).resolve().parents[2]
 sys.path[:0] = [str(ROOT / "python"), str(ROOT / "bench")]
 
 from mcf import Program, find_program  # noqa: E402
+
+with contextlib.suppress(ModuleNotFoundError):
+    from hypothesis import settings
+
+    # (nothing is measured by the clock; the quick profile draws the same each time, and the long one anew)
+    settings.register_profile("quick", deadline=None, database=None, derandomize=True)
+    settings.register_profile("long", deadline=None, database=None, max_examples=10_000)
+    settings.load_profile("long" if os.environ.get("MCF_LONG") else "quick")
 
 
 @pytest.fixture(scope="session")

@@ -2,14 +2,17 @@
 
 from __future__ import annotations
 
+import os
+import signal
 import subprocess
+import time
 from fractions import Fraction
 from pathlib import Path
 
 import numpy as np
 import pytest
 
-from mcf.lp import clp, run
+from mcf.lp import clp, path_lp, run
 from mcf.lp.build import gap_of, in_form
 from mcf.lp.path_lp import FractionProgram
 from mcf.lp.pool import Pool, complete
@@ -22,6 +25,7 @@ from mcf.lp.start import simple
 from certified import asked, bounds, command, unlimited
 from mcf import (Certificate, Demand, Link, Network, Node, Program, TextError, load_text, read_certificate, save_text, scale,
                  write_certificate, write_network)
+from mcf.route.run import Question, route
 from networks import arc_optimum, near, odd_network
 
 SIX = ("abilene", "polska", "nobel-us", "geant", "germany50", "ta2")
@@ -139,7 +143,8 @@ def test_without_clp_the_certificate_is_that_of_solve(program: Program, root: Pa
     monkeypatch.setattr(clp, "LIBRARIES", ("libNoSuchClp.so.1",))
     result = certify(program, asked(root / "examples/polska.net"))
     assert result.trouble is not None and "CLP is missing" in result.trouble
-    assert result.line.startswith("valid closed")
+    assert result.line.startswith("valid open") and not result.closed, "a millionth is asked for, and not reached"
+    assert result.left.startswith("open: a gap of 0.0") and "where 0.000001 was asked for; this is a certificate of mcf solve, " in result.left
     lower, upper = bounds(read_certificate(result.text))
     assert Fraction(0) < upper / lower - 1 < Fraction(1, 20)
 
@@ -155,7 +160,8 @@ def test_an_answer_that_check_refuses_is_not_handed_out(program: Program, root: 
     monkeypatch.setattr(run, "certificate_of", wrong)
     result = certify(program, asked(root / "examples/nobel-us.net"))
     assert result.trouble is not None and "invalid C2" in result.trouble
-    assert result.line.startswith("valid closed")
+    assert result.line.startswith("valid open") and not result.closed, "a millionth is asked for, and not reached"
+    assert certify(program, asked(root / "examples/nobel-us.net", gap=50_000)).closed
 
 
 @pytest.mark.parametrize("seconds", [0.001, 0.3])
@@ -183,7 +189,7 @@ def test_bidirected_links_in_form_2(root: Path, tmp_path: Path, seed: int) -> No
     net = tmp_path / "net"
     save_text(net, write_network(network))
     try:
-        certificate = run._optimum(unlimited(scaled, 2), None, np.inf)
+        certificate = run._optimum(unlimited(scaled, 2), None, np.inf).certificate
     except TextError as error:
         assert "no way" in str(error)
         return
@@ -194,18 +200,18 @@ def test_bidirected_links_in_form_2(root: Path, tmp_path: Path, seed: int) -> No
 
 def test_capacity_of_two_to_the_44_beside_one() -> None:
     network = line_network("17592186044416", "1", amount="3")
-    certificate = run._optimum(unlimited(scale(network), 1), None, np.inf)
+    certificate = run._optimum(unlimited(scale(network), 1), None, np.inf).certificate
     lower, upper = bounds(certificate)
     assert upper == Fraction(17592186044417, 3) and upper / lower - 1 < Fraction(1, 10**13), "no phases split off a part in 2^44"
 
 
 def test_an_optimum_that_no_number_of_phases_meets() -> None:
     network = line_network("65547", amount="1")
-    certificate = run._optimum(unlimited(scale(network), 1), None, np.inf)
+    certificate = run._optimum(unlimited(scale(network), 1), None, np.inf).certificate
     assert Fraction(*certificate.lower) == Fraction(*certificate.upper) == 65547
     split = Network((Node("A"), Node("B"), Node("C")), (Link("L0", "A", "B", "65546"), Link("L1", "A", "C", "1"), Link("L2", "C", "B", "1")),
                     (Demand("D", "A", "B", "1", "1"),))
-    certificate = run._optimum(unlimited(scale(split), 1), None, np.inf)
+    certificate = run._optimum(unlimited(scale(split), 1), None, np.inf).certificate
     assert bounds(certificate) == (65546, 65547), "one unit of at most 65,536 is too much for the small link, and none is what is left"
     assert gap_of(certificate) == 16
 
@@ -265,6 +271,137 @@ def test_trouble_is_one_line(program: Program, root: Path, words: tuple[str, ...
     assert done.stderr.count("\n") == 1 and said in done.stderr
 
 
+def test_what_is_open_says_how_far_it_came_and_why(program: Program, root: Path, tmp_path: Path) -> None:
+    """Without --gap a millionth is asked for, and a certificate that is far from it is open, with status 1."""
+    net = tmp_path / "net"
+    save_text(net, program.ask("gen", "5", "100", "400", "5000"))
+    done = command(root, program, str(net), "--seconds", "1")
+    assert done.returncode == 1 and done.stdout.startswith("mcf-certificate ") and "\nverdict open\n" in done.stdout
+    assert "\ngap 0.000001\n" in done.stdout and done.stderr.count("\n") == 1
+    assert done.stderr.startswith("certify: open: a gap of ") and " is left, where 0.000001 was asked for; " in done.stderr
+    save_text(tmp_path / "cert", done.stdout)
+    assert program.check(net, tmp_path / "cert").line.startswith("valid open ")
+
+
+@pytest.mark.parametrize("stop,said", [
+    (path_lp.Stop.SECONDS, "the seconds were over in round 7 of the linear program"),
+    (path_lp.Stop.ROUNDS, "the linear program stopped after 7 rounds, as many as it may have"),
+    (path_lp.Stop.COLUMNS, "no further path is worth adding to the linear program, and its flows in whole numbers carry no more"),
+])
+def test_why_it_stopped(stop: path_lp.Stop, said: str) -> None:
+    nothing = np.zeros(0)
+    assert run._stopped(path_lp.Optimum(nothing, 1.0, nothing, nothing, 2.0, 7, stop), False) == said
+    hurried = run._stopped(path_lp.Optimum(nothing, 1.0, nothing, nothing, 2.0, 7, path_lp.Stop.COLUMNS), True)
+    assert hurried == "the seconds were over while its flows were made whole numbers"
+
+
+def test_rounds_that_are_over_are_told(program: Program, root: Path, tmp_path: Path, monkeypatch: pytest.MonkeyPatch) -> None:
+    net, routing = root / "examples/nobel-us.net", tmp_path / "routing"
+    save_text(routing, route(program, Question(str(net), "hops", "undirected", "largest", "hops", "routing", 1, 60.0, False)).text)
+    monkeypatch.setattr(path_lp, "ROUNDS", 1)
+    result = certify(program, asked(net, start=str(routing)))
+    assert not result.closed and result.line.startswith("valid open ")
+    assert result.left.endswith("; the linear program stopped after 1 rounds, as many as it may have")
+
+
+def test_a_gap_that_is_not_reached_is_open_and_one_that_is_wide_enough_closed(program: Program, tmp_path: Path) -> None:
+    """One unit in 65,546 is left by any number of phases."""
+    split = Network((Node("A"), Node("B"), Node("C")), (Link("L0", "A", "B", "65546"), Link("L1", "A", "C", "1"), Link("L2", "C", "B", "1")),
+                    (Demand("D", "A", "B", "1", "1"),))
+    net = tmp_path / "net"
+    save_text(net, write_network(split))
+    result = certify(program, asked(net))
+    assert not result.closed and result.left == ("open: a gap of 0.000016 is left, where 0.000001 was asked for; no further path is worth "
+                                                 "adding to the linear program, and its flows in whole numbers carry no more")
+    assert certify(program, asked(net, gap=16)).closed and not certify(program, asked(net, gap=15)).closed
+
+
+def test_a_network_without_demands_is_one_line(program: Program, root: Path, tmp_path: Path) -> None:
+    net = tmp_path / "net"
+    save_text(net, write_network(Network((Node("A"), Node("B")), (Link("L", "A", "B", "1"),), (Demand("D", "A", "A", "1", "1"),))))
+    for kind in ("solve", "hops", "throughput"):
+        done = command(root, program, str(net), "--kind", kind)
+        assert (done.returncode, done.stdout) == (2, "")
+        assert done.stderr == f"certify: {net}: no demand of an amount between two nodes, so there is nothing to carry\n"
+
+
+@pytest.mark.parametrize("how", [">&-", "> /dev/full", "| true"])
+def test_an_output_that_cannot_be_written_is_trouble(program: Program, root: Path, how: str) -> None:
+    line = f"set -o pipefail; tools/certify examples/triangle.net --mcf {program.path} {how}"
+    done = subprocess.run(["bash", "-c", line], cwd=root, capture_output=True, text=True, check=False)
+    assert (done.returncode, done.stdout) == (2, "") and done.stderr.startswith("certify: standard output: ") and done.stderr.count("\n") == 1
+
+
+def test_an_output_that_is_read_or_has_no_place_is_told_before_the_work(program: Program, root: Path, tmp_path: Path) -> None:
+    net = tmp_path / "net"
+    save_text(net, load_text(root / "examples/triangle.net"))
+    for output in (net, tmp_path / "no" / "where"):
+        done = command(root, Program("/bin/false"), str(net), "--output", str(output))
+        assert done.returncode == 2 and done.stderr.count("\n") == 1 and "false" not in done.stderr
+    assert load_text(net) == load_text(root / "examples/triangle.net")
+
+
+@pytest.mark.parametrize("when", ["solve", "check", "linear program"])
+@pytest.mark.parametrize("number", [signal.SIGINT, signal.SIGTERM])
+def test_a_signal_ends_it_and_its_children(program: Program, root: Path, tmp_path: Path, number: signal.Signals, when: str) -> None:
+    """While the program solves or checks, and while CLP runs, which does not look at signals."""
+    scratch, fake = tmp_path / "scratch", tmp_path / "mcf"
+    scratch.mkdir()
+    held = f'[ "$1" = {when.split()[0]} ] && {{ touch {tmp_path}/began; sleep 3600; }}\n'
+    fake.write_text(f'#!/bin/sh\n{held}exec {program.path} "$@"\n')
+    fake.chmod(0o755)
+    words = [str(root / "tools/certify"), str(root / "examples/geant.net"), "--output", str(tmp_path / "out"), "--mcf", str(fake)]
+    if when == "linear program":
+        words = ["/usr/bin/python3", "-B", "-c", SLOW_CLP.format(package=str(root / "python"), began=str(tmp_path / "began")), *words[1:]]
+    with subprocess.Popen(words, stdout=subprocess.PIPE, stderr=subprocess.PIPE, text=True, env={**os.environ, "TMPDIR": str(scratch)}) as running:
+        while not (tmp_path / "began").exists():
+            assert running.poll() is None
+            time.sleep(0.01)
+        running.send_signal(number)
+        out, told = running.communicate()
+    assert (running.returncode, out, told.count("\n")) == (130, "", 1) and told.startswith("certify: ")
+    assert list(scratch.iterdir()) == [] and not (tmp_path / "out").exists()
+    assert str(fake) not in subprocess.run(["ps", "-eo", "args"], capture_output=True, text=True, check=True).stdout
+
+
+SLOW_CLP = """
+import ctypes, sys
+sys.path.insert(0, {package!r})
+from mcf.cli.certify import main
+from mcf.lp import clp
+load = clp.load_clp
+sleep = ctypes.CDLL(None).sleep
+
+
+class Slow:
+    def __init__(self):
+        self._library = load()
+
+    def __getattr__(self, name):
+        return getattr(self._library, name)
+
+    def Clp_primal(self, model, words):
+        open({began!r}, "w").close()
+        return sleep(3600)
+
+
+from mcf.lp import run
+run.load_clp = Slow
+main()
+"""
+
+
+def test_another_locale(program: Program, root: Path, tmp_path: Path) -> None:
+    net = tmp_path / "net"
+    save_text(net, write_network(Network((Node("\xc3\xa4"), Node("B")), (Link("L\xe4", "\xc3\xa4", "B", "1"),), (Demand("D", "B", "\xc3\xa4", "1", "1"),))))
+    done = subprocess.run([str(root / "tools/certify"), str(net), "--mcf", program.path], capture_output=True, check=False,
+                          env={**os.environ, "LC_ALL": "C", "PYTHONCOERCECLOCALE": "0", "PYTHONUTF8": "0"})
+    assert done.returncode == 0 and done.stderr == b"" and b"=L\xe4" in done.stdout
+
+
 def test_wrong_words_are_usage(program: Program, root: Path) -> None:
-    for words in (("x", "--gap", "-1"), ("x", "--gap", "0.0000001"), ("x", "--links", "both"), ("x", "--seconds", "soon"), ()):
-        assert command(root, program, *words).returncode == 2
+    for words in (("x", "--gap", "-1"), ("x", "--gap", "0.0000001"), ("x", "--links", "both"), ("x", "--seconds", "soon"), (),
+                  ("x", "--seconds", "nan"), ("x", "--seconds", "inf"), ("x", "--seconds", "0"), ("x", "--gap", "9" * 5000),
+                  ("x", "--gap", "1", "--gap", "2")):
+        done = command(root, program, *words)
+        assert done.returncode == 2 and done.stdout == "" and done.stderr.startswith("certify: ") and done.stderr.count("\n") == 1

@@ -93,7 +93,7 @@ def test_without_any_start(seed: int) -> None:
     for (links, modules), kind in itertools.product(WAYS, OTHERS):
         scaled = scale(network, links, modules)
         try:
-            certificate = run._optimum(unlimited(scaled, 2, kind), None, np.inf)
+            certificate = run._optimum(unlimited(scaled, 2, kind), None, np.inf).certificate
         except TextError as error:
             assert "no way" in str(error) and kind is HOPS
             continue

@@ -5,28 +5,34 @@ where each node sends equal shares over all links that begin a shortest path; an
 single paths the one over the first links of the file is taken. The longest path of a demand has no effect.
 
 Standard output has the routing, or the file of --output; what it carries, and how far that is below the best, is told on standard
-error. Status 0, or 2 with the trouble in one line.
+error. To tell that, tools/certify looks for the best, unless --no-best says not to. Status 0, 2 with the trouble in one line, or 130
+where it is interrupted.
 
 Examples:
   tools/route examples/germany50.net --by hops > germany50.routing
   tools/route examples/geant.net --by ecmp --lengths capacity --output geant.routing
   tools/route examples/polska.net --by k-paths --paths 3
   tools/route examples/polska.net --by cost --cost setup
+  tools/route examples/ta2.net --by hops --no-best                without the best beside it, which takes most of the time
 """
 
 from __future__ import annotations
 
 import argparse
 import sys
+from typing import NoReturn
 
-from mcf import LINK_MODES, MODULES, TextError, find_program, save_text
+from mcf import LINK_MODES, MODULES, find_program
+from mcf.arguments import Arguments
+from mcf.cli.values import seconds
 from mcf.needs import needed
+from mcf.output import main_of, require_output, write
 from mcf.route.lengths import COSTS, LENGTHS, METHODS
 
 
 def words() -> argparse.Namespace:
     """The words of the command line."""
-    parser = argparse.ArgumentParser(description=__doc__, formatter_class=argparse.RawDescriptionHelpFormatter, allow_abbrev=False)
+    parser = Arguments("route", __doc__)
     parser.add_argument("net", metavar="NET", help="a network file")
     parser.add_argument("--by", choices=METHODS, required=True, help="the method")
     parser.add_argument("--lengths", choices=LENGTHS, default="hops", help="the lengths for ecmp and k-paths (hops)")
@@ -34,7 +40,8 @@ def words() -> argparse.Namespace:
     parser.add_argument("--paths", type=int, default=4, metavar="K", help="how many paths of each pair, for k-paths (4)")
     parser.add_argument("--links", choices=LINK_MODES, default="undirected", help="how links are read (undirected)")
     parser.add_argument("--modules", choices=MODULES, default="largest", help="which modules count (largest)")
-    parser.add_argument("--seconds", type=float, default=300.0, metavar="N", help="the time for the split, and again for the best (300)")
+    parser.add_argument("--seconds", type=seconds, default=300.0, metavar="N", help="the time for the split, and again for the best (300)")
+    parser.add_argument("--no-best", action="store_true", help="do not look for the best routing, to say how far below it this one is")
     parser.add_argument("--output", metavar="FILE", help="write there, and only once the routing is feasible")
     parser.add_argument("--mcf", metavar="PATH", help="the program mcf (the environment's MCF, else mcf of this repository)")
     given = parser.parse_args()
@@ -43,26 +50,25 @@ def words() -> argparse.Namespace:
     return given
 
 
-def main() -> int:
-    """One run."""
+def main() -> NoReturn:
+    """One run, which ends the process."""
+    main_of(routed, "route")
+
+
+def routed() -> int:
+    """The status of the words that the process has."""
     given = words()
-    try:
-        with needed():
-            from mcf.route.run import Question, route
-        question = Question(given.net, given.by, given.links, given.modules, given.lengths, given.cost, given.paths, given.seconds)
-        routed = route(find_program(given.mcf), question)
-        if given.output:
-            save_text(given.output, routed.text)
-        else:
-            sys.stdout.buffer.write(routed.text.encode("latin-1"))
-            sys.stdout.flush()
-    except (TextError, OSError) as error:
-        print(f"route: {error}", file=sys.stderr)
-        return 2
-    for note in [routed.line, *routed.notes]:
+    output = given.output or "-"
+    require_output(output, [given.net])
+    with needed():
+        from mcf.route.run import Question, route
+    question = Question(given.net, given.by, given.links, given.modules, given.lengths, given.cost, given.paths, given.seconds, not given.no_best)
+    found = route(find_program(given.mcf), question)
+    write(output, found.text.encode("latin-1"))
+    for note in [found.line, *found.notes]:
         print(f"route: {note}", file=sys.stderr)
     return 0
 
 
 if __name__ == "__main__":
-    sys.exit(main())
+    main()

@@ -10,6 +10,7 @@ import numpy as np
 from mcf import (Certificate, HopCertificate, Layer, Length, Path, Potential, ScaledNetwork, TotalCertificate, rounded_down,
                  rounded_up)
 
+from ..ranges import Range, most_gain
 from .pool import Pool
 from .prices import Bound
 from .problem import Arcs, Pairs, Walk
@@ -20,11 +21,13 @@ FAR = 2**62
 """The length of a cell without capacity, and the potential of a node that is not reached."""
 
 MOST_GAP = 1000 * 10**6
+DEFAULT_GAP = 1
+"""The gap that is asked for unless another one is, in millionths."""
 
 
 def certificate_of(scaled: ScaledNetwork, like: Certificate, pairs: Pairs, arcs: Arcs, pool: Pool, whole: Whole,
                    bound: Bound) -> Certificate:
-    """The certificate, of the kind, form and counts of another one for the same network; its gap is the true one."""
+    """The certificate, of the kind, form and counts of another one for the same network."""
     words = scaled.words(like.form)
     lower, upper = (whole.carried * whole.capacity, whole.load), (bound.above, bound.below)
     lengths = [Length(words[number], int(bound.lengths[number]) if cell.capacity else FAR) for number, cell in enumerate(scaled.cells)]
@@ -110,19 +113,25 @@ def _take(left: list[tuple[Walk, int]], wanted: int) -> list[tuple[Walk, int]]:
 def gap_of(certificate: Certificate) -> int | None:
     """The true gap in millionths, rounded up; None where it is over every gap that can be asked for."""
     lower, upper = Fraction(*certificate.lower), Fraction(*certificate.upper)
-    if upper <= lower:
-        return 0
-    if not lower:
-        return None
-    gap = upper / lower - 1
-    millionths = rounded_up(gap.numerator, gap.denominator)
-    return millionths if millionths <= MOST_GAP else None
+    gap = gap_in(Range(min(lower, upper), upper))
+    return gap if gap is None or gap <= MOST_GAP else None
+
+
+def gap_in(found: Range) -> int | None:
+    """By what part of the lower bound the upper one is above it, in millionths, rounded up; None where nothing is carried."""
+    gap = most_gain(found, found)
+    if gap is None:
+        return 0 if found.exact else None
+    return rounded_up(gap.numerator, gap.denominator)
 
 
 def with_gap(certificate: Certificate, wanted: int | None) -> Certificate:
-    """The certificate with the gap that is wanted, in millionths, or with the true one where that is None; and its verdict."""
+    """The certificate with the gap that is wanted, in millionths, and its verdict.
+
+    Where that is None, a millionth is wanted, and a gap below it stands there as it is.
+    """
     true = gap_of(certificate)
-    certificate.gap = wanted if wanted is not None else MOST_GAP if true is None else true
+    certificate.gap = wanted if wanted is not None else DEFAULT_GAP if true is None else min(true, DEFAULT_GAP)
     certificate.verdict = "closed" if true is not None and true <= certificate.gap else "open"
     return certificate
 

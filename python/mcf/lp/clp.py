@@ -3,8 +3,9 @@
 from __future__ import annotations
 
 import ctypes
+import threading
 from ctypes import POINTER, c_double, c_int, c_void_p
-from typing import Sequence
+from typing import Callable, Sequence
 
 import numpy as np
 from scipy.sparse import csc_matrix
@@ -59,14 +60,16 @@ class Model:
         if not self._model:
             raise TextError("CLP has no memory")
         library.Clp_setLogLevel(self._model, 0)
+        self._runs = False
 
     def __enter__(self) -> Model:
         """The program itself."""
         return self
 
     def __exit__(self, *_: object) -> None:
-        """Gives the memory back."""
-        self._clp.Clp_deleteModel(self._model)
+        """Gives the memory back, which a method that still runs keeps to the end of the process."""
+        if not self._runs:
+            self._clp.Clp_deleteModel(self._model)
 
     def load(self, matrix: csc_matrix, cost: np.ndarray, upper: np.ndarray, row_upper: np.ndarray,
              row_lower: np.ndarray | None = None) -> None:
@@ -96,21 +99,25 @@ class Model:
 
     def primal(self, seconds: float) -> bool:
         """Primal simplex for at most so many seconds; whether it ended with an optimum."""
-        self._clp.Clp_setMaximumSeconds(self._model, max(seconds, 0.0))
-        self._clp.Clp_primal(self._model, 0)
-        return self._clp.Clp_status(self._model) == 0
+        return self._ended(seconds, self._clp.Clp_primal, 0)
 
     def dual(self, seconds: float) -> bool:
         """Dual simplex, likewise."""
-        self._clp.Clp_setMaximumSeconds(self._model, max(seconds, 0.0))
-        self._clp.Clp_dual(self._model, 0)
-        return self._clp.Clp_status(self._model) == 0
+        return self._ended(seconds, self._clp.Clp_dual, 0)
 
     def solve_anew(self, seconds: float) -> bool:
         """The method that CLP chooses, from nothing, likewise."""
+        return self._ended(seconds, self._clp.Clp_initialSolve)
+
+    def _ended(self, seconds: float, method: Callable[..., int], *words: int) -> bool:
+        """Runs a method in a thread of its own, so that a signal ends the wait for it; whether it ended with an optimum."""
         self._clp.Clp_setMaximumSeconds(self._model, max(seconds, 0.0))
-        self._clp.Clp_initialSolve(self._model)
-        return self._clp.Clp_status(self._model) == 0
+        thread = threading.Thread(target=method, args=(self._model, *words), daemon=True)
+        self._runs = True
+        thread.start()
+        thread.join()
+        self._runs = False
+        return bool(self._clp.Clp_status(self._model) == 0)
 
     @property
     def cost(self) -> float:

@@ -10,6 +10,7 @@ from __future__ import annotations
 import time
 from abc import ABC, abstractmethod
 from dataclasses import dataclass
+from enum import Enum
 from typing import Callable
 
 import numpy as np
@@ -26,11 +27,20 @@ ENOUGH = 1e-11
 NOISE = 1e-13
 
 
+class Stop(Enum):
+    """Why the linear program stopped."""
+
+    COLUMNS = "no further path is worth adding"
+    ROUNDS = "as many rounds as are allowed"
+    SECONDS = "the seconds are over"
+
+
 @dataclass
 class Optimum:
     """Flows of the pool's paths and what they carry, with the best prices of cells so far and the bound that these give.
 
-    What is carried is one fraction of every amount, or a total. `last_prices` are those of the flows.
+    What is carried is one fraction of every amount, or a total. `last_prices` are those of the flows. It is proved where the linear
+    program has its optimum, up to its tolerances.
     """
 
     flows: np.ndarray
@@ -39,7 +49,12 @@ class Optimum:
     last_prices: np.ndarray
     bound: float
     rounds: int
-    proved: bool
+    stop: Stop = Stop.ROUNDS
+
+    @property
+    def proved(self) -> bool:
+        """Whether there is no better one, up to tolerances."""
+        return self.stop is Stop.COLUMNS
 
     @property
     def gap(self) -> float:
@@ -89,15 +104,18 @@ class PathProgram(ABC):
             matrix = self._pool.cells_by_walks(len(self._capacity))
             flows, prices, done = self._solve(matrix, best, deadline)
             distance = self._search.distances(prices)
-            found = Optimum(flows, self._carried(matrix, flows), prices, prices, self._bound(prices, distance), number, False)
+            found = Optimum(flows, self._carried(matrix, flows), prices, prices, self._bound(prices, distance), number)
             if best is not None and best.bound <= found.bound:
                 found.bound, found.prices = best.bound, best.prices
             if best is not None and not done and best.carried > found.carried:
                 found.flows, found.carried = np.append(best.flows, np.zeros(len(flows) - len(best.flows))), best.carried
-            found.proved = done and (found.gap <= ENOUGH or not (grow and self._price(matrix, prices, distance)))
+            if done and (found.gap <= ENOUGH or not (grow and self._price(matrix, prices, distance))):
+                found.stop = Stop.COLUMNS
+            elif time.monotonic() >= deadline:
+                found.stop = Stop.SECONDS
             best = found
             told(best)
-            if found.proved or not grow or time.monotonic() >= deadline:
+            if found.stop is not Stop.ROUNDS or not grow:
                 break
         assert best is not None
         return best

@@ -2,21 +2,20 @@
 
 from __future__ import annotations
 
-import tempfile
 import time
 from dataclasses import dataclass
 from fractions import Fraction
-from pathlib import Path as File
 
 import numpy as np
 from tqdm import tqdm
 
-from mcf import Certificate, Program, Routing, ScaledNetwork, TextError, save_text, write_certificate
+from mcf import Certificate, Program, Routing, ScaledNetwork, TextError, decimal_of, write_certificate
 
-from .build import certificate_of, in_form, with_gap
+from ..judged import Judged, judge
+from .build import DEFAULT_GAP, certificate_of, gap_in, in_form, with_gap
 from .clp import load_clp
 from .kinds import SOLVE, Kind
-from .path_lp import Optimum, PathProgram
+from .path_lp import Optimum, PathProgram, Stop
 from .pool import complete
 from .prices import Bound, Bounds
 from .problem import Arcs
@@ -38,12 +37,42 @@ class Request:
 
 @dataclass(frozen=True)
 class Result:
-    """The certificate's text, its verdict, the line of its judge, and why it is not the linear program's, where it is not."""
+    """A certificate with the line of its judge; why it is not the linear program's, where it is not; and why that stopped."""
 
-    text: str
-    closed: bool
-    line: str
+    judged: Judged
+    wanted: int
     trouble: str | None
+    stopped: str
+
+    @property
+    def text(self) -> str:
+        """The certificate's text."""
+        return self.judged.text
+
+    @property
+    def line(self) -> str:
+        """The line of its judge."""
+        return self.judged.line
+
+    @property
+    def closed(self) -> bool:
+        """Whether the gap that was wanted is reached."""
+        return self.judged.closed
+
+    @property
+    def left(self) -> str:
+        """How far it came, and why it stopped there."""
+        gap = gap_in(self.judged.range)
+        found = "nothing is carried, so no gap can be told" if gap is None else f"a gap of {decimal_of(gap)} is left"
+        return f"open: {found}, where {decimal_of(self.wanted)} was asked for; {self.trouble or self.stopped}"
+
+
+@dataclass(frozen=True)
+class Made:
+    """A certificate of the linear program, and why that stopped."""
+
+    certificate: Certificate
+    stopped: str
 
 
 @dataclass(frozen=True)
@@ -62,14 +91,15 @@ def certify(program: Program, request: Request) -> Result:
     deadline = time.monotonic() + request.seconds
     begun = _begin(program, request, deadline)
     if not Fraction(*begun.first.upper):
-        return _judged(program, request, begun.first, None)
+        return _judged(program, request, begun.first, None, "")
     try:
         made = _optimum(begun, request.gap, deadline)
-        return _judged(program, request, combined([made, begun.first]), None)
+        return _judged(program, request, combined([made.certificate, begun.first]), None, made.stopped)
     except Exception as error:  # whatever fails there, a certificate of the kind's own command is handed out, with the reason
-        trouble = str(error) or type(error).__name__
+        reason = str(error) or type(error).__name__
+    trouble = f"this is a certificate of mcf {request.kind.command}, since the linear program gave none: {reason}"
     rest = longer_certificates(begun.source, len(begun.scaled.commodities), deadline)
-    return _judged(program, request, combined([begun.first, *rest]), trouble)
+    return _judged(program, request, combined([begun.first, *rest]), trouble, "")
 
 
 def _begin(program: Program, request: Request, deadline: float) -> Begun:
@@ -77,6 +107,8 @@ def _begin(program: Program, request: Request, deadline: float) -> Begun:
     paths = given(program, request.net, request.start) if request.start else None
     source = Source(program, request.kind, request.net, *_options(request, paths))
     scaled = source.scaled()
+    if not scaled.commodities:
+        raise TextError(f"{request.net}: no demand of an amount between two nodes, so there is nothing to carry")
     with tqdm(desc=f"paths of {request.kind.command}", disable=None, leave=False):
         half = deadline - request.seconds / 2
         is_first = paths is not None and type(paths) is request.kind.certificate
@@ -97,7 +129,7 @@ def _options(request: Request, paths: Routing | None) -> tuple[str, str]:
     return paths.links, paths.modules
 
 
-def _optimum(begun: Begun, gap: int | None, deadline: float) -> Certificate:
+def _optimum(begun: Begun, gap: int | None, deadline: float) -> Made:
     """The certificate of the linear program's answer."""
     library = load_clp()
     scaled, kind = begun.scaled, begun.source.kind
@@ -116,8 +148,21 @@ def _optimum(begun: Begun, gap: int | None, deadline: float) -> Certificate:
     with tqdm(desc="whole numbers", disable=None, leave=False):
         rounding = kind.rounding(matrix, np.array(pool.pair[:used]), amounts, capacities, optimum.flows)
         enough = bound.value if gap is None else bound.value / (1 + Fraction(gap, 10**6))
-        whole = rounding.best(bound.value, enough, time.monotonic() + left * 0.2)
-    return certificate_of(scaled, begun.first, pairs, arcs, pool, whole, bound)
+        until = time.monotonic() + left * 0.2
+        whole = rounding.best(bound.value, enough, until)
+    certificate = certificate_of(scaled, begun.first, pairs, arcs, pool, whole, bound)
+    return Made(certificate, _stopped(optimum, time.monotonic() >= until))
+
+
+def _stopped(optimum: Optimum, hurried: bool) -> str:
+    """Why the gap is no smaller."""
+    if optimum.stop is Stop.SECONDS:
+        return f"the seconds were over in round {optimum.rounds} of the linear program"
+    if optimum.stop is Stop.ROUNDS:
+        return f"the linear program stopped after {optimum.rounds} rounds, as many as it may have"
+    if hurried:
+        return "the seconds were over while its flows were made whole numbers"
+    return "no further path is worth adding to the linear program, and its flows in whole numbers carry no more"
 
 
 def _solved(program: PathProgram, deadline: float) -> Optimum:
@@ -138,15 +183,9 @@ def _bound(bounds: Bounds, optimum: Optimum, begun: Begun) -> Bound:
     return found
 
 
-def _judged(program: Program, request: Request, certificate: Certificate, trouble: str | None) -> Result:
+def _judged(program: Program, request: Request, certificate: Certificate, trouble: str | None, stopped: str) -> Result:
     """The certificate's text, once the command that judges its kind calls it valid."""
-    certificate = with_gap(certificate, request.gap)
-    text = write_certificate(certificate)
-    judge = request.kind.judge
-    with tempfile.TemporaryDirectory() as room, tqdm(desc=f"mcf {judge}", disable=None, leave=False):
-        file = File(room, "cert")
-        save_text(file, text)
-        answer = program.check(request.net, file, command=judge)
-    if answer.status != 0 or not answer.line.startswith("valid "):
-        raise TextError(f"mcf {judge} says {answer.line or answer.status} of the certificate")
-    return Result(text, certificate.verdict == "closed", answer.line, trouble)
+    text = write_certificate(with_gap(certificate, request.gap))
+    with tqdm(desc=f"mcf {request.kind.judge}", disable=None, leave=False):
+        judged = judge(program, request.net, text, request.kind.judge)
+    return Result(judged, DEFAULT_GAP if request.gap is None else request.gap, trouble, stopped)

@@ -19,6 +19,7 @@ from mcf.lp.rounding import Rounding
 from mcf.lp.search import AllPaths
 
 from .shortest import Walk, Ways
+from .shown import few_digits_up
 
 
 def split_over_few(scaled: ScaledNetwork, ways: Ways, count: int, deadline: float,
@@ -38,7 +39,8 @@ def split_over_few(scaled: ScaledNetwork, ways: Ways, count: int, deadline: floa
     rounding = Rounding(matrix, np.array(pool.pair), amounts, capacities, optimum.flows)
     whole = rounding.best(aim, aim, max(deadline, time.monotonic() + 1))
     if whole.lower < aim:
-        notes.append(f"in whole units it is {float(1 - whole.lower / aim):.3g} below the best split over these paths")
+        part = few_digits_up(1 - whole.lower / aim)
+        notes.append(f"in whole units it is by at most {part} of it below the best split over these paths, as the linear program has it")
     return whole.phases, shares_of_demands(scaled, pairs, pool, whole)
 
 

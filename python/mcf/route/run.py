@@ -2,23 +2,22 @@
 
 from __future__ import annotations
 
-import tempfile
 import time
 from collections.abc import Iterator
 from dataclasses import dataclass
 from fractions import Fraction
-from pathlib import Path as File
 
 from tqdm import tqdm
 
-from mcf import (Path, Program, Routing, ScaledNetwork, TextError, decimal_of, loads, lower, read_certificate, rounded_down,
-                 save_text, scale, write_routing)
+from mcf import Path, Program, Routing, ScaledNetwork, TextError, loads, scale, write_routing
 from mcf.lp.rounding import fullest
 from mcf.lp.run import Request, certify
 
+from ..judged import Judged, judge
 from .few_paths import split_over_few
 from .lengths import whole_lengths
 from .shortest import Walk, Ways
+from .shown import below_the_best, few_digits_up
 from .whole import in_units, phases_for
 
 Shares = list[tuple[Walk, Fraction]]
@@ -36,15 +35,25 @@ class Question:
     cost: str
     paths: int
     seconds: float
+    beside_best: bool = True
 
 
 @dataclass(frozen=True)
 class Routed:
-    """A routing, the line of `mcf check` on it, and what else is to be said."""
+    """A routing with the line of `mcf check` on it, and what else is to be said."""
 
-    text: str
-    line: str
+    judged: Judged
     notes: list[str]
+
+    @property
+    def text(self) -> str:
+        """The routing's text."""
+        return self.judged.text
+
+    @property
+    def line(self) -> str:
+        """The line of `mcf check`."""
+        return self.judged.line
 
 
 def route(program: Program, question: Question) -> Routed:
@@ -58,15 +67,10 @@ def route(program: Program, question: Question) -> Routed:
     else:
         phases, rows = _whole(scaled, list(_shares(scaled, Ways(scaled, lengths), question.by == "ecmp")), notes)
     routing = _routing(scaled, program.form, phases, rows)
-    text = write_routing(routing)
-    with tempfile.TemporaryDirectory() as room:
-        file = File(room, "routing")
-        save_text(file, text)
-        answer = program.check(question.net, file)
-    if answer.status != 0:
-        raise TextError(f"mcf check says {answer.line or answer.status} of the routing")
-    notes.append(_below(program, question, lower(routing)))
-    return Routed(text, answer.line, notes)
+    judged = judge(program, question.net, write_routing(routing), "check")
+    if question.beside_best:
+        notes.append(_below(program, question, judged.lower))
+    return Routed(judged, notes)
 
 
 def _scaled(program: Program, question: Question) -> ScaledNetwork:
@@ -104,7 +108,7 @@ def _whole(scaled: ScaledNetwork, shares: list[Shares], notes: list[str]) -> tup
         rows.append([(walk, weight) for (walk, _), weight in zip(found, weights) if weight])
     if not phases.exact:
         notes.append(f"no number of phases up to 65536 makes these splits exact; of {phases.number}, the farthest path is off by "
-                     f"{float(worst):.3g} of its demand")
+                     f"at most {few_digits_up(worst)} of its demand")
     return phases.number, rows
 
 
@@ -122,16 +126,6 @@ def _below(program: Program, question: Question, carried: Fraction) -> str:
     """By how much a fraction is below the best, which a certificate bounds."""
     request = Request(question.net, question.links, question.modules, None, question.seconds, None)
     try:
-        certificate = read_certificate(certify(program, request).text)
+        return below_the_best(carried, certify(program, request).judged.range)
     except TextError as error:
         return f"how far below the best it is, is not known: {error}"
-    least, most = Fraction(*certificate.lower), Fraction(*certificate.upper)
-    below = f"{float(1 - carried / most):.2%} below"
-    if least == most:
-        return f"the best carries {_decimal(most)} of every demand, so this is {below}"
-    return f"the best carries {_decimal(least)} of every demand and no routing more than {_decimal(most)}, so this is at most {below}"
-
-
-def _decimal(value: Fraction) -> str:
-    """A fraction with six digits, rounded down."""
-    return decimal_of(rounded_down(value.numerator, value.denominator))

@@ -11,9 +11,6 @@ from mcf import ScaledNetwork
 
 Walk = tuple[int, ...]
 
-EXPANSIONS = 20_000
-"""The most partial paths that are looked at for one pair of nodes in `k_shortest`."""
-
 
 @dataclass(frozen=True, slots=True)
 class Arc:
@@ -30,6 +27,7 @@ class Ways:
     def __init__(self, scaled: ScaledNetwork, lengths: Sequence[int]) -> None:
         """Ways of a network under lengths of its cells."""
         nodes = len(scaled.network.nodes)
+        self._length = lengths
         self.out: list[list[Arc]] = [[] for _ in range(nodes)]
         self._into: list[list[Arc]] = [[] for _ in range(nodes)]
         for number, (cell, length) in enumerate(zip(scaled.cells, lengths)):
@@ -106,20 +104,71 @@ class Ways:
         return found
 
     def k_shortest(self, source: int, target: int, distances: Sequence[int | None], count: int) -> list[Walk]:
-        """Up to so many shortest paths that meet no node twice, the shortest first; fewer where few partial paths lead to more."""
-        start = distances[source]
-        queue: list[tuple[int, int, Walk, tuple[int, ...]]] = [] if start is None else [(start, 0, (), (source,))]
+        """Up to so many shortest paths that meet no node twice, the shortest first; fewer only where there are no more.
+
+        Yen's algorithm: from each path that is found, at each of its nodes from the one on where it left an earlier path, the
+        shortest way on that begins with none of the cells that known paths take from there.
+        """
+        taken: dict[Walk, set[int]] = {}
+        queue: list[_Found] = []
+        self._deviate((), (source,), target, distances, taken, queue)
         found: list[Walk] = []
-        for _ in range(EXPANSIONS):
-            if not queue or len(found) == count:
-                break
-            bound, hops, cells, nodes = heappop(queue)
-            if nodes[-1] == target:
-                found.append(cells)
-                continue
-            gone = bound - (distances[nodes[-1]] or 0)
-            for arc in self.out[nodes[-1]]:
-                left = distances[arc.to]
-                if left is not None and arc.to not in nodes:
-                    heappush(queue, (gone + arc.length + left, hops + 1, cells + (arc.cell,), nodes + (arc.to,)))
+        while queue and len(found) < count:
+            path = heappop(queue)
+            found.append(path.cells)
+            for at in range(path.left, len(path.cells)):
+                taken.setdefault(path.cells[:at], set()).add(path.cells[at])
+                if len(found) < count:
+                    self._deviate(path.cells[:at], path.nodes[: at + 1], target, distances, taken, queue)
         return found
+
+    def _deviate(self, cells: Walk, nodes: tuple[int, ...], target: int, distances: Sequence[int | None],
+                 taken: dict[Walk, set[int]], queue: list[_Found]) -> None:
+        """Adds the shortest path that begins with these cells, and then with none of those that are taken there."""
+        rest = self._way_on(nodes, target, distances, taken.get(cells, set()))
+        if rest:
+            whole = cells + tuple(arc.cell for arc in rest)
+            length = sum(self._length[cell] for cell in whole)
+            heappush(queue, _Found(length, len(whole), whole, nodes + tuple(arc.to for arc in rest), len(cells)))
+
+    def _way_on(self, nodes: tuple[int, ...], target: int, distances: Sequence[int | None], banned: set[int]) -> list[Arc]:
+        """A shortest way from the last of these nodes to a target over none of the others, nor first over a cell that is banned; empty
+        where there is none. Distances in the whole network say how far each node is at least, so few others are looked at."""
+        start = nodes[-1]
+        before: dict[int, tuple[int, Arc] | None] = {}
+        closed = set(nodes[:-1])
+        queue: list[tuple[int, int, int, int, tuple[int, Arc] | None]] = [(0, 0, 0, start, None)]
+        pushed = 0
+        while queue and target not in before:
+            _, gone, _, node, step = heappop(queue)
+            if node in closed or node in before:
+                continue
+            before[node] = step
+            for arc in self.out[node]:
+                left = distances[arc.to]
+                if left is not None and arc.to not in closed and arc.to not in before and (node != start or arc.cell not in banned):
+                    pushed += 1
+                    # (gone is kept negative: of ways of the same length the one that is nearer the target comes first)
+                    heappush(queue, (arc.length - gone + left, gone - arc.length, pushed, arc.to, (node, arc)))
+        return _steps(before, target)
+
+
+@dataclass(frozen=True, order=True, slots=True)
+class _Found:
+    """A path, by its length, then by its number of cells; `left` is at which of its nodes it left an earlier one."""
+
+    length: int
+    hops: int
+    cells: Walk
+    nodes: tuple[int, ...]
+    left: int
+
+
+def _steps(before: dict[int, tuple[int, Arc] | None], target: int) -> list[Arc]:
+    """The arcs to a target, by the step before each node; none where it was not reached."""
+    arcs: list[Arc] = []
+    step = before.get(target)
+    while step is not None:
+        arcs.append(step[1])
+        step = before[step[0]]
+    return arcs[::-1]

@@ -5,8 +5,9 @@ from __future__ import annotations
 import re
 import subprocess
 import tempfile
+import time
 from collections.abc import Iterable, Iterator
-from concurrent.futures import Future, ThreadPoolExecutor, wait
+from concurrent.futures import Future, ThreadPoolExecutor
 from contextlib import contextmanager
 from dataclasses import dataclass, replace
 from fractions import Fraction
@@ -189,23 +190,24 @@ def _routed(ground: Ground, factor: int, kept: list[Range], settings: Settings) 
     if factor == 0 and settings.solver == "solve":
         swept = _swept(ground, (0, 1), "sweepsolve", *_modes(ground), *settings.options, "--", ground.net)
         kept = [old.both(new) for old, new in zip(kept, swept)] if swept else kept
+    tasks: list[Future[Range] | None] = []
     with ThreadPoolExecutor(settings.jobs) as pool:
-        tasks = [None if old.within(gap) else pool.submit(_solved, ground, at, factor, settings) for at, old in enumerate(kept)]
         try:
-            bar = tqdm(zip(tasks, kept), total=len(tasks), unit="link", disable=True if settings.quiet else None)
-            for task, old in bar:
+            for at, old in enumerate(kept):
+                tasks.append(None if old.within(gap) else pool.submit(_solved, ground, at, factor, settings))
+            for task, old in tqdm(zip(tasks, kept), total=len(tasks), unit="link", disable=True if settings.quiet else None):
                 yield task.result().both(old) if task else old
         except BaseException:
-            _end([task for task in tasks if task])
+            _end(pool, tasks)
             raise
 
 
-def _end(tasks: list[Future[Range]]) -> None:
+def _end(pool: ThreadPoolExecutor, tasks: list[Future[Range] | None]) -> None:
     """Ends all solves: none begins any more, and children of those that run are ended, until all are done."""
-    running = {task for task in tasks if not task.cancel()}
-    while running:
+    pool.shutdown(wait=False, cancel_futures=True)
+    while not all(task is None or task.done() for task in tasks):
         end_all()
-        running = wait(running, timeout=0.1).not_done
+        time.sleep(0.05)
 
 
 def _solved(ground: Ground, at: int, factor: int, settings: Settings) -> Range:
