@@ -1,0 +1,46 @@
+"""The words of a tool: what is wrong with them is one line, and an option that has one value is given once."""
+
+from __future__ import annotations
+
+import argparse
+from collections.abc import Sequence
+from pathlib import Path
+from typing import Any, NoReturn
+
+from .errors import TextError
+
+VERSION = Path(__file__).resolve().parents[2] / "VERSION"
+
+
+class Arguments(argparse.ArgumentParser):
+    """A tool's words, with --version; names of options are not cut short."""
+
+    def __init__(self, prog: str, description: str | None, examples: str = ""):
+        form = argparse.RawDescriptionHelpFormatter
+        super().__init__(prog=prog, description=description, epilog=examples, formatter_class=form, allow_abbrev=False)
+        self.register("action", None, _Once)
+        self.register("action", "store", _Once)
+        self.add_argument("--version", action="version", version=f"mcf {_version()}", help="the version, and nothing else")
+
+    def error(self, message: str) -> NoReturn:
+        """Ends with one line."""
+        raise TextError(f"{message} ({self.prog} --help has the words)")
+
+
+class _Once(argparse.Action):
+    """Keeps the value of a word that may stand once."""
+
+    given = False
+
+    def __call__(
+        self, parser: argparse.ArgumentParser, namespace: argparse.Namespace, values: str | Sequence[Any] | None, option: str | None = None
+    ) -> None:
+        if self.given and option is not None:
+            parser.error(f"{option} is given twice")
+        self.given = option is not None
+        setattr(namespace, self.dest, values)
+
+
+def _version() -> str:
+    """What the file VERSION has."""
+    return VERSION.read_text("utf-8").strip() if VERSION.is_file() else "of no version"

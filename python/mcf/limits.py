@@ -1,0 +1,46 @@
+"""The limits within which texts, networks and certificates lie: the names and numbers of `crates/mcf_limits/src/lib.rt`.
+
+A test compares both. Whatever a tool says of a limit, it takes from here.
+"""
+
+from __future__ import annotations
+
+from typing import Final
+
+# texts, in bytes
+MAX_NET_BYTES: Final = 64 << 20
+MAX_CERT_BYTES: Final = 1 << 30
+MAX_SCRIPT_BYTES: Final = 1 << 20
+MAX_LIST_BYTES: Final = 64 << 20
+MAX_WORD_BYTES: Final = 255
+
+# networks
+MAX_NODES: Final = 512
+MAX_LINKS: Final = 4096
+MAX_CELLS: Final = 8192
+MAX_DEMANDS: Final = 32_768
+MAX_MATRICES: Final = 64
+
+# numbers: any one, and the sum of all amounts, in units; the decimals of a unit
+MAX_UNITS: Final = 1 << 44
+MAX_TOTAL: Final = 1 << 46
+MAX_DECIMALS: Final = 6
+
+# runs; the gap in millionths
+MAX_PHASES: Final = 65_536
+MAX_WORK: Final = 2_097_152
+MAX_WORKERS: Final = 16
+MAX_GAP: Final = 1_000_000_000
+MAX_STEP: Final = 1 << 20
+
+# certificates
+MAX_LENGTH: Final = 1 << 62
+MAX_PATH_CELLS: Final = 511
+MAX_HOPS: Final = 64
+
+# what a run takes where nothing is asked
+DEFAULT_GAP: Final = 50_000
+DEFAULT_PHASES: Final = 1000
+DEFAULT_WORKERS: Final = 4
+FEW_COMMODITIES: Final = 4000
+DEFAULT_STEP: Final = 8192

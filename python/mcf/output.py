@@ -1,0 +1,234 @@
+"""How a tool reads, writes and ends: a file is written whole or stays as it was, and each end is one line and a status.
+
+A tool's script is `main_of(main)`; whatever `main` raises becomes its line. Import what takes long within `main`, so that an interrupt
+meets `main_of` already. A traceback is seen where the environment has MCF_TRACEBACK.
+"""
+
+from __future__ import annotations
+
+import contextlib
+import errno
+import io
+import os
+import secrets
+import signal
+import stat
+import sys
+from collections.abc import Callable, Iterable, Iterator
+from pathlib import Path
+from types import FrameType
+from typing import BinaryIO, NoReturn
+
+from .errors import TextError
+
+TROUBLE = 2
+INTERRUPTED = 130
+STANDARD = ("-", "/dev/stdout", "/dev/fd/1")
+_PART = ".mcf-part-"
+_SIGNALS = (signal.SIGINT, signal.SIGTERM, signal.SIGHUP)
+
+
+def one_line(text: str) -> str:
+    """The text as one line: control characters, line ends and bytes that are no text are escaped."""
+    return "".join(c if c.isprintable() else c.encode("unicode_escape", "surrogatepass").decode("ascii") for c in text)
+
+
+def contents(path: str) -> bytes:
+    """The bytes of a file; `-` is standard input."""
+    try:
+        with open(0 if path == "-" else path, "rb", closefd=path != "-") as file:
+            return file.read()
+    except OSError as fault:
+        raise TextError(f"{'standard input' if path == '-' else path}: {fault.strerror or fault}") from None
+
+
+@contextlib.contextmanager
+def writing(path: str) -> Iterator[BinaryIO]:
+    """A file for bytes, which takes its place once all is written; `-` is standard output, and devices and pipes are written directly.
+
+    If the body or the writing fails or is interrupted, what had that name stays as it was, and nothing else is left.
+    """
+    try:
+        with _opened(path) as file:
+            yield file
+    except OSError as fault:
+        if fault.filename not in (None, path) and not Path(os.fsdecode(fault.filename)).name.startswith(_PART):
+            raise
+        raise _trouble(path, fault) from None
+
+
+def write(path: str, data: bytes) -> None:
+    """Writes a whole file by `writing`."""
+    with writing(path) as file:
+        file.write(data)
+
+
+def require_output(path: str, sources: Iterable[str] = ()) -> None:
+    """Refuses, before any work, an output that cannot be written, or that is one of the sources by whichever name or link."""
+    try:
+        there = _status(path, 1)
+        if not _is_direct(path, there):
+            _require_place(Path(os.path.realpath(path)), path)
+    except OSError as fault:
+        raise _trouble(path, fault) from None
+    same = next((source for source in sources if _is_file(source, there)), None)
+    if same is not None:
+        raise TextError(f"{path}: is read too{'' if same == path else f', as {same}'}: write to another file")
+
+
+def main_of(function: Callable[[], int], name: str | None = None) -> NoReturn:
+    """Ends the process with the status of a tool's function, or with one line and status 2, or 130 where it was interrupted."""
+    _open_closed_streams()
+    for number in _SIGNALS:
+        if signal.getsignal(number) != signal.SIG_IGN:
+            signal.signal(number, _interrupt)
+    status = status_of(function, name or Path(sys.argv[0]).name)
+    # (what was to be done is done, so a signal that comes now may end the process at once)
+    for number in _SIGNALS:
+        signal.signal(number, signal.SIG_DFL)
+    for stream, at in ((sys.stdout, 1), (sys.stderr, 2)):
+        _drop_unwritten(stream, at)
+    sys.exit(status)
+
+
+def status_of(function: Callable[[], int], name: str) -> int:
+    """The status of a tool's function; where it raises, one line on standard error under the tool's name, and 2 or 130."""
+    try:
+        try:
+            status = function()
+        except SystemExit as end:
+            # (argparse ends so, and has said why)
+            status = end.code if isinstance(end.code, int) else 0 if end.code is None else TROUBLE
+        sys.stdout.flush()
+        return status
+    except BaseException as fault:
+        if os.environ.get("MCF_TRACEBACK"):
+            raise
+        with contextlib.suppress(OSError):
+            print(f"{name}: {one_line(_why(fault))}", file=sys.stderr, flush=True)
+        return INTERRUPTED if isinstance(fault, KeyboardInterrupt) else TROUBLE
+
+
+def _why(fault: BaseException) -> str:
+    """What is said of an end."""
+    if isinstance(fault, KeyboardInterrupt):
+        return str(fault) or "interrupted"
+    if isinstance(fault, TextError):
+        return str(fault)
+    if isinstance(fault, OSError):
+        return f"{os.fsdecode(fault.filename) if isinstance(fault.filename, (str, bytes)) else 'output'}: {fault.strerror or fault}"
+    if isinstance(fault, MemoryError):
+        return "out of memory"
+    return f"internal error: {type(fault).__name__}: {fault} (MCF_TRACEBACK=1 shows where)"
+
+
+def _trouble(path: str, fault: OSError) -> TextError:
+    """A fault of the output."""
+    return TextError(f"{'standard output' if path in STANDARD else path}: {fault.strerror or fault}")
+
+
+def _opened(path: str) -> contextlib.AbstractContextManager[BinaryIO]:
+    """What the bytes for a path are written to."""
+    if path in STANDARD:
+        return _standard_output()
+    if _is_direct(path, _status(path, 1)):
+        return open(path, "wb")
+    return _beside(Path(os.path.realpath(path)), path)
+
+
+def _is_direct(path: str, there: os.stat_result | None) -> bool:
+    """Whether a path is a stream, a device or a pipe, whose place nothing can take."""
+    if path in STANDARD or path.startswith("/proc/"):
+        return True
+    return there is not None and not (stat.S_ISREG(there.st_mode) or stat.S_ISDIR(there.st_mode))
+
+
+@contextlib.contextmanager
+def _standard_output() -> Iterator[BinaryIO]:
+    """Standard output, behind what was printed there before."""
+    sys.stdout.flush()
+    with open(1, "wb", closefd=False) as file:
+        yield file
+
+
+@contextlib.contextmanager
+def _beside(place: Path, path: str) -> Iterator[BinaryIO]:
+    """A new file in the same folder, which takes the place at the end, with the mode and the owner of what was there."""
+    old = _require_place(place, path)
+    part = place.with_name(f"{_PART}{secrets.token_hex(8)}")
+    try:
+        with open(part, "xb") as file:
+            yield file
+            file.flush()
+            if old is not None:
+                os.fchmod(file.fileno(), stat.S_IMODE(old.st_mode))
+                with contextlib.suppress(PermissionError):
+                    os.fchown(file.fileno(), old.st_uid, old.st_gid)
+            os.fsync(file.fileno())
+        os.replace(part, place)
+    finally:
+        part.unlink(missing_ok=True)
+
+
+def _require_place(place: Path, path: str) -> os.stat_result | None:
+    """What stands at a place, if a file may be written there; else why it may not."""
+    old = _status(str(place), 1)
+    if path.endswith("/") or not path or (old is not None and stat.S_ISDIR(old.st_mode)):
+        raise IsADirectoryError(errno.EISDIR, os.strerror(errno.EISDIR), path)
+    if not os.path.isdir(place.parent):
+        raise FileNotFoundError(errno.ENOENT, os.strerror(errno.ENOENT), path)
+    if not os.access(place.parent, os.W_OK | os.X_OK) or (old is not None and not os.access(place, os.W_OK)):
+        raise PermissionError(errno.EACCES, os.strerror(errno.EACCES), path)
+    return old
+
+
+def _status(path: str, standard: int) -> os.stat_result | None:
+    """What a path is, or nothing; `-` is standard input, 0, or output, 1."""
+    if path == "-" or (standard == 1 and path in STANDARD):
+        return os.fstat(standard)
+    try:
+        return os.stat(path)
+    except FileNotFoundError:
+        return None
+
+
+def _is_file(source: str, there: os.stat_result | None) -> bool:
+    """Whether a source is that regular file."""
+    if there is None or not stat.S_ISREG(there.st_mode):
+        return False
+    try:
+        other = _status(source, 0)
+    except OSError:
+        return False
+    return other is not None and os.path.samestat(there, other)
+
+
+def _interrupt(number: int, _: FrameType | None) -> None:
+    """Ends the work once; what is to be tidied up is not interrupted again."""
+    for other in _SIGNALS:
+        signal.signal(other, signal.SIG_IGN)
+    raise KeyboardInterrupt("interrupted" if number == signal.SIGINT else f"ended by {signal.Signals(number).name}")
+
+
+def _open_closed_streams() -> None:
+    """Opens what the caller closed: nothing else then gets its number; reading it and writing an answer to it fail; text always fits."""
+    for at, flags in ((0, os.O_WRONLY), (1, os.O_RDONLY), (2, os.O_WRONLY)):
+        try:
+            os.fstat(at)
+        except OSError:
+            # (the least number that is free, which is this one)
+            os.set_inheritable(os.open(os.devnull, flags), True)
+    sys.stdin = sys.stdin or open(0, closefd=False)
+    sys.stdout = sys.stdout or open(1, "w", closefd=False)
+    sys.stderr = sys.stderr or open(2, "w", buffering=1, closefd=False)
+    for stream in (sys.stdout, sys.stderr):
+        if isinstance(stream, io.TextIOWrapper):
+            stream.reconfigure(errors="backslashreplace")
+
+
+def _drop_unwritten(stream: object, at: int) -> None:
+    """Lets go of what cannot be written, which Python would try again at the end and complain."""
+    try:
+        stream.flush()  # type: ignore[attr-defined]
+    except (OSError, ValueError):
+        os.dup2(os.open(os.devnull, os.O_WRONLY), at)
