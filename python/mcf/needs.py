@@ -9,7 +9,7 @@ from importlib.util import find_spec
 from .errors import TextError
 
 PACKAGES = {
-    "jinja2": "python3-jinja2", "lxml": "python3-lxml", "networkx": "python3-networkx", "numpy": "python3-numpy",
+    "defusedxml": "python3-defusedxml", "jinja2": "python3-jinja2", "networkx": "python3-networkx", "numpy": "python3-numpy",
     "scipy": "python3-scipy", "tqdm": "python3-tqdm",
 }
 

@@ -159,12 +159,10 @@ def _beside(place: Path, path: str) -> Iterator[BinaryIO]:
     try:
         with open(part, "xb") as file:
             yield file
-            file.flush()
             if old is not None:
                 os.fchmod(file.fileno(), stat.S_IMODE(old.st_mode))
                 with contextlib.suppress(PermissionError):
                     os.fchown(file.fileno(), old.st_uid, old.st_gid)
-            os.fsync(file.fileno())
         os.replace(part, place)
     finally:
         part.unlink(missing_ok=True)

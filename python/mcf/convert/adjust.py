@@ -6,7 +6,7 @@ from collections.abc import Callable
 from dataclasses import dataclass, replace
 from fractions import Fraction
 
-from .model import MAX_DECIMALS, MAX_DEMANDS, MAX_LINKS, MAX_MATRICES, MAX_NODES, MAX_NUMBER, MAX_TOTAL
+from ..limits import MAX_DECIMALS, MAX_DEMANDS, MAX_LINKS, MAX_MATRICES, MAX_NODES, MAX_TOTAL, MAX_UNITS
 from .model import Demand, Link, Matrix, Network, Notes, Refused, Source
 from .numbers import brief, is_fine, plain, rounded
 
@@ -24,7 +24,8 @@ class Changes:
 def in_unit(source: Source, bits: Fraction) -> Source:
     """What a file has, in units of so many bits per second."""
     if source.bits is None:
-        raise Refused(f"{source.path} does not say its unit: --from-unit says in which its numbers are")
+        unit = f" (META has {source.meta['unit']}, which is none that is known)" if source.meta.get("unit") else ""
+        raise Refused(f"{source.path} does not say its unit{unit}: --from-unit says in which its numbers are")
     factor = source.bits / bits
     if factor == 1:
         return source
@@ -120,8 +121,8 @@ def _require_counts(network: Network, linked: bool, limited: bool) -> None:
 def _require_number(value: Fraction, what: str) -> None:
     if not is_fine(value):
         raise Refused(f"{what}: {brief(value)} has more than {MAX_DECIMALS} decimals (--round N rounds it)")
-    if value > MAX_NUMBER:
-        raise Refused(f"{what}: {brief(value)} is more than {MAX_NUMBER} (--unit Mbit or Gbit makes it smaller)")
+    if value > MAX_UNITS:
+        raise Refused(f"{what}: {brief(value)} is more than {MAX_UNITS} (--unit Mbit or Gbit makes it smaller)")
 
 
 def _require_demands(matrix: Matrix, links: list[Link]) -> None:
@@ -132,7 +133,7 @@ def _require_demands(matrix: Matrix, links: list[Link]) -> None:
             _require_number(value, f"{where}demand {demand.name}")
     amounts = [d.amount for d in matrix.demands if d.source != d.target]
     decimals = _decimals([*amounts, *(link.capacity for link in links if link.capacity is not None)])
-    if sum(amounts) * 10**decimals > MAX_TOTAL or max(amounts, default=0) * 10**decimals > MAX_NUMBER:
+    if sum(amounts) * 10**decimals > MAX_TOTAL or max(amounts, default=0) * 10**decimals > MAX_UNITS:
         total = brief(sum(amounts, Fraction(0)))
         raise Refused(f"{where}amounts of {total} together with {decimals} decimals are too great (--unit or --round N)")
 

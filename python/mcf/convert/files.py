@@ -4,10 +4,12 @@ from __future__ import annotations
 
 import codecs
 import gzip
+import io
 import re
 import zlib
 from pathlib import Path
 
+from .. import output
 from .model import Notes, Refused
 
 MAX_BYTES = 1 << 28
@@ -23,17 +25,23 @@ ROOT = re.compile(rb"<(?:[\w.-]+:)?([A-Za-z]\w*)[\s>/]")
 
 
 def contents(path: str) -> bytes:
-    """The bytes of a file, those within where it is a gzip."""
+    """The bytes of a file, those within where it is a gzip; `-` is standard input."""
     try:
-        with open(path, "rb") as file:
-            packed = file.read(2) == b"\x1f\x8b"
-        with gzip.open(path, "rb") if packed else open(path, "rb") as file:
+        with open(0 if path == "-" else path, "rb", closefd=path != "-") as file:
             data = file.read(MAX_BYTES + 1)
+        if data.startswith(b"\x1f\x8b"):
+            with gzip.open(io.BytesIO(data)) as packed:
+                data = packed.read(MAX_BYTES + 1)
     except (OSError, EOFError, zlib.error) as fault:
-        raise Refused(f"{path}: {getattr(fault, 'strerror', None) or fault}") from None
+        raise Refused(f"{label(path)}: {getattr(fault, 'strerror', None) or fault}") from None
     if len(data) > MAX_BYTES:
-        raise Refused(f"{path}: more than {MAX_BYTES >> 20} MiB")
+        raise Refused(f"{label(path)}: more than {MAX_BYTES >> 20} MiB")
     return data
+
+
+def label(path: str) -> str:
+    """A file as it is told of."""
+    return "standard input" if path == "-" else path
 
 
 def without_mark(path: str, data: bytes, notes: Notes) -> bytes:
@@ -54,7 +62,11 @@ def text_of(path: str, data: bytes, notes: Notes) -> str:
         return data.decode("utf-8")
     except UnicodeDecodeError:
         notes.say("read", f"{path}: no UTF-8, so as Windows-1252")
-        return data.decode("cp1252", "replace")
+    try:
+        return data.decode("cp1252")
+    except UnicodeDecodeError as fault:
+        line = data.count(b"\n", 0, fault.start) + 1
+        raise Refused(f"{path} line {line}: a byte that is neither UTF-8 nor Windows-1252") from None
 
 
 def kind_of(path: str, data: bytes) -> str:
@@ -97,13 +109,4 @@ def stem(path: str) -> str:
 def write(path: str, text: str) -> None:
     """Writes a text, packed where the name ends with .gz; `-` is standard output."""
     data = text.encode("utf-8", "surrogateescape")
-    if path.endswith(".gz"):
-        data = gzip.compress(data, mtime=0)
-    try:
-        if path == "-":
-            with open(1, "wb", closefd=False) as out:
-                out.write(data)
-        else:
-            Path(path).write_bytes(data)
-    except OSError as fault:
-        raise Refused(f"{path}: {fault.strerror}") from None
+    output.write(path, gzip.compress(data, mtime=0) if path.endswith(".gz") else data)

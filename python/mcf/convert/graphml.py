@@ -2,150 +2,233 @@
 
 from __future__ import annotations
 
+import re
+from collections import Counter
+from dataclasses import dataclass, field
 from fractions import Fraction
+from xml.etree import ElementTree
 
-from lxml import etree
-
+from ..units import unit_of
 from .model import Link, Network, Node, Notes, Refused, Source
-from .numbers import Form, Unit, number, plain, rate
-from .xml import attribute, children, local, root_of, where, words
+from .numbers import Form, Unit, plain, rate
+from .words import told
+from .xml import Entry, attribute, child, children, elements, local, root_of, where, words
 
 SPACE = "http://graphml.graphdrawing.org/xmlns"
 PLACES = (("Longitude", "Latitude"), ("longitude", "latitude"), ("lon", "lat"), ("x", "y"))
-CAPACITIES = ("capacity", "Capacity", "bandwidth", "LinkSpeedRaw")
-READ = {
-    "label",
-    "id",
-    "capacity_cost",
-    "routing_cost",
-    "setup_cost",
-    "modules",
-    "LinkSpeed",
-    "LinkSpeedUnits",
-    "LinkSpeedRaw",
-    "LinkLabel",
-    *CAPACITIES,
-}
+CAPACITIES = ("capacity", "Capacity", "bandwidth", "LinkSpeedRaw", "LinkSpeed")
+COSTS = ("capacity_cost", "routing_cost", "setup_cost")
+MODES = {"true": "directed", "false": "undirected"}
+NO_XML = re.compile(r"[^\t\n\r\x20-\ud7ff\ue000-\ufffd\U00010000-\U0010ffff]")
 
 
 def read(path: str, data: bytes, notes: Notes, form: Form) -> Source:
     """The first graph of a file: its nodes and edges; an edge without a capacity gets the missing one."""
     root = root_of(path, data)
-    keys = {attribute(path, e, "id"): e.get("attr.name", e.get("id")) for e in children(root, "key")}
+    keys = _keys(path, children(root, "key"))
     graphs = children(root, "graph")
     if not graphs:
-        raise Refused(f"{path}: GraphML without a graph")
+        raise Refused(f"{path} line {root.line}: GraphML without a graph")
     for other in graphs[1:]:
-        notes.say("dropped", f"{path}: graph {other.get('id', '')!r}, since a file's first one is read")
+        notes.say("dropped", f"{path}: graph {told(other.get('id', ''))}, since a file's first one is read")
     return _Reader(path, keys, notes, form).source(graphs[0])
 
 
+@dataclass(frozen=True)
+class _Key:
+    """An attribute that a file declares: for which elements, and what those have that do not say it."""
+
+    id: str
+    name: str
+    domain: str
+    default: str | None
+
+
+def _keys(path: str, found: list[Entry]) -> dict[str, _Key]:
+    """What a file declares, by its ids; no two of one id, or of one name for the same elements."""
+    keys: dict[str, _Key] = {}
+    names: set[tuple[str, str]] = set()
+    for element in found:
+        key = _key(path, element)
+        if key.id in keys or (key.name, key.domain) in names:
+            raise Refused(f"{where(path, element)}: a second key of {told(key.name)}")
+        keys[key.id] = key
+        names.add((key.name, key.domain))
+    return keys
+
+
+def _key(path: str, element: Entry) -> _Key:
+    name, default = attribute(path, element, "id"), child(path, element, "default")
+    return _Key(name, element.get("attr.name", name), element.get("for", "all"), None if default is None else words(default))
+
+
+@dataclass
 class _Reader:
     """Reads the nodes and edges of one graph."""
 
-    def __init__(self, path: str, keys: dict[str, str], notes: Notes, form: Form):
-        self.path, self.keys, self.notes, self.form = path, keys, notes, form
-        self.capacity = form.capacity or ""
-        self.unit = form.unit
-        self.unread: dict[str, int] = {}
+    path: str
+    keys: dict[str, _Key]
+    notes: Notes
+    form: Form
+    capacity: str = ""
+    unit: Unit = Unit()
+    taken: set[str] = field(default_factory=set)
+    unread: Counter[str] = field(default_factory=Counter)
 
-    def source(self, graph: etree._Element) -> Source:
+    def source(self, graph: Entry) -> Source:
         """What the graph has, and what of it is dropped."""
-        one_way = graph.get("edgedefault") == "directed"
-        edges = children(graph, "edge")
-        self._choose_capacity(edges)
-        nodes = [self._node(e) for e in children(graph, "node")]
-        names = {node.key: node.name for node in nodes}
-        links = [self._edge(e, names, one_way) for e in edges]
+        edges = [(element, self._data(element)) for element in children(graph, "edge")]
+        mode = self._mode(graph, [element for element, _ in edges])
+        self._choose_capacity([data for _, data in edges])
+        nodes = self._nodes(children(graph, "node"))
+        names = {node.key for node in nodes}
+        links = [self._edge(element, data, names) for element, data in edges]
         for name in sorted(self.unread):
             self.notes.say("dropped", f"{self.path}: attribute {name} of {self.unread[name]} entries")
-        for other in sorted({local(e) for e in graph} - {"node", "edge", "data", "desc"}):
-            self.notes.say("dropped", f"{self.path}: {other} of the graph")
-        return Source(self.path, "graphml", nodes, links, bits=self.unit.bits, one_way=one_way)
+        for other, count in sorted(Counter(local(e) for e in elements(graph)).items()):
+            if other not in ("node", "edge"):
+                many = f"{count} attributes" if other == "data" else other
+                self.notes.say("dropped", f"{self.path}: {many} of the graph")
+        return Source(self.path, "graphml", nodes, links, bits=self.unit.bits, links_mode=mode)
 
-    def _choose_capacity(self, edges: list[etree._Element]) -> None:
-        """The attribute that was asked for, or else the first known one that some edge has."""
-        if not self.capacity:
-            there = {name for edge in edges for name in self._data(edge)}
-            self.capacity = next((name for name in CAPACITIES if name in there), "")
-        if self.capacity == "LinkSpeedRaw":
-            self.unit = Unit(Fraction(1), True)
+    def _mode(self, graph: Entry, edges: list[Entry]) -> str:
+        """How all edges are meant: as each of them says, or else the graph."""
+        every = graph.get("edgedefault")
+        if every not in MODES.values() and not (every is None and edges and all(e.get("directed") for e in edges)):
+            raise Refused(f"{where(self.path, graph)}: edgedefault is directed or undirected, and not {told(every or '')}")
+        first: str | None = None
+        for edge in edges:
+            mode = MODES.get(edge.get("directed", ""), None if edge.get("directed") else every)
+            if mode is None:
+                raise Refused(f"{where(self.path, edge)}: directed is true or false, and not {told(edge.get('directed', ''))}")
+            if first not in (None, mode):
+                raise Refused(f"{where(self.path, edge)}: edges of both kinds, directed and undirected, in one graph")
+            first = mode
+        return first or every or "undirected"
 
-    def _data(self, element: etree._Element) -> dict[str, str]:
-        return {self.keys.get(e.get("key", ""), e.get("key", "")): words(e) for e in children(element, "data")}
+    def _choose_capacity(self, edges: list[dict[str, str]]) -> None:
+        """The attribute that was asked for, or else the first known one that some edge has; the Zoo's raw speeds are in bit per second."""
+        there = {name for data in edges for name in data}
+        self.capacity = self.form.capacity or next((name for name in CAPACITIES if name in there), "")
+        if self.form.capacity and self.form.capacity not in there:
+            raise Refused(f"{self.path}: no edge has an attribute {told(self.form.capacity)}; they have {', '.join(sorted(there)) or 'none'}")
+        self.unit = Unit(Fraction(1), True, self.form.unit.bytes) if self.capacity == "LinkSpeedRaw" else self.form.unit
+        self.taken = {self.capacity, *(("LinkSpeedUnits",) if self.capacity == "LinkSpeed" else ())}
 
-    def _count(self, data: dict[str, str], known: set[str]) -> None:
-        for name in data.keys() - known:
-            self.unread[name] = self.unread.get(name, 0) + 1
+    def _data(self, element: Entry) -> dict[str, str]:
+        """What an element has by the names of attributes: what it says, or else the defaults."""
+        kind = local(element)
+        data: dict[str, str] = {k.name: k.default for k in self.keys.values() if k.default is not None and k.domain in ("all", kind)}
+        said: dict[str, str] = {}
+        for entry in children(element, "data"):
+            key = attribute(self.path, entry, "key")
+            name, word = self.keys[key].name if key in self.keys else key, words(entry)
+            if said.setdefault(name, word) != word:
+                raise Refused(f"{where(self.path, entry)}: a second {told(name)} of the same {kind}")
+        return data | said
 
-    def _node(self, element: etree._Element) -> Node:
+    def _count(self, element: Entry, data: dict[str, str], known: set[str]) -> None:
+        """Counts what is not read of an element."""
+        self.unread.update(data.keys() - known)
+        other = next((e for e in elements(element) if local(e) == "graph"), None)
+        if other is not None:
+            raise Refused(f"{where(self.path, other)}: a graph within a {local(element)} is not read")
+        self.unread.update(f"<{local(e)}>" for e in elements(element) if local(e) != "data")
+
+    def _nodes(self, found: list[Entry]) -> list[Node]:
+        """All nodes, each once."""
+        nodes: dict[str, Node] = {}
+        for element in found:
+            node = self._node(element)
+            if node.key in nodes:
+                raise Refused(f"{where(self.path, element)}: node {told(node.key)} stands twice")
+            nodes[node.key] = node
+        return list(nodes.values())
+
+    def _node(self, element: Entry) -> Node:
         key, data = attribute(self.path, element, "id"), self._data(element)
-        pair = next((p for p in PLACES if p[0] in data and p[1] in data), None)
-        self._count(data, READ | set(pair or ()))
+        pair = next((p for p in PLACES if data.get(p[0]) and data.get(p[1])), None)
+        self._count(element, data, {"label", *(pair or ())})
         place = (data[pair[0]], data[pair[1]]) if pair else None
         return Node(key, data.get("label") or key, place)
 
-    def _edge(self, element: etree._Element, names: dict[str, str], one_way: bool) -> Link:
+    def _edge(self, element: Entry, data: dict[str, str], names: set[str]) -> Link:
         ends = attribute(self.path, element, "source"), attribute(self.path, element, "target")
         unknown = next((end for end in ends if end not in names), None)
         if unknown is not None:
-            raise Refused(f"{where(self.path, element)}: {unknown!r} is no node")
-        if element.get("directed") not in (None, "true" if one_way else "false"):
-            raise Refused(f"{where(self.path, element)}: edges of both kinds, directed and undirected, in one graph")
-        data = self._data(element)
-        self._count(data, READ | {self.capacity})
-        name = data.get("id", "")
-        costs = (data.get("capacity_cost") or "0", data.get("routing_cost") or "0", data.get("setup_cost") or "0")
-        return Link(name, *ends, self._capacity(element, data), costs, self._modules(element, data))
+            raise Refused(f"{where(self.path, element)}: {told(unknown)} is no node")
+        self._count(element, data, {"id", "modules", *COSTS, *self.taken})
+        costs = (data.get(COSTS[0]) or "0", data.get(COSTS[1]) or "0", data.get(COSTS[2]) or "0")
+        return Link(data.get("id", ""), *ends, self._capacity(element, data), costs, self._modules(element, data))
 
-    def _modules(self, element: etree._Element, data: dict[str, str]) -> tuple[tuple[Fraction, str], ...]:
+    def _modules(self, element: Entry, data: dict[str, str]) -> tuple[tuple[Fraction, str], ...]:
         parts = data.get("modules", "").split()
         if len(parts) % 2:
             raise Refused(f"{where(self.path, element)}: modules are pairs of a capacity and a cost")
-        return tuple((number(a, where(self.path, element)), b) for a, b in zip(parts[::2], parts[1::2]))
+        return tuple((rate(a, where(self.path, element), self.unit), b) for a, b in zip(parts[::2], parts[1::2]))
 
-    def _capacity(self, element: etree._Element, data: dict[str, str]) -> Fraction | None:
+    def _capacity(self, element: Entry, data: dict[str, str]) -> Fraction | None:
         """The capacity of an edge; the missing one where it has none."""
         what = f"{where(self.path, element)}: edge from {element.get('source')} to {element.get('target')}"
-        word = data.get(self.capacity, "")
+        word = self._speed(data, what)
         if word:
             return rate(word, what, self.unit)
+        if data.get("modules"):
+            return Fraction(0)
         if not self.form.missing:
             return None
         self.notes.say("added", f"{what}: no capacity, which becomes {self.form.missing}")
         return rate(self.form.missing, what, self.unit)
+
+    def _speed(self, data: dict[str, str], what: str) -> str:
+        """The word of the capacity; the Zoo's speeds have their unit beside them."""
+        word = data.get(self.capacity, "")
+        unit = data.get("LinkSpeedUnits", "") if self.capacity == "LinkSpeed" and word else ""
+        if unit and unit_of(unit) is None:
+            raise Refused(f"{what}: LinkSpeedUnits is {told(unit)}, which is no unit that is known")
+        return word + unit
 
 
 def text(network: Network, notes: Notes) -> str:
     """A graph with the nodes' places and the links' capacities; demands have no place in it."""
     for matrix in network.matrices:
         notes.say("dropped", f"{len(matrix.demands)} demands, which GraphML has no place for (a .demands.csv has)")
-    root = etree.Element(f"{{{SPACE}}}graphml", nsmap={None: SPACE})
+    if network.links_mode == "bidirected":
+        notes.say("dropped", "that links have their whole capacity each way: GraphML has no word for it, and undirected comes next")
+    root = ElementTree.Element("graphml", {"xmlns": SPACE})
+    places = "double" if all(map(_is_number, (w for node in network.nodes for w in node.place or ()))) else "string"
     for name, kind, target in _KEYS:
-        etree.SubElement(root, f"{{{SPACE}}}key", {"id": name, "for": target, "attr.name": name, "attr.type": kind})
-    graph = etree.SubElement(root, f"{{{SPACE}}}graph", {"edgedefault": "directed" if network.one_way else "undirected"})
+        declared = {"id": name, "for": target, "attr.name": name, "attr.type": kind or places}
+        ElementTree.SubElement(root, "key", declared)
+    graph = ElementTree.SubElement(root, "graph", {"edgedefault": "directed" if network.one_way else "undirected"})
     for node in network.nodes:
         _written(graph, "node", {"id": node.key}, _node_data(node, notes))
     for at, link in enumerate(network.links):
         _written(graph, "edge", {"id": f"e{at}", "source": link.source, "target": link.target}, _link_data(link))
-    return etree.tostring(root, encoding="unicode", pretty_print=True)
+    ElementTree.indent(root)
+    return ElementTree.tostring(root, encoding="unicode") + "\n"
+
+
+def _is_number(word: str) -> bool:
+    """Whether a word is a number of a place."""
+    return re.fullmatch(r"[+-]?(?:[0-9]+\.?[0-9]*|\.[0-9]+)(?:[eE][+-]?[0-9]+)?", word) is not None
 
 
 _KEYS = (
-    ("label", "string", "node"), ("Longitude", "double", "node"), ("Latitude", "double", "node"),
+    ("label", "string", "node"), ("Longitude", "", "node"), ("Latitude", "", "node"),
     ("id", "string", "edge"), ("capacity", "double", "edge"), ("capacity_cost", "string", "edge"),
     ("routing_cost", "string", "edge"), ("setup_cost", "string", "edge"), ("modules", "string", "edge"),
 )  # fmt: skip
 
 
-def _written(graph: etree._Element, name: str, attributes: dict[str, str], data: dict[str, str]) -> None:
+def _written(graph: ElementTree.Element, name: str, attributes: dict[str, str], data: dict[str, str]) -> None:
     """An entry with its data."""
-    try:
-        entry = etree.SubElement(graph, f"{{{SPACE}}}{name}", attributes)
-        for key, value in data.items():
-            etree.SubElement(entry, f"{{{SPACE}}}data", {"key": key}).text = value
-    except ValueError:
-        raise Refused(f"the name {next(iter(data.values()))!r} has bytes that XML cannot have") from None
+    entry = ElementTree.SubElement(graph, name, attributes)
+    for key, value in data.items():
+        ElementTree.SubElement(entry, "data", {"key": key}).text = value
+    wrong = next((word for word in (*attributes.values(), *data.values()) if NO_XML.search(word)), None)
+    if wrong is not None:
+        raise Refused(f"the name {told(wrong)} has bytes that XML cannot have")
 
 
 def _node_data(node: Node, notes: Notes) -> dict[str, str]:
@@ -159,7 +242,7 @@ def _node_data(node: Node, notes: Notes) -> dict[str, str]:
 
 def _link_data(link: Link) -> dict[str, str]:
     data = {"id": link.name, "capacity": plain(link.capacity or Fraction(0))}
-    data |= dict(zip(("capacity_cost", "routing_cost", "setup_cost"), link.costs))
+    data |= dict(zip(COSTS, link.costs))
     if link.modules:
         data["modules"] = " ".join(f"{plain(capacity)} {cost}" for capacity, cost in link.modules)
     return data

@@ -6,8 +6,10 @@ from dataclasses import replace
 from fractions import Fraction
 from itertools import combinations, permutations
 
-from .model import MAX_DECIMALS, MAX_DEMANDS, Demand, Matrix, Network, Notes, Refused
+from ..limits import MAX_DECIMALS, MAX_DEMANDS
+from .model import Demand, Matrix, Network, Notes, Refused
 from .numbers import plain, rounded
+from .words import Words
 
 
 def with_gravity(network: Network, total: Fraction, notes: Notes) -> Network:
@@ -26,7 +28,11 @@ def with_gravity(network: Network, total: Fraction, notes: Notes) -> Network:
     pairs = list(permutations(ends, 2) if network.one_way else combinations(ends, 2))
     if len(pairs) > MAX_DEMANDS:
         raise Refused(f"--gravity makes {len(pairs)} demands between {len(ends)} nodes: at most {MAX_DEMANDS} are taken")
+    if not pairs:
+        raise Refused("--gravity makes demands up between nodes whose links have capacities, and there are no two")
     whole = sum((weights[a] * weights[b] for a, b in pairs), Fraction(0))
-    demands = [Demand(f"{a}-{b}", a, b, rounded(total * weights[a] * weights[b] / whole, MAX_DECIMALS)) for a, b in pairs]
-    notes.say("made up", f"{len(demands)} demands of {plain(total)} in all, by capacities at both ends")
+    words = Words("demand", notes)
+    amounts = [rounded(total * weights[a] * weights[b] / whole, MAX_DECIMALS) for a, b in pairs]
+    demands = [Demand(words.word("", f"{a}-{b}"), a, b, amount) for (a, b), amount in zip(pairs, amounts)]
+    notes.say("made up", f"{len(demands)} demands of {plain(sum(amounts, Fraction(0)))} in all, by capacities at both ends")
     return replace(network, matrices=[Matrix("gravity", demands)])

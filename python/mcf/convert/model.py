@@ -2,22 +2,17 @@
 
 from __future__ import annotations
 
+import io
 import sys
 from dataclasses import dataclass, field
 from fractions import Fraction
 from typing import TextIO
 
-MAX_NODES = 512
-MAX_LINKS = 4096
-MAX_DEMANDS = 32768
-MAX_MATRICES = 64
-MAX_NUMBER = 2**44
-MAX_TOTAL = 2**46
-MAX_DECIMALS = 6
-MAX_WORD = 255
+from ..errors import TextError
+from ..output import one_line
 
 
-class Refused(Exception):
+class Refused(TextError):
     """Why there is no answer, in one line for people."""
 
 
@@ -44,7 +39,7 @@ class Link:
 
 @dataclass(frozen=True)
 class Demand:
-    """A demand between two nodes, which are given by keys or names."""
+    """A demand between two nodes, which are given by keys or names, with its line where that is known."""
 
     name: str
     source: str
@@ -52,6 +47,7 @@ class Demand:
     value: Fraction
     unit: Fraction = Fraction(1)
     longest: str = "UNLIMITED"
+    line: int = field(default=0, compare=False)
 
     @property
     def amount(self) -> Fraction:
@@ -69,7 +65,11 @@ class Matrix:
 
 @dataclass
 class Source:
-    """What one file has."""
+    """What one file has.
+
+    `bits` is the unit of its numbers in bits per second, where the file says it; `links_mode` how its links are meant, where it says that,
+    and `mentioned` the line of a comment that has a word for it.
+    """
 
     path: str
     kind: str
@@ -78,7 +78,8 @@ class Source:
     matrices: list[Matrix] = field(default_factory=list)
     meta: dict[str, str] = field(default_factory=dict)
     bits: Fraction | None = None
-    one_way: bool = False
+    links_mode: str | None = None
+    mentioned: tuple[int, str] | None = None
     by_number: bool = False
     native: bool = False
     columns: tuple[str, ...] = ()
@@ -93,7 +94,12 @@ class Network:
     matrices: list[Matrix]
     meta: dict[str, str] = field(default_factory=dict)
     bits: Fraction | None = None
-    one_way: bool = False
+    links_mode: str | None = None
+
+    @property
+    def one_way(self) -> bool:
+        """Whether links are known to be one way."""
+        return self.links_mode == "directed"
 
 
 @dataclass
@@ -108,9 +114,10 @@ class Notes:
         """One line, with every character in it that would break the line escaped."""
         self.count += 1
         if not self.quiet:
-            print(f"{verb}: {shown(text)}", file=self.out)
+            print(f"{verb}: {one_line(text)}", file=self.out)
 
-
-def shown(text: str) -> str:
-    """The text with control characters and broken bytes escaped."""
-    return "".join(c if c.isprintable() else c.encode("unicode_escape", "surrogatepass").decode("ascii") for c in text)
+    def take(self, later: Notes) -> None:
+        """Says what was noted elsewhere meanwhile."""
+        self.count += later.count
+        if not self.quiet and isinstance(later.out, io.StringIO):
+            self.out.write(later.out.getvalue())

@@ -1,18 +1,29 @@
-"""Network files and lists of matrices: read and written."""
+"""Network files and lists of matrices: read as the program reads them, and written."""
 
 from __future__ import annotations
 
 import re
-from collections.abc import Iterator
-from dataclasses import dataclass
+from collections.abc import Callable, Iterator
+from dataclasses import dataclass, field
 from fractions import Fraction
+from typing import TypeVar
 
+from ..errors import TextError
+from ..limits import MAX_WORD_BYTES
+from ..numbers import fraction_of
+from ..scaled import LINK_MODES
+from ..units import unit_of
+from .files import NATIVE
 from .model import Demand, Link, Matrix, Network, Node, Notes, Refused, Source
-from .numbers import number, plain, unit_of
-from .words import word_of
+from .numbers import plain
+from .words import told, word_of
 
 TOKEN = re.compile(rb"#[^\n]*|[()]|[^ \t\r\n()#]+|\n")
+MODE = re.compile(rb"\b(?:un|bi)?directed\b", re.IGNORECASE)
 HEADER = "?SNDlib native format; type: network; version: 1.0"
+SECTIONS = ("NODES", "LINKS", "DEMANDS")
+
+_Row = TypeVar("_Row", Node, Link, Demand)
 
 
 @dataclass
@@ -23,6 +34,7 @@ class Tokens:
     rest: Iterator[tuple[str, int]]
     line: int = 1
     ahead: str | None = None
+    comments: list[tuple[int, str]] = field(default_factory=list)
 
     def peek(self) -> str | None:
         """The next token, or none at the end."""
@@ -34,11 +46,11 @@ class Tokens:
         """The next token, which has to be the wanted one, or a word where none is told."""
         token = self.peek()
         fits = token == wanted if wanted else token is not None and token not in ("(", ")")
-        if not fits:
+        if not fits or token is None:
             due = repr(wanted) if wanted else "a word"
-            raise Refused(f"{self.path} line {self.line}: {due} is due, and not {'the end' if token is None else repr(token)}")
+            raise self.refused(f"{due} is due, and not {'the end' if token is None else told(token)}")
         self.ahead = None
-        return token  # type: ignore[return-value]
+        return token
 
     def words(self) -> list[str]:
         """The words of a group without groups in it."""
@@ -49,9 +61,14 @@ class Tokens:
         self.take(")")
         return found
 
+    def refused(self, why: str) -> Refused:
+        """A fault of the line that was read last."""
+        return Refused(f"{self.path} line {self.line}: {why}")
+
 
 def tokens(path: str, data: bytes, line: int = 1) -> Tokens:
-    """The tokens of a text that begins in that line."""
+    """The tokens of a text that begins in that line; comments that have a word for how links are meant are kept beside them."""
+    comments: list[tuple[int, str]] = []
 
     def found() -> Iterator[tuple[str, int]]:
         at = line
@@ -59,89 +76,141 @@ def tokens(path: str, data: bytes, line: int = 1) -> Tokens:
             token = match.group()
             if token == b"\n":
                 at += 1
-            elif not token.startswith(b"#"):
+            elif token.startswith(b"#"):
+                comments.extend((at, mode.decode().lower()) for mode in MODE.findall(token))
+            elif len(token) > MAX_WORD_BYTES:
+                raise Refused(f"{path} line {at}: a word of {len(token)} bytes: at most {MAX_WORD_BYTES} are read")
+            else:
                 yield token.decode("utf-8", "surrogateescape"), at
 
-    return Tokens(path, found(), line)
+    return Tokens(path, found(), line, comments=comments)
 
 
 def read_network(path: str, data: bytes, notes: Notes) -> Source:
     """The rows of a network file."""
+    if not data.startswith(NATIVE):
+        raise Refused(f"{path} line 1: {NATIVE.decode()} is due")
     source = Source(path, "native", native=True)
     text = tokens(path, data.partition(b"\n")[2], 2)
     demands: list[Demand] = []
-    while text.peek() is not None:
-        section = text.take()
+    rows = _sections(text, source, notes)
+    for section in SECTIONS:
+        if next(rows, None) != section:
+            raise text.refused(f"{section} is due, and not the end")
         if section == "NODES":
-            source.nodes = list(_group(text, _node))
+            source.nodes = _group(text, _node)
+            names = {node.key for node in source.nodes}
         elif section == "LINKS":
-            source.links = list(_group(text, _link))
-        elif section == "DEMANDS":
-            demands = list(_group(text, _demand))
-        elif section == "META":
-            source.meta = _meta(_skipped(text))
+            source.links = _group(text, lambda rest: _link(rest, names))
         else:
-            _skipped(text)
-            notes.say("dropped", f"{path}: section {section}")
-    source.bits = unit_of(source.meta.get("unit", ""))
+            demands = _group(text, lambda rest: _demand(rest, names))
+    next(rows, None)
+    unit = unit_of(source.meta.get("unit", ""))
+    source.bits = Fraction(unit.bits) if unit and not unit.is_of_bytes else None
+    source.links_mode = source.meta.get("links") if source.meta.get("links") in LINK_MODES else None
+    source.mentioned = text.comments[0] if text.comments else None
     source.matrices = [Matrix("", demands)] if demands else []
     return source
+
+
+def _sections(text: Tokens, source: Source, notes: Notes) -> Iterator[str]:
+    """The three sections in their order, each to be read before the next one is asked for; what stands between is META, or left out."""
+    left = list(SECTIONS)
+    while text.peek() is not None:
+        section = text.take()
+        if left and section == left[0]:
+            yield left.pop(0)
+        elif section in SECTIONS:
+            raise text.refused(f"{left[0] if left else 'another section'} is due, and not {section}")
+        elif section == "META":
+            source.meta |= _meta(_skipped(text))
+        else:
+            _skipped(text)
+            notes.say("dropped", f"{source.path}: section {section}")
 
 
 def read_list(path: str, data: bytes) -> Source:
     """The matrices of a list."""
     text = tokens(path, data)
     source = Source(path, "list", native=True)
+    names: set[str] = set()
     while text.peek() is not None:
         name = text.take()
-        source.matrices.append(Matrix(name, list(_group(text, _demand))))
+        if name in names:
+            raise text.refused(f"matrix {told(name)} stands twice")
+        names.add(name)
+        source.matrices.append(Matrix(name, _group(text, lambda rest: _demand(rest, None))))
     return source
 
 
-def _group(text: Tokens, entry) -> Iterator:
-    """The entries of a section."""
+def _group(text: Tokens, entry: Callable[[Tokens], tuple[_Row, int]]) -> list[_Row]:
+    """The entries of a section, no two of the same name."""
     text.take("(")
+    found: dict[str, _Row] = {}
     while text.peek() != ")":
-        yield entry(text)
+        row, line = entry(text)
+        if row.name in found:
+            raise Refused(f"{text.path} line {line}: {told(row.name)} stands twice")
+        found[row.name] = row
     text.take(")")
+    return list(found.values())
 
 
-def _node(text: Tokens) -> Node:
+def _node(text: Tokens) -> tuple[Node, int]:
+    name, line = text.take(), text.line
+    return Node(name, name, tuple(text.words()) if text.peek() == "(" else None), line
+
+
+def _ends(text: Tokens, nodes: set[str] | None) -> tuple[str, str]:
+    """Two ends, each of them a node where these are known."""
+    text.take("(")
+    ends = _end(text, nodes), _end(text, nodes)
+    text.take(")")
+    return ends
+
+
+def _end(text: Tokens, nodes: set[str] | None) -> str:
     name = text.take()
-    return Node(name, name, tuple(text.words()) if text.peek() == "(" else None)
-
-
-def _ends(text: Tokens) -> tuple[str, str]:
-    line = text.line
-    words = text.words()
-    if len(words) != 2:
-        raise Refused(f"{text.path} line {line}: two ends are due")
-    return words[0], words[1]
+    if nodes is not None and name not in nodes:
+        raise text.refused(f"{told(name)} is no node")
+    return name
 
 
 def _number(text: Tokens) -> Fraction:
     word = text.take()
-    return number(word, f"{text.path} line {text.line}")
+    try:
+        return fraction_of(word)
+    except TextError:
+        raise text.refused(f"{told(word)} is no number of at least 0") from None
 
 
-def _link(text: Tokens) -> Link:
-    name = text.take()
-    source, target = _ends(text)
-    capacity = _number(text)
+def _link(text: Tokens, nodes: set[str]) -> tuple[Link, int]:
+    name, line = text.take(), text.line
+    ends, capacity = _ends(text, nodes), _number(text)
     costs = (text.take(), text.take(), text.take())
-    words = text.words()
-    if len(words) % 2:
-        raise Refused(f"{text.path} line {text.line}: a module is a capacity and a cost")
-    where = f"{text.path} line {text.line}"
-    modules = tuple((number(a, where), b) for a, b in zip(words[::2], words[1::2]))
-    return Link(name, source, target, capacity, costs, modules)
+    text.take("(")
+    modules: list[tuple[Fraction, str]] = []
+    while text.peek() != ")":
+        modules.append((_number(text), text.take()))
+    text.take(")")
+    return Link(name, *ends, capacity, costs, tuple(modules)), line
 
 
-def _demand(text: Tokens) -> Demand:
-    name = text.take()
-    source, target = _ends(text)
-    unit, value = _number(text), _number(text)
-    return Demand(name, source, target, value, unit, text.take())
+def _demand(text: Tokens, nodes: set[str] | None) -> tuple[Demand, int]:
+    name, line = text.take(), text.line
+    ends = _ends(text, nodes)
+    unit, value, longest = _number(text), _number(text), text.take()
+    require_longest(longest, f"{text.path} line {text.line}")
+    return Demand(name, *ends, value, unit, longest, line), line
+
+
+def require_longest(word: str, what: str) -> None:
+    """Refuses a longest path that the program would refuse."""
+    try:
+        if word != "UNLIMITED":
+            fraction_of(word)
+    except TextError:
+        raise Refused(f"{what}: the longest path is UNLIMITED or a number, and not {told(word)}") from None
 
 
 def _skipped(text: Tokens) -> list[str]:

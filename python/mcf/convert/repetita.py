@@ -2,31 +2,35 @@
 
 from __future__ import annotations
 
+import re
 from fractions import Fraction
 
 from .files import stem
 from .model import Demand, Link, Matrix, Node, Notes, Refused, Source
 from .numbers import number
+from .words import told
+
+Row = tuple[int, list[str]]
 
 KBIT = Fraction(1000)
 
 
 def numbered(text: str) -> list[tuple[int, str]]:
     """The lines that are not blank, with their numbers."""
-    return [(at, line) for at, line in enumerate(text.splitlines(), 1) if line.strip()]
+    return [(at, line) for at, line in enumerate(text.split("\n"), 1) if line.strip()]
 
 
-def rows_of(path: str, lines: list[tuple[int, str]], title: str, width: int) -> tuple[list[list[str]], list[tuple[int, str]]]:
+def rows_of(path: str, lines: list[tuple[int, str]], title: str, width: int) -> tuple[list[Row], list[tuple[int, str]]]:
     """The rows of the section at the front, as many as its title says, behind a line of column names; and the rest."""
     head = lines[0][1].split() if lines else []
-    if len(head) != 2 or head[0] != title or not head[1].isdecimal():
+    if len(head) != 2 or head[0] != title or not _is_whole(head[1]):
         raise Refused(f"{path} line {lines[0][0] if lines else 1}: {title} and a number are due")
     count = int(head[1])
     rows = [(at, line.split()) for at, line in lines[2 : 2 + count]]
     wrong = next((at for at, row in rows if len(row) != width), None)
     if wrong is not None or len(rows) < count:
         raise Refused(f"{path} line {wrong or lines[-1][0]}: {title} has rows of {width} words, {count} of them")
-    return [row for _, row in rows], lines[2 + count :]
+    return rows, lines[2 + count :]
 
 
 def read_graph(path: str, text: str, notes: Notes) -> Source:
@@ -35,12 +39,12 @@ def read_graph(path: str, text: str, notes: Notes) -> Source:
     edges, more = rows_of(path, rest, "EDGES", 6)
     for at, line in more:
         notes.say("dropped", f"{path} line {at}: {line.strip()}")
-    source = Source(path, "graph", bits=KBIT, one_way=True)
-    source.nodes = [Node(str(at), row[0], (row[1], row[2])) for at, row in enumerate(nodes)]
-    for row in edges:
-        ends = _end(path, row[1], len(nodes)), _end(path, row[2], len(nodes))
-        source.links.append(Link(row[0], *ends, number(row[4], f"{path}: bw of edge {row[0]!r}"), ("0", row[3], "0")))
-    delays = sum(1 for row in edges if row[5] not in ("0", "0.0"))
+    source = Source(path, "graph", bits=KBIT, links_mode="directed")
+    source.nodes = [Node(str(key), row[0], (row[1], row[2])) for key, (_, row) in enumerate(nodes)]
+    for at, row in edges:
+        ends = _end(f"{path} line {at}", row[1], len(nodes)), _end(f"{path} line {at}", row[2], len(nodes))
+        source.links.append(Link(row[0], *ends, number(row[4], f"{path} line {at}: bw of edge {told(row[0])}"), ("0", row[3], "0")))
+    delays = sum(1 for _, row in edges if row[5] not in ("0", "0.0"))
     if delays:
         notes.say("dropped", f"{path}: delay of {delays} edges")
     return source
@@ -51,13 +55,26 @@ def read_demands(path: str, text: str, notes: Notes) -> Source:
     rows, more = rows_of(path, numbered(text), "DEMANDS", 4)
     for at, line in more:
         notes.say("dropped", f"{path} line {at}: {line.strip()}")
-    demands = [Demand(row[0], row[1], row[2], number(row[3], f"{path}: bw of demand {row[0]!r}")) for row in rows]
-    name = stem(path)
-    return Source(path, "demands", matrices=[Matrix(name, demands)], bits=KBIT, by_number=True)
+    demands = [_demand(path, at, row) for at, row in rows]
+    return Source(path, "demands", matrices=[Matrix(stem(path), demands)], bits=KBIT, by_number=True)
 
 
-def _end(path: str, word: str, nodes: int) -> str:
+def _demand(path: str, at: int, row: list[str]) -> Demand:
+    """The demand of a row; its ends are whole numbers."""
+    what = f"{path} line {at}"
+    wrong = next((word for word in row[1:3] if not _is_whole(word)), None)
+    if wrong is not None:
+        raise Refused(f"{what}: {told(wrong)} is no number of a node")
+    return Demand(row[0], row[1], row[2], number(row[3], f"{what}: bw of demand {told(row[0])}"), line=at)
+
+
+def _is_whole(word: str) -> bool:
+    """Whether a word is a whole number that a list may have entries for."""
+    return re.fullmatch("[0-9]{1,9}", word) is not None
+
+
+def _end(what: str, word: str, nodes: int) -> str:
     """The number of a node as its key."""
-    if not word.isdecimal() or int(word) >= nodes:
-        raise Refused(f"{path}: {word!r} is no number of a node, of which there are {nodes}")
+    if not _is_whole(word) or int(word) >= nodes:
+        raise Refused(f"{what}: {told(word)} is no number of a node, of which there are {nodes}")
     return str(int(word))

@@ -4,12 +4,13 @@ from __future__ import annotations
 
 from fractions import Fraction
 
-from lxml import etree
-
+from ..units import unit_of
 from .files import stem
 from .model import Demand, Link, Matrix, Node, Notes, Refused, Source
-from .numbers import number, unit_of
-from .xml import attribute, child, children, local, root_of, where, words
+from .native import require_longest
+from .numbers import number
+from .words import told
+from .xml import Entry, attribute, child, children, elements, local, root_of, where, words
 
 KNOWN_LINK = {"source", "target", "preInstalledModule", "routingCost", "setupCost", "additionalModules"}
 KNOWN_DEMAND = {"source", "target", "routingUnit", "demandValue", "maxPathLength"}
@@ -18,75 +19,92 @@ KNOWN_DEMAND = {"source", "target", "routingUnit", "demandValue", "maxPathLength
 def read(path: str, data: bytes, notes: Notes) -> Source:
     """A network with its demands, or the demands of one time alone."""
     root = root_of(path, data)
-    structure = child(root, "networkStructure")
+    structure, demands = child(path, root, "networkStructure"), child(path, root, "demands")
     source = Source(path, "xml")
-    source.meta = {local(entry): words(entry) for meta in children(root, "meta") for entry in meta if words(entry)}
-    source.bits = unit_of(source.meta.get("unit", ""))
-    source.nodes = [_node(path, e) for e in children(child(structure, "nodes"), "node")]
-    source.links = [_link(path, e, notes) for e in children(child(structure, "links"), "link")]
-    demands = [_demand(path, e, notes) for e in children(child(root, "demands"), "demand")]
-    if child(root, "demands") is not None:
-        source.matrices = [Matrix(stem(path), demands)]
+    source.meta = {local(entry): words(entry) for meta in children(root, "meta") for entry in elements(meta) if words(entry)}
+    unit = unit_of(source.meta.get("unit", ""))
+    source.bits = Fraction(unit.bits) if unit and not unit.is_of_bytes else None
+    source.nodes = [_node(path, e) for e in _entries(path, structure, "nodes", "node")]
+    names = {node.key for node in source.nodes}
+    source.links = [_link(path, e, names, notes) for e in _entries(path, structure, "links", "link")]
+    if demands is not None:
+        found = [_demand(path, e, names, notes) for e in _entries(path, root, "demands", "demand")]
+        source.matrices = [Matrix(stem(path), found)]
+    _others(path, root, {"meta", "networkStructure", "demands"}, notes)
+    if structure is not None:
+        _others(path, structure, {"nodes", "links"}, notes)
     return source
 
 
-def _node(path: str, element: etree._Element) -> Node:
+def _entries(path: str, parent: Entry | None, section: str, name: str) -> list[Entry]:
+    """The entries of a section, no two of the same id."""
+    found = children(child(path, parent, section), name)
+    ids: set[str] = set()
+    for entry in found:
+        if entry.get("id") in ids:
+            raise Refused(f"{where(path, entry)}: {name} {told(entry.get('id', ''))} stands twice")
+        ids |= {entry.get("id", "")} - {""}
+    return found
+
+
+def _node(path: str, element: Entry) -> Node:
     name = attribute(path, element, "id")
-    place = child(element, "coordinates")
+    place = child(path, element, "coordinates")
     if place is None:
         return Node(name, name)
-    return Node(name, name, (words(child(place, "x")) or "0", words(child(place, "y")) or "0"))
+    x, y = (words(child(path, place, axis)) for axis in "xy")
+    if not x or not y:
+        raise Refused(f"{where(path, place)}: coordinates without x or y")
+    return Node(name, name, (x, y))
 
 
-def _ends(path: str, element: etree._Element) -> tuple[str, str]:
-    ends = words(child(element, "source")), words(child(element, "target"))
+def _ends(path: str, element: Entry, nodes: set[str]) -> tuple[str, str]:
+    """Both ends of an entry, which are nodes where the file has some."""
+    ends = words(child(path, element, "source")), words(child(path, element, "target"))
     if not all(ends):
         raise Refused(f"{where(path, element)}: <{local(element)}> has no source or no target")
+    unknown = next((end for end in ends if end not in nodes), None)
+    if nodes and unknown is not None:
+        raise Refused(f"{where(path, element)}: {told(unknown)} is no node")
     return ends
 
 
-def _others(path: str, element: etree._Element, known: set[str], notes: Notes) -> None:
+def _others(path: str, element: Entry, known: set[str], notes: Notes) -> None:
     """Says which parts of an entry are not read."""
-    for other in sorted({local(e) for e in element} - known):
-        notes.say("dropped", f"{path}: {other} of {local(element)} {element.get('id')!r}")
+    for other in sorted({local(e) for e in elements(element)} - known):
+        notes.say("dropped", f"{path}: {other} of {local(element)}" + (f" {told(element.get('id', ''))}" if element.get("id") else ""))
 
 
-def _link(path: str, element: etree._Element, notes: Notes) -> Link:
+def _link(path: str, element: Entry, nodes: set[str], notes: Notes) -> Link:
     name = attribute(path, element, "id")
     _others(path, element, KNOWN_LINK, notes)
-    installed = child(element, "preInstalledModule")
-    capacity = _number(path, child(installed, "capacity")) if installed is not None else Fraction(0)
-    costs = (
-        words(child(installed, "cost")) or "0",
-        words(child(element, "routingCost")) or "0",
-        words(child(element, "setupCost")) or "0",
-    )
-    modules = tuple(_module(path, e) for e in children(child(element, "additionalModules"), "addModule"))
-    return Link(name, *_ends(path, element), capacity, costs, modules)
+    installed = child(path, element, "preInstalledModule")
+    capacity, cost = _module(path, installed) if installed is not None else (Fraction(0), "0")
+    costs = (cost, words(child(path, element, "routingCost")) or "0", words(child(path, element, "setupCost")) or "0")
+    modules = tuple(_module(path, e) for e in children(child(path, element, "additionalModules"), "addModule"))
+    return Link(name, *_ends(path, element, nodes), capacity, costs, modules)
 
 
-def _module(path: str, element: etree._Element) -> tuple[Fraction, str]:
-    if child(element, "capacity") is None:
+def _module(path: str, element: Entry) -> tuple[Fraction, str]:
+    """The capacity and the cost of a module."""
+    capacity = child(path, element, "capacity")
+    if capacity is None:
         raise Refused(f"{where(path, element)}: a module without a capacity")
-    return _number(path, child(element, "capacity")), words(child(element, "cost")) or "0"
+    return _number(path, capacity), words(child(path, element, "cost")) or "0"
 
 
-def _number(path: str, element: etree._Element | None) -> Fraction:
-    if element is None:
-        return Fraction(0)
+def _number(path: str, element: Entry) -> Fraction:
     return number(words(element), f"{where(path, element)}: {local(element)}")
 
 
-def _demand(path: str, element: etree._Element, notes: Notes) -> Demand:
-    name = element.get("id") or "_".join(_ends(path, element))
+def _demand(path: str, element: Entry, nodes: set[str], notes: Notes) -> Demand:
+    ends = _ends(path, element, nodes)
+    name = element.get("id") or "_".join(ends)
     _others(path, element, KNOWN_DEMAND, notes)
-    value = child(element, "demandValue")
+    value, unit = child(path, element, "demandValue"), child(path, element, "routingUnit")
     if value is None:
-        raise Refused(f"{where(path, element)}: demand {name!r} has no demandValue")
-    unit = child(element, "routingUnit")
-    longest = words(child(element, "maxPathLength")) or "UNLIMITED"
-    if longest != "UNLIMITED":
-        number(longest, f"{where(path, element)}: maxPathLength")
-    return Demand(
-        name, *_ends(path, element), _number(path, value), _number(path, unit) if unit is not None else Fraction(1), longest
-    )
+        raise Refused(f"{where(path, element)}: demand {told(name)} has no demandValue")
+    longest = words(child(path, element, "maxPathLength")) or "UNLIMITED"
+    require_longest(longest, f"{where(path, element)}: maxPathLength")
+    size = _number(path, unit) if unit is not None else Fraction(1)
+    return Demand(name, *ends, _number(path, value), size, longest, element.line)

@@ -4,12 +4,21 @@ from __future__ import annotations
 
 import csv
 import io
+import re
+from collections.abc import Iterator
 from dataclasses import dataclass, replace
 from fractions import Fraction
+from typing import TYPE_CHECKING
 
+from ..names import cell_of, text_of
 from .files import stem
 from .model import Demand, Link, Matrix, Network, Node, Notes, Refused, Source
+from .native import require_longest
 from .numbers import Form, is_rate, number, plain, rate
+from .words import BLANKS, told
+
+if TYPE_CHECKING:
+    import _csv
 
 ROLES = {
     "id": ("id", "link", "demand", "name", "label", "key", "edge", "link_id", "demand_id"),
@@ -45,7 +54,7 @@ class Table:
     def word(self, row: list[str], role: str, spare: str = "") -> str:
         """The word of a role in a row, or the spare one."""
         at = self.place.get(role, -1)
-        return (row[at].strip() if 0 <= at < len(row) else "") or spare
+        return (row[at] if at >= 0 else "") or spare
 
     def must(self, at: int, row: list[str], role: str) -> str:
         """A word that has to be there."""
@@ -55,50 +64,110 @@ class Table:
         return found
 
 
-def lines_of(path: str, text: str) -> list[tuple[int, list[str]]]:
-    """The rows of a CSV with their line numbers; the mark between columns is that of the first row."""
-    rest = "\n".join("" if line.startswith("#") else line for line in text.splitlines())
-    first = next((line for line in rest.splitlines() if line.strip()), "")
-    mark = max(";\t,|", key=first.count)
-    reader = csv.reader(io.StringIO(rest), delimiter=mark, strict=True)
+def lines_of(path: str, text: str, notes: Notes) -> list[tuple[int, list[str]]]:
+    """The rows of a CSV with the lines they begin in, each as long as the first; the mark between columns is that of the first row.
+
+    Rows of blanks alone are left out. A blank round a word is no part of it, which is said.
+    """
+    first = next((line for line in text.split("\n") if line.strip(BLANKS)), "")
+    reader = csv.reader(io.StringIO(text, newline=""), delimiter=max(";\t,|", key=first.count), strict=True)
+    rows: list[tuple[int, list[str]]] = []
+    blank = 0
+    for at, row in _numbered(path, reader):
+        words = [_word(path, at, cell) for cell in row]
+        if not any(words):
+            continue
+        if rows and len(words) != len(rows[0][1]):
+            raise Refused(f"{path} line {at}: {_counted(words)}, and the first row has {len(rows[0][1])}{_why(rows, row)}")
+        blank = blank or (at if any(cell != cell.strip(BLANKS) for cell in row) else 0)
+        rows.append((at, [text_of(word) for word in words]))
+    if blank:
+        notes.say("read", f"{path} line {blank}: blanks round a word are no part of it, here and further on")
+    return rows
+
+
+def _numbered(path: str, reader: _csv._reader) -> Iterator[tuple[int, list[str]]]:
+    """The rows of a reader with the lines in which they begin."""
+    at = 1
     try:
-        return [(reader.line_num, row) for row in reader if any(word.strip() for word in row)]
+        for row in reader:
+            yield at, row
+            at = reader.line_num + 1
     except csv.Error as fault:
-        raise Refused(f"{path} line {reader.line_num}: {fault}") from None
+        raise Refused(f"{path} line {at}: {fault}") from None
 
 
-def columns_of(words: str) -> dict[str, str]:
-    """The columns that `--columns` names, by their roles."""
-    columns: dict[str, str] = {}
-    for pair in filter(None, words.split(",")):
-        role, _, name = pair.partition("=")
-        if role not in ROLES or not name:
-            raise Refused(f"--columns: {pair!r} is no ROLE=NAME; roles are {', '.join(ROLES)}")
-        columns[role] = name
+def _word(path: str, at: int, cell: str) -> str:
+    """The word of a cell."""
+    if cell[:1] in (" ", "\t") and cell.lstrip(BLANKS).startswith('"'):
+        raise Refused(f"{path} line {at}: a blank before a quotation mark, which so is no mark")
+    return cell.strip(BLANKS)
+
+
+def _counted(words: list[str]) -> str:
+    """How many words a row has."""
+    return f"{len(words)} columns" if len(words) != 1 else "1 column"
+
+
+def _why(rows: list[tuple[int, list[str]]], row: list[str]) -> str:
+    """What mostly makes a row of another length."""
+    if row[0].startswith("#") or rows[0][1][0].startswith("#"):
+        return " (a line that begins with # is a row too: take comments out)"
+    if len(row) == 1 + len(rows[0][1]) and re.fullmatch("[0-9]{3}", row[-1]):
+        return " (a comma within a number makes two of it: leave it out)"
+    return ""
+
+
+def columns_of(words: list[str], files: list[str]) -> dict[str, dict[str, str]]:
+    """The columns that `--columns` names, by their roles, for each file that is named in front, and for all others under no name."""
+    columns: dict[str, dict[str, str]] = {}
+    for word in words:
+        file = next((file for file in sorted(files, key=len, reverse=True) if word.startswith(f"{file}:")), "")
+        found = columns.setdefault(file, {})
+        for pair in _pairs(word[len(file) + 1 :] if file else word):
+            role, _, name = pair.partition("=")
+            if role not in ROLES or not name:
+                raise Refused(f"--columns: {told(pair)} is no ROLE=NAME; roles are {', '.join(ROLES)}")
+            if role in found or name in found.values():
+                raise Refused(f"--columns: {role if role in found else told(name)} is given twice")
+            found[role] = name
     return columns
 
 
-def require_columns(columns: dict[str, str], sources: list[Source]) -> None:
-    """Refuses a column that was named and that no table has."""
-    for name in columns.values():
-        if not any(name in source.columns for source in sources):
-            tables = "; ".join(f"{source.path} has {', '.join(source.columns)}" for source in sources if source.columns)
-            raise Refused(f"no table has a column {name!r}" + (f": {tables}" if tables else ""))
+def _pairs(words: str) -> list[str]:
+    """The pairs of a word, with quotation marks round one that has a comma."""
+    try:
+        return [pair for pair in next(csv.reader([words], strict=True), []) if pair]
+    except csv.Error as fault:
+        raise Refused(f"--columns: {fault}") from None
+
+
+def require_columns(columns: dict[str, dict[str, str]], sources: list[Source]) -> None:
+    """Refuses a column that was named and that no table has, or not the one it was named for."""
+    for file, named in columns.items():
+        tables = [source for source in sources if file in ("", source.path)]
+        lost = next((name for name in named.values() if not any(name in source.columns for source in tables)), None)
+        if lost is not None:
+            there = "; ".join(f"{source.path} has {', '.join(source.columns)}" for source in tables if source.columns)
+            raise Refused(f"{file or 'no table'} has {'no' if file else 'a'} column {told(lost)}" + (f": {there}" if there else ""))
 
 
 def read(path: str, text: str, notes: Notes, form: Form) -> Source:
     """What a table has: links, nodes or demands, by its columns; a square of demands by its names."""
-    rows = lines_of(path, text)
+    rows = lines_of(path, text, notes)
     if not rows:
         raise Refused(f"{path}: no rows")
-    head = [word.strip() for word in rows[0][1]]
+    line, head = rows[0]
     named = {role: name for role, name in form.columns.items() if name in head}
     if not named and _is_square(head, rows):
-        return _square(path, head, rows[1:], form)
+        return _square(path, line, head, rows[1:], form)
     table = Table(path, _places(head, named), rows[1:], form)
     if "id" not in named and _is_demand_the_id(head, table.place):
         table.place = _places(head, named | {"amount": head[table.place["id"]]})
         _tell_amounts(head, table, notes)
+    double = next((head[at] for at in table.place.values() if head.count(head[at]) > 1), None)
+    if double is not None:
+        raise Refused(f"{path} line {line}: two columns are named {told(double)}")
     return replace(_read_by_columns(head, table, notes), columns=tuple(head))
 
 
@@ -198,7 +267,7 @@ def _modules(table: Table, at: int, row: list[str]) -> tuple[tuple[Fraction, str
     if len(parts) % 2:
         raise Refused(f"{table.path} line {at}: modules are pairs of a capacity and a cost")
     where = f"{table.path} line {at}: modules"
-    return tuple((number(a, where, table.form.comma), b) for a, b in zip(parts[::2], parts[1::2]))
+    return tuple((rate(a, where, table.form.unit, table.form.comma), b) for a, b in zip(parts[::2], parts[1::2]))
 
 
 def _places_of_nodes(table: Table) -> Source:
@@ -207,64 +276,74 @@ def _places_of_nodes(table: Table) -> Source:
     for at, row in table.rows:
         node = _node(table, at, row)
         if node.key in nodes:
-            raise Refused(f"{table.path} line {at}: node {node.key!r} stands twice")
+            raise Refused(f"{table.path} line {at}: node {told(node.key)} stands twice")
         nodes[node.key] = node
     return Source(table.path, "nodes", nodes=list(nodes.values()))
 
 
 def _node(table: Table, at: int, row: list[str]) -> Node:
+    """A node, and its place where the row has one."""
     name = table.word(row, "node") or table.must(at, row, "id")
-    comma = "." if table.form.comma else ","
-    x, y = (table.word(row, role).replace(",", comma) for role in ("x", "y"))
-    return Node(name, name, (x, y) if x and y else None)
+    x, y = (table.word(row, role) for role in ("x", "y"))
+    if bool(x) != bool(y):
+        raise Refused(f"{table.path} line {at}: a place is both x and y, or none")
+    if table.form.comma:
+        x, y = x.replace(",", "."), y.replace(",", ".")
+    return Node(name, name, (x, y) if x else None)
 
 
 def _demands(table: Table) -> Source:
     source = Source(table.path, "demands", bits=table.form.unit.bits)
     found: dict[str, list[Demand]] = {}
     for at, row in table.rows:
-        ends = table.must(at, row, "source"), table.must(at, row, "target")
-        name = table.word(row, "id")
-        what = f"{table.path} line {at}: amount"
-        value = rate(table.must(at, row, "amount"), what, table.form.unit, table.form.comma)
-        unit = number(table.word(row, "unit", "1"), what, table.form.comma)
-        matrix = table.word(row, "matrix", stem(table.path))
-        found.setdefault(matrix, []).append(Demand(name, *ends, value, unit, table.word(row, "longest", "UNLIMITED")))
-    source.matrices = [Matrix(name, demands) for name, demands in found.items()]
+        found.setdefault(table.word(row, "matrix"), []).append(_demand(table, at, row))
+    if "" in found and len(found) > 1:
+        raise Refused(f"{table.path} line {found[''][0].line}: no matrix, which other rows have")
+    source.matrices = [Matrix(name or stem(table.path), demands) for name, demands in found.items()]
     return source
+
+
+def _demand(table: Table, at: int, row: list[str]) -> Demand:
+    ends = table.must(at, row, "source"), table.must(at, row, "target")
+    what = f"{table.path} line {at}"
+    value = rate(table.must(at, row, "amount"), f"{what}: amount", table.form.unit, table.form.comma)
+    unit = number(table.word(row, "unit", "1"), f"{what}: routing unit", table.form.comma)
+    longest = table.word(row, "longest", "UNLIMITED")
+    require_longest(longest, what)
+    return Demand(table.word(row, "id"), *ends, value, unit, longest, at)
 
 
 def _is_square(head: list[str], rows: list[tuple[int, list[str]]]) -> bool:
     """Whether the names of the columns behind the first one are those of the rows."""
-    names = [row[0].strip() for _, row in rows[1:]]
+    names = [row[0] for _, row in rows[1:]]
     return len(head) > 2 and sorted(head[1:]) == sorted(names)
 
 
-def _square(path: str, head: list[str], rows: list[tuple[int, list[str]]], form: Form) -> Source:
+def _square(path: str, line: int, head: list[str], rows: list[tuple[int, list[str]]], form: Form) -> Source:
     """The demands of a square, row to column; nothing and 0 are no demand."""
+    double = next((name for name in head[1:] if head[1:].count(name) > 1), None)
+    if double is not None:
+        raise Refused(f"{path} line {line}: {told(double)} stands twice")
     demands = []
     for at, row in rows:
         for target, word in zip(head[1:], row[1:]):
-            source = row[0].strip()
-            value = rate(word or "0", f"{path} line {at}: {source} to {target}", form.unit, form.comma)
+            value = rate(word or "0", f"{path} line {at}: {told(row[0])} to {told(target)}", form.unit, form.comma)
             if value:
-                demands.append(Demand("", source, target, value))
+                demands.append(Demand("", row[0], target, value, line=at))
     return Source(path, "demands", matrices=[Matrix(stem(path), demands)], bits=form.unit.bits)
 
 
 def text(network: Network, what: str, notes: Notes) -> str:
     """The table of links, nodes or demands of a network."""
-    out = io.StringIO()
-    writer = csv.writer(out, lineterminator="\n")
+    rows: list[tuple[str, ...]] = []
     if what == "links":
-        writer.writerow(("link", *LINK_ROLES[1:]))
-        writer.writerows(map(_link_row, network.links))
+        rows = [("link", *LINK_ROLES[1:]), *map(_link_row, network.links)]
     elif what == "nodes":
-        writer.writerow(NODE_ROLES)
-        writer.writerows(_node_row(node, notes) for node in network.nodes)
+        rows = [NODE_ROLES, *(_node_row(node, notes) for node in network.nodes)]
     else:
-        writer.writerow(("matrix", "demand", *DEMAND_ROLES[2:]))
-        writer.writerows(_demand_row(m.name, d) for m in network.matrices for d in m.demands)
+        rows = [("matrix", "demand", *DEMAND_ROLES[2:]), *(_demand_row(m.name, d) for m in network.matrices for d in m.demands)]
+    out = io.StringIO()
+    csv.writer(out, lineterminator="\n").writerows([cell_of(word) for word in row] for row in rows)
     _tell_left_out(network, what, notes)
     return out.getvalue()
 
@@ -280,6 +359,8 @@ def _tell_left_out(network: Network, what: str, notes: Notes) -> None:
         if count:
             places = "places of " if name == "nodes" else ""
             notes.say("dropped", f"{places}{count} {name}, which a .{name}.csv has")
+    if what == "links" and network.links_mode not in (None, "undirected"):
+        notes.say("dropped", f"that links are {network.links_mode}, which a table does not say: --links {network.links_mode} says it again")
 
 
 def _link_row(link: Link) -> tuple[str, ...]:

@@ -5,17 +5,34 @@ from __future__ import annotations
 import re
 from dataclasses import dataclass, field
 
-from .model import MAX_WORD, Notes
+from ..limits import MAX_WORD_BYTES
+from .model import Notes
 
-UNFIT = re.compile(r"[\s()#\x00-\x1f\x7f]+")
+BLANKS = " \t\r\n"
+UNFIT = re.compile(r"[ \t\r\n()#]+")
+SHOWN = 60
+# (room for a number behind the word)
+MOST = MAX_WORD_BYTES - 8
 
 
 def word_of(name: str) -> str:
-    """The name without what no word may have: blanks, parentheses and # become _."""
-    word = UNFIT.sub("_", name.strip())
-    while len(word.encode("utf-8", "surrogateescape")) > MAX_WORD - 8:
-        word = word[:-1]
-    return word
+    """The name without what no word may have: blanks, parentheses and # become _; and not too long."""
+    return _cut(UNFIT.sub("_", name.strip(BLANKS)))
+
+
+def _cut(word: str) -> str:
+    """The longest front of whole characters that has few enough bytes."""
+    data = word[:MOST].encode("utf-8", "surrogateescape")
+    if len(data) <= MOST:
+        return word[:MOST]
+    # (a character has at most three bytes behind its first one)
+    cut = next(at for at in range(MOST, MOST - 4, -1) if data[at] & 0xC0 != 0x80 or at == MOST - 3)
+    return data[:cut].decode("utf-8", "surrogateescape")
+
+
+def told(name: str) -> str:
+    """A name in quotes for a line to read, not too long."""
+    return repr(name) if len(name) <= SHOWN else f"{name[:SHOWN]!r}.."
 
 
 @dataclass
@@ -34,7 +51,7 @@ class Words:
         word = first if self.keep else self._free(first)
         self.taken.add(word)
         if word != name and name:
-            self.notes.say("renamed", f"{self.what} {name!r} is {word}")
+            self.notes.say("renamed", f"{self.what} {told(name)} is {word}")
         return word
 
     def _free(self, first: str) -> str:

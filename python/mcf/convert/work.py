@@ -2,11 +2,14 @@
 
 from __future__ import annotations
 
+import io
 from dataclasses import dataclass, field, replace
 from fractions import Fraction
 
+from ..output import require_output
 from . import assemble, files, native, repetita, tables
 from .adjust import Changes, adjusted, in_unit, require_fit
+from .edits import TIMES_DEMAND, Edit, edited
 from .gravity import with_gravity
 from .model import Network, Notes, Refused, Source
 from .numbers import UNITS, Form, Unit
@@ -18,7 +21,7 @@ META_UNITS = {"bit": "BITPERSEC", "kbit": "KBITPERSEC", "Mbit": "MBITPERSEC", "G
 
 @dataclass
 class Task:
-    """What is asked for."""
+    """What is asked for; columns are those of each file, and of all files under no name."""
 
     sources: list[str]
     target: str
@@ -27,13 +30,17 @@ class Task:
     written: str | None = None
     unit: str | None = None
     from_unit: str | None = None
+    bytes: bool = False
+    links: str | None = None
     scale: Fraction = Fraction(1)
+    edits: list[Edit] = field(default_factory=list)
+    fibres: bool = False
     decimals: int | None = None
     merge: bool = False
     merge_both: bool = False
     capacity: str | None = None
     missing: str | None = None
-    columns: dict[str, str] = field(default_factory=dict)
+    columns: dict[str, dict[str, str]] = field(default_factory=dict)
     comma: bool = False
     gravity: Fraction = Fraction(0)
 
@@ -60,40 +67,111 @@ def target_of(path: str) -> str:
 def convert(task: Task, notes: Notes) -> None:
     """Reads the files, and writes the one."""
     kind = task.written or target_of(task.target)
-    sources = [read(path, task, notes) for path in [*task.base, *task.sources]]
-    tables.require_columns(task.columns, sources)
-    sources = _in_one_unit(sources, task, notes)
+    _require_files(task)
+    _require_use(task, kind)
+    sources = _in_one_unit(_read_all(task, notes), task, notes)
     base, sources = sources[: len(task.base)], sources[len(task.base) :]
     many = kind == "list" or (kind == "demands" and all(not s.links for s in sources))
     network = assemble.together(sources, base, notes, many)
     if task.gravity:
         network = with_gravity(network, task.gravity, notes)
+    network = edited(network, task.edits, task.fibres, notes)
     network = adjusted(network, Changes(task.scale, task.merge, task.merge_both, task.decimals), notes)
     if task.unit:
         network.meta["unit"] = META_UNITS[task.unit]
+    if network.links_mode and network.links_mode != "undirected":
+        network.meta["links"] = network.links_mode
     require_fit(network, kind in ("net", "graphml", "links"), kind in ("net", "list"))
-    files.write(task.target, _text(network, kind, notes))
+    text = _text(network, kind, notes)
     _tell(network, kind, notes)
     _tell_meta(sources, kind, notes)
+    files.write(task.target, text)
+
+
+def _read_all(task: Task, notes: Notes) -> list[Source]:
+    """What all files have; how their links are read is said before anything else."""
+    later = Notes(io.StringIO())
+    try:
+        sources = [_as_meant(read(path, task, later), task.links) for path in [*task.base, *task.sources]]
+        _tell_links(sources, task, notes)
+    finally:
+        notes.take(later)
+    tables.require_columns({file and files.label(file): named for file, named in task.columns.items()}, sources)
+    return sources
+
+
+def _require_files(task: Task) -> None:
+    """That the target may be written and is none of the files that are read, and that standard input is read once."""
+    paths = [*task.base, *task.sources]
+    require_output(task.target, paths)
+    if paths.count("-") > 1:
+        raise Refused("standard input is read once, and - stands there twice")
+
+
+def _require_use(task: Task, kind: str) -> None:
+    """Refuses changes of what is not written."""
+    written = {"links": ("net", "graphml", "links"), "demands": ("net", "list", "demands")}
+    for edit in task.edits:
+        part = "demands" if edit.option == TIMES_DEMAND else "links"
+        if kind not in written[part]:
+            raise Refused(f"{edit} changes {part}, and what is written has none")
+    if task.fibres and not any(edit.option != TIMES_DEMAND for edit in task.edits):
+        raise Refused("--fibres says how links change, and no change of a link is asked for")
+
+
+def _as_meant(source: Source, mode: str | None) -> Source:
+    """The source with its links as the command line says; refused where its file says otherwise."""
+    if mode is None or not source.links:
+        return source
+    if source.links_mode not in (None, mode):
+        raise Refused(f"{source.path} says that its links are {source.links_mode}, and --links says {mode}")
+    return replace(source, links_mode=mode)
+
+
+def _tell_links(sources: list[Source], task: Task, notes: Notes) -> None:
+    """Says how links are read, where that was asked for, or a file says or mentions another way than the usual one."""
+    source = next((source for source in sources if source.links), None)
+    if source is None:
+        if task.links:
+            raise Refused("--links says how links are meant, and no file has links")
+        return
+    mode, mentioned = source.links_mode or "undirected", source.mentioned
+    if task.links:
+        notes.say("links", f"{mode}, as --links says")
+    elif source.links_mode not in (None, "undirected"):
+        notes.say("links", f"{mode}, as {source.path} says")
+    elif source.links_mode is None and mentioned and mentioned[1] != mode:
+        line, word = mentioned
+        notes.say("links", f"{mode}; a comment in line {line} of {source.path} says {word}: --links {word} reads them so")
 
 
 def _in_one_unit(sources: list[Source], task: Task, notes: Notes) -> list[Source]:
-    """All numbers in the unit that is asked for, or else in that of the links, where their file says it."""
-    given = Fraction(1000) ** UNITS[task.from_unit] if task.from_unit else None
-    sources = [replace(s, bits=given) if s.bits is None and given else s for s in sources]
-    if task.unit:
-        asked = Fraction(1000) ** UNITS[task.unit]
-        return [in_unit(s, asked) if s.links or s.matrices else s for s in sources]
-    wanted = next((s.bits for s in sources if s.links), None)
-    return [_as_links_are(s, wanted, notes) if wanted else s for s in sources]
+    """All numbers in the unit that is asked for, or else in that of the links, or of the first file that says one."""
+    given = Fraction(UNITS[task.from_unit]) if task.from_unit else None
+    linked = next((s for s in sources if s.links), None)
+    sources = [replace(s, bits=given) if s.bits is None and given and not _is_of(s, linked) else s for s in sources]
+    numbers = [s for s in sources if s.links or s.matrices]
+    own = next((s.bits for s in numbers if s.links), None)
+    asked = Fraction(UNITS[task.unit]) if task.unit else None
+    wanted = asked or own or next((s.bits for s in numbers if s.bits), None)
+    if wanted is None:
+        return sources
+    for source in numbers if not task.unit else ():
+        if source.bits not in (None, wanted):
+            notes.say("note", f"{source.path}: its numbers are written in the unit of {'the links' if own else 'the first file that says one'}")
+    return [_in_unit(s, wanted, own, linked, notes) if s in numbers else s for s in sources]
 
 
-def _as_links_are(source: Source, wanted: Fraction, notes: Notes) -> Source:
-    """What a file has in the unit of the links; a list of matrices is made for a network, and is in its unit."""
-    if source.kind == "list" or not (source.links or source.matrices):
-        return source
-    if source.bits not in (None, wanted):
-        notes.say("note", f"{source.path}: its numbers are written in the unit of the links")
+def _is_of(source: Source, linked: Source | None) -> bool:
+    """Whether a file is a list of matrices beside a network, whose numbers are in the unit of the network."""
+    return source.kind == "list" and linked is not None
+
+
+def _in_unit(source: Source, wanted: Fraction, own: Fraction | None, linked: Source | None, notes: Notes) -> Source:
+    """What a file has, in a unit."""
+    if linked is not None and _is_of(source, linked):
+        notes.say("note", f"{source.path}: its numbers are in the unit of {linked.path}, since a list is made for a network")
+        source = replace(source, bits=own)
     return in_unit(source, wanted)
 
 
@@ -129,15 +207,17 @@ def _text(network: Network, kind: str, notes: Notes) -> str:
 
 def read(path: str, task: Task, notes: Notes) -> Source:
     """What a file has, in whichever format."""
-    raw = files.contents(path)
+    form, raw, path = _form(path, task), files.contents(path), files.label(path)
     data = files.without_mark(path, raw, notes)
     kind = task.kind or files.kind_of(path, data)
     if kind == "xml":
         from . import sndlib
+
         return sndlib.read(path, raw, notes)
     if kind == "graphml":
         from . import graphml
-        return graphml.read(path, raw, notes, _form(task))
+
+        return graphml.read(path, raw, notes, form)
     if kind == "native":
         return native.read_network(path, data, notes)
     if kind == "list":
@@ -147,11 +227,11 @@ def read(path: str, task: Task, notes: Notes) -> Source:
         return repetita.read_graph(path, text, notes)
     if kind == "demands":
         return repetita.read_demands(path, text, notes)
-    return tables.read(path, text, notes, _form(task))
+    return tables.read(path, text, notes, form)
 
 
-def _form(task: Task) -> Form:
+def _form(path: str, task: Task) -> Form:
     """How open numbers are read: held in the unit that plain ones have, or else in the one asked for."""
     name = task.from_unit or task.unit
-    unit = Unit(Fraction(1000) ** UNITS[name] if name else None, bool(task.from_unit))
-    return Form(unit, task.columns, task.comma, task.capacity, task.missing)
+    unit = Unit(Fraction(UNITS[name]) if name else None, bool(task.from_unit), task.bytes)
+    return Form(unit, task.columns.get("", {}) | task.columns.get(path, {}), task.comma, task.capacity, task.missing)

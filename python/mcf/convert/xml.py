@@ -1,52 +1,79 @@
-"""XML as it is read here: without entities of its own, without a network, names without namespaces."""
+"""XML as it is read here: no entities of its own, nothing from elsewhere, names without namespaces, and the line of each element."""
 
 from __future__ import annotations
 
-from lxml import etree
+from collections.abc import Mapping
+from xml.etree import ElementTree
+
+from defusedxml.common import DefusedXmlException
+from defusedxml.ElementTree import DefusedXMLParser
 
 from .model import Refused
 
+BLANKS = " \t\r\n"
 
-def root_of(path: str, data: bytes) -> etree._Element:
-    """The root of an XML text; a text with entities of its own is refused."""
-    parser = etree.XMLParser(resolve_entities=False, no_network=True, load_dtd=False, remove_comments=True, remove_pis=True)
+
+class Entry(ElementTree.Element):
+    """An element that knows the line of its start tag."""
+
+    line: int
+
+
+def root_of(path: str, data: bytes) -> Entry:
+    """The root of an XML text; a text that declares or names entities of its own, or of other files, is refused."""
+
+    def entry(tag: str, attributes: Mapping[str, str]) -> Entry:
+        found = Entry(tag, dict(attributes))
+        found.line = parser.parser.CurrentLineNumber
+        return found
+
+    parser = DefusedXMLParser(target=ElementTree.TreeBuilder(element_factory=entry))
     try:
-        root = etree.fromstring(data, parser)
-    except etree.XMLSyntaxError as fault:
-        raise Refused(f"{path} line {fault.lineno}: no XML: {fault.msg.splitlines()[0]}") from None
-    inner = root.getroottree().docinfo.internalDTD
-    if inner is not None and inner.entities():
-        raise Refused(f"{path}: entities of its own are not read")
-    return root
+        parser.feed(data)
+        root: Entry = parser.close()
+        return root
+    except ElementTree.ParseError as fault:
+        raise Refused(f"{path} line {fault.position[0]}: no XML: {str(fault).rpartition(': ')[0] or fault}") from None
+    except DefusedXmlException:
+        raise Refused(f"{path} line {parser.parser.CurrentLineNumber}: entities of its own are not read") from None
+    except (ValueError, LookupError) as fault:
+        raise Refused(f"{path} line {parser.parser.CurrentLineNumber}: no XML that is read here: {fault}") from None
 
 
-def local(element: etree._Element) -> str:
+def local(element: Entry) -> str:
     """The name of an element without its namespace."""
-    return etree.QName(element).localname
+    return element.tag.rpartition("}")[2]
 
 
-def children(element: etree._Element | None, name: str) -> list[etree._Element]:
+def children(element: Entry | None, name: str) -> list[Entry]:
     """The children of that name, in any namespace."""
-    return [] if element is None else [child for child in element if local(child) == name]
+    return [] if element is None else [child for child in elements(element) if local(child) == name]
 
 
-def child(element: etree._Element | None, name: str) -> etree._Element | None:
-    """The first child of that name, or none."""
+def elements(element: Entry) -> list[Entry]:
+    """All children."""
+    return [child for child in element if isinstance(child, Entry)]
+
+
+def child(path: str, element: Entry | None, name: str) -> Entry | None:
+    """The child of that name, or none; a second one is refused."""
     found = children(element, name)
+    if len(found) > 1:
+        raise Refused(f"{where(path, found[1])}: a second <{name}>")
     return found[0] if found else None
 
 
-def words(element: etree._Element | None) -> str:
+def words(element: Entry | None) -> str:
     """The text of an element, without blanks round it; nothing where there is no element."""
-    return "" if element is None else "".join(element.itertext()).strip()
+    return "" if element is None else "".join(element.itertext()).strip(BLANKS)
 
 
-def where(path: str, element: etree._Element) -> str:
+def where(path: str, element: Entry) -> str:
     """The place of an element, for people."""
-    return f"{path} line {element.sourceline}"
+    return f"{path} line {element.line}"
 
 
-def attribute(path: str, element: etree._Element, name: str) -> str:
+def attribute(path: str, element: Entry, name: str) -> str:
     """An attribute that has to be there."""
     value = element.get(name)
     if value is None:
