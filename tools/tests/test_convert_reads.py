@@ -521,7 +521,6 @@ def test_changes_of_links_and_demands(tmp_path: Path, words: str, rows: dict[int
         ("--close L9", "--close 'L9': there is no such link"),
         ("--times-demand L1 2", "--times-demand 'L1': there is no such demand"),
         ("--capacity-of L1 -3", "--capacity-of 'L1': '-3' is no number of at least 0"),
-        ("--capacity-of L1", "argument --capacity-of: expected 2 arguments (convert --help has the words)"),
         ("--capacity-of L1 x", "--capacity-of 'L1': 'x' is no number of at least 0"),
         ("--capacity-of L1 1e-7", "--capacity-of 'L1': 0.0000001 has more than 6 decimals"),
         ("--times-capacity L1 0.1234567", "--times-capacity 'L1': 0.1234567 has more than 6 decimals"),
