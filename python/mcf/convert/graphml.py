@@ -109,7 +109,8 @@ class _Reader:
     def _choose_capacity(self, edges: list[dict[str, str]]) -> None:
         """The attribute that was asked for, or else the first known one that some edge has; the Zoo's raw speeds are in bit per second."""
         there = {name for data in edges for name in data}
-        self.capacity = self.form.capacity or next((name for name in CAPACITIES if name in there), "")
+        known = next((name for name in CAPACITIES if name in there), "")
+        self.capacity = self.form.capacity or known
         if self.form.capacity and self.form.capacity not in there:
             raise Refused(f"{self.path}: no edge has an attribute {told(self.form.capacity)}; they have {', '.join(sorted(there)) or 'none'}")
         self.unit = Unit(Fraction(1), True, self.form.unit.bytes) if self.capacity == "LinkSpeedRaw" else self.form.unit
@@ -118,7 +119,8 @@ class _Reader:
     def _data(self, element: Entry) -> dict[str, str]:
         """What an element has by the names of attributes: what it says, or else the defaults."""
         kind = local(element)
-        data: dict[str, str] = {k.name: k.default for k in self.keys.values() if k.default is not None and k.domain in ("all", kind)}
+        known = [key for key in self.keys.values() if key.default is not None and key.domain in ("all", kind)]
+        data = {key.name: key.default or "" for key in known}
         said: dict[str, str] = {}
         for entry in children(element, "data"):
             key = attribute(self.path, entry, "key")

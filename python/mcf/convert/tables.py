@@ -77,6 +77,8 @@ def lines_of(path: str, text: str, notes: Notes) -> list[tuple[int, list[str]]]:
         words = [_word(path, at, cell) for cell in row]
         if not any(words):
             continue
+        if not rows and len(words) == 1 and words[0].startswith("#"):
+            raise Refused(f"{path} line {at}: a line that begins with # is a row too, and the first row names the columns: take it out")
         if rows and len(words) != len(rows[0][1]):
             raise Refused(f"{path} line {at}: {_counted(words)}, and the first row has {len(rows[0][1])}{_why(rows, row)}")
         blank = blank or (at if any(cell != cell.strip(BLANKS) for cell in row) else 0)
@@ -111,7 +113,7 @@ def _counted(words: list[str]) -> str:
 
 def _why(rows: list[tuple[int, list[str]]], row: list[str]) -> str:
     """What mostly makes a row of another length."""
-    if row[0].startswith("#") or rows[0][1][0].startswith("#"):
+    if row[0].startswith("#"):
         return " (a line that begins with # is a row too: take comments out)"
     if len(row) == 1 + len(rows[0][1]) and re.fullmatch("[0-9]{3}", row[-1]):
         return " (a comma within a number makes two of it: leave it out)"

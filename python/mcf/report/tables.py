@@ -7,6 +7,7 @@ import io
 from collections.abc import Iterable
 from fractions import Fraction
 
+from ..names import cell_of
 from .figures import Figures, LinkFigures
 from .shown import decimal
 
@@ -50,9 +51,9 @@ def _word(value: Fraction | None) -> str:
 
 
 def table(head: Iterable[str], rows: Iterable[Iterable[str]]) -> str:
-    """The text of a table."""
+    """The text of a table; names that a spreadsheet would take as formulas stand behind an apostrophe (`mcf.names`)."""
     out = io.StringIO()
     writer = csv.writer(out, lineterminator="\n")
     writer.writerow(head)
-    writer.writerows(rows)
+    writer.writerows([cell_of(word) for word in row] for row in rows)
     return out.getvalue()
