@@ -79,6 +79,9 @@ def require_output(path: str, sources: Iterable[str] = ()) -> None:
 def main_of(function: Callable[[], int], name: str | None = None) -> NoReturn:
     """Ends the process with the status of a tool's function, or with one line and status 2, or 130 where it was interrupted."""
     _open_closed_streams()
+    if not os.environ.get("MCF_TRACEBACK"):
+        # (what an interrupt breaks off half made complains when it is let go)
+        sys.unraisablehook = _unseen
     for number in _SIGNALS:
         if signal.getsignal(number) != signal.SIG_IGN:
             signal.signal(number, _interrupt)
@@ -204,8 +207,17 @@ def _is_file(source: str, there: os.stat_result | None) -> bool:
 def _interrupt(number: int, _: FrameType | None) -> None:
     """Ends the work once; what is to be tidied up is not interrupted again."""
     for other in _SIGNALS:
-        signal.signal(other, signal.SIG_IGN)
+        # (not SIG_IGN, which a child that is started just now would keep, so that it could not be ended)
+        signal.signal(other, _go_on)
     raise KeyboardInterrupt("interrupted" if number == signal.SIGINT else f"ended by {signal.Signals(number).name}")
+
+
+def _unseen(_: object) -> None:
+    """Says nothing."""
+
+
+def _go_on(_: int, __: FrameType | None) -> None:
+    """Does nothing."""
 
 
 def _open_closed_streams() -> None:
