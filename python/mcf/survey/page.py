@@ -18,19 +18,19 @@ from .cases import Case, Survey
 HEADINGS = {"failure": "Single failures, by what is carried after each", "double": "Links doubled, by what is carried with each"}
 STEPS = (Fraction(1, 100), Fraction(1, 10), Fraction(1, 4), Fraction(1, 2))
 FAILURE_COLOURS = (
-    ("0", "#92c5de", "less is shown, or nothing"),
-    ("1", "#e6c34a", "more than 1 %"),
-    ("2", "#f4a05c", "more than 10 %"),
-    ("3", "#d6604d", "more than 25 %"),
-    ("4", "#8e0f24", "more than 50 %"),
+    ("0", "#92c5de", "nothing, or up to 1 %"),
+    ("1", "#e6c34a", "1 %"),
+    ("2", "#f4a05c", "10 %"),
+    ("3", "#d6604d", "25 %"),
+    ("4", "#8e0f24", "50 %"),
     (CLOSED, "#9aa5b1", "without capacity"),
 )
 DOUBLE_COLOURS = (
-    ("0", "#c2cad2", "less is shown, or nothing"),
-    ("1", "#a6dba0", "more than 1 %"),
-    ("2", "#5aae61", "more than 10 %"),
-    ("3", "#1b7837", "more than 25 %"),
-    ("4", "#00441b", "more than 50 %"),
+    ("0", "#c2cad2", "nothing, or up to 1 %"),
+    ("1", "#a6dba0", "1 %"),
+    ("2", "#5aae61", "10 %"),
+    ("3", "#1b7837", "25 %"),
+    ("4", "#00441b", "50 %"),
     (CLOSED, "#9aa5b1", "without capacity"),
 )
 
