@@ -102,7 +102,8 @@ def surveyed() -> int:
         parser.error("--phases and --step are for `mcf solve`, which --exact does not ask")
     if words.jobs < 1:
         parser.error("--jobs is at least 1")
-    for output in filter(None, (words.csv, words.html)):
+    outputs: list[str | None] = [words.csv, words.html]
+    for output in filter(None, outputs):
         require_output(output, (words.net, words.certificate))
     return run(words, kinds)
 

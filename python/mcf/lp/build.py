@@ -11,6 +11,7 @@ from mcf import (Certificate, HopCertificate, Layer, Length, Path, Potential, Sc
                  rounded_up)
 
 from ..ranges import Range, most_gain
+from .arrays import Array
 from .pool import Pool
 from .prices import Bound
 from .problem import Arcs, Pairs, Walk
@@ -44,7 +45,7 @@ def certificate_of(scaled: ScaledNetwork, like: Certificate, pairs: Pairs, arcs:
     return with_gap(certificate, None)
 
 
-def potential_rows(scaled: ScaledNetwork, arcs: Arcs, lengths: np.ndarray, sources: list[int]) -> list[Potential]:
+def potential_rows(scaled: ScaledNetwork, arcs: Arcs, lengths: Array, sources: list[int]) -> list[Potential]:
     """The distances of all nodes from sources, in the order of nodes."""
     once = sorted(set(sources))
     if not once:
@@ -53,7 +54,7 @@ def potential_rows(scaled: ScaledNetwork, arcs: Arcs, lengths: np.ndarray, sourc
     return [Potential(scaled.network.nodes[source].id, _whole(row)) for source, row in zip(once, distances)]
 
 
-def layer_rows(scaled: ScaledNetwork, arcs: Arcs, lengths: np.ndarray) -> list[Layer]:
+def layer_rows(scaled: ScaledNetwork, arcs: Arcs, lengths: Array) -> list[Layer]:
     """The layers of all sources of commodities with limits, each up to the greatest of these limits."""
     most: dict[int, int] = {}
     for commodity, limit in zip(scaled.commodities, scaled.limits):
@@ -72,7 +73,7 @@ def layer_rows(scaled: ScaledNetwork, arcs: Arcs, lengths: np.ndarray) -> list[L
     return rows
 
 
-def _whole(distances: np.ndarray) -> tuple[int, ...]:
+def _whole(distances: Array) -> tuple[int, ...]:
     """Distances as whole numbers, those that are infinite too."""
     return tuple(int(far) if far < np.inf else FAR for far in distances.tolist())
 

@@ -12,6 +12,8 @@ from scipy.sparse import csc_matrix
 
 from mcf import TextError
 
+from .arrays import Array
+
 LIBRARIES = ("libClp.so.1", "libClp.so")
 
 BASIC, AT_UPPER, AT_LOWER = 1, 2, 3
@@ -71,14 +73,14 @@ class Model:
         if not self._runs:
             self._clp.Clp_deleteModel(self._model)
 
-    def load(self, matrix: csc_matrix, cost: np.ndarray, upper: np.ndarray, row_upper: np.ndarray,
-             row_lower: np.ndarray | None = None) -> None:
+    def load(self, matrix: csc_matrix, cost: Array, upper: Array, row_upper: Array,
+             row_lower: Array | None = None) -> None:
         """The program: columns from 0 to `upper`, rows up to `row_upper`, and from `row_lower` where that is given."""
         self._rows, self._columns = matrix.shape
         lower = np.full(self._rows, -np.inf) if row_lower is None else row_lower
         places = [np.ascontiguousarray(array, np.int32) for array in (matrix.indptr, matrix.indices)]
         numbers = (matrix.data, np.zeros(self._columns), upper, cost, lower, row_upper)
-        arrays = [*places, *(np.ascontiguousarray(array, np.float64) for array in numbers)]
+        arrays: list[Array] = [*places, *(np.ascontiguousarray(array, np.float64) for array in numbers)]
         self._clp.Clp_loadProblem(self._model, self._columns, self._rows, *(array.ctypes.data for array in arrays))
 
     def set_tolerances(self, primal: float, dual: float) -> None:
@@ -86,12 +88,12 @@ class Model:
         self._clp.Clp_setPrimalTolerance(self._model, primal)
         self._clp.Clp_setDualTolerance(self._model, dual)
 
-    def set_status(self, columns: np.ndarray, rows: np.ndarray) -> None:
+    def set_status(self, columns: Array, rows: Array) -> None:
         """The basis to begin from."""
         status = np.ascontiguousarray(np.concatenate([columns, rows]), np.uint8)
         self._clp.Clp_copyinStatus(self._model, status.ctypes.data)
 
-    def status_arrays(self) -> tuple[np.ndarray, np.ndarray]:
+    def status_arrays(self) -> tuple[Array, Array]:
         """The basis of columns and rows as it stands."""
         raw = ctypes.string_at(self._clp.Clp_statusArray(self._model), self._columns + self._rows)
         status = np.frombuffer(raw, np.uint8) & 7
@@ -122,12 +124,12 @@ class Model:
     @property
     def cost(self) -> float:
         """The cost as it stands."""
-        return self._clp.Clp_objectiveValue(self._model)
+        return float(self._clp.Clp_objectiveValue(self._model))
 
-    def solution(self) -> np.ndarray:
+    def solution(self) -> Array:
         """The value of each column."""
         return np.ctypeslib.as_array(self._clp.Clp_primalColumnSolution(self._model), (self._columns,)).copy()
 
-    def row_prices(self) -> np.ndarray:
+    def row_prices(self) -> Array:
         """The price of each row."""
         return np.ctypeslib.as_array(self._clp.Clp_dualRowSolution(self._model), (self._rows,)).copy()

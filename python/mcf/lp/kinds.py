@@ -6,11 +6,11 @@ from dataclasses import dataclass
 from fractions import Fraction
 from typing import Callable, Protocol
 
-import numpy as np
 from scipy.sparse import csc_matrix
 
 from mcf import Certificate, HopCertificate, ScaledNetwork, TotalCertificate, read_certificate, read_hops, read_throughput
 
+from .arrays import Array
 from .path_lp import FractionProgram, PathProgram
 from .prices import Bounds, TotalBounds
 from .problem import Arcs, Pairs, pairs_of
@@ -23,7 +23,7 @@ from .total_rounding import TotalRounding
 class Rounds(Protocol):
     """Makes whole numbers of flows."""
 
-    def __init__(self, matrix: csc_matrix, pair: np.ndarray, amounts: list[int], capacities: list[int], flows: np.ndarray) -> None:
+    def __init__(self, matrix: csc_matrix, pair: Array, amounts: list[int], capacities: list[int], flows: Array) -> None:
         """`matrix` says which cells each path has, each once."""
 
     def best(self, aim: Fraction, enough: Fraction, deadline: float) -> Whole:

@@ -7,11 +7,13 @@ from math import lcm
 
 import numpy as np
 
+from .arrays import Array
+
 DENOMINATORS = (1, 60, 1000, 10**6)
 """Which greatest denominators are tried, one after another."""
 
 
-def near_fractions(values: np.ndarray, limit: int, noise: float, most: int) -> tuple[list[Fraction], int] | None:
+def near_fractions(values: Array, limit: int, noise: float, most: int) -> tuple[list[Fraction], int] | None:
     """Fractions near all values and their common denominator; None where one is not so near, or that is above `most`.
 
     Each has a denominator up to a limit, and differs by the noise at most, of values above 1 by so much of the value.

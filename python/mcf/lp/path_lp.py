@@ -9,6 +9,7 @@ from __future__ import annotations
 
 import time
 from abc import ABC, abstractmethod
+from ctypes import CDLL
 from dataclasses import dataclass
 from enum import Enum
 from typing import Callable
@@ -16,6 +17,7 @@ from typing import Callable
 import numpy as np
 from scipy.sparse import csc_matrix, hstack, vstack
 
+from .arrays import Array
 from .clp import AT_LOWER, AT_UPPER, BASIC, Model
 from .pool import INDEX, Pool, add_shortest
 from .problem import Pairs
@@ -43,10 +45,10 @@ class Optimum:
     program has its optimum, up to its tolerances.
     """
 
-    flows: np.ndarray
+    flows: Array
     carried: float
-    prices: np.ndarray
-    last_prices: np.ndarray
+    prices: Array
+    last_prices: Array
     bound: float
     rounds: int
     stop: Stop = Stop.ROUNDS
@@ -65,7 +67,7 @@ class Optimum:
 class PathProgram(ABC):
     """The linear program as it stands between rounds: its paths, and the basis."""
 
-    def __init__(self, library: object, pairs: Pairs, search: Search, capacities: np.ndarray, pool: Pool) -> None:
+    def __init__(self, library: CDLL, pairs: Pairs, search: Search, capacities: Array, pool: Pool) -> None:
         """The program of a pool."""
         self._library, self._pairs, self._search, self._pool = library, pairs, search, pool
         self._capacity = capacities
@@ -79,18 +81,18 @@ class PathProgram(ABC):
         self._active = np.zeros(len(capacities), bool)
 
     @abstractmethod
-    def _solve(self, matrix: csc_matrix, best: Optimum | None, deadline: float) -> tuple[np.ndarray, np.ndarray, bool]:
+    def _solve(self, matrix: csc_matrix, best: Optimum | None, deadline: float) -> tuple[Array, Array, bool]:
         """Flows and prices of the paths known so far, and whether they are the best of these."""
 
     @abstractmethod
-    def _carried(self, matrix: csc_matrix, flows: np.ndarray) -> float:
+    def _carried(self, matrix: csc_matrix, flows: Array) -> float:
         """What flows carry."""
 
     @abstractmethod
-    def _bound(self, prices: np.ndarray, distance: np.ndarray) -> float:
+    def _bound(self, prices: Array, distance: Array) -> float:
         """The bound of prices with the least price of a path of each pair."""
 
-    def _limit_of_price(self, shortest: np.ndarray) -> np.ndarray:
+    def _limit_of_price(self, shortest: Array) -> Array:
         """Below which price a path of each pair is worth to be added, by the least price of those that it has."""
         return shortest
 
@@ -120,7 +122,7 @@ class PathProgram(ABC):
         assert best is not None
         return best
 
-    def _price(self, matrix: csc_matrix, prices: np.ndarray, distance: np.ndarray) -> int:
+    def _price(self, matrix: csc_matrix, prices: Array, distance: Array) -> int:
         """Adds a shortest path for each pair all of whose paths cost more; says how many are new."""
         shortest = np.full(len(self._amount), np.inf)
         np.minimum.at(shortest, np.array(self._pool.pair, INDEX), matrix.T @ prices)
@@ -128,7 +130,7 @@ class PathProgram(ABC):
         longer = np.flatnonzero(distance < limit * (1 - TOLERANCE) - NOISE * prices.max(initial=0))
         return add_shortest(self._pool, self._search, longer)
 
-    def _grow_active(self, matrix: csc_matrix, pair: np.ndarray, least: float) -> None:
+    def _grow_active(self, matrix: csc_matrix, pair: Array, least: float) -> None:
         """Adds the cells that the paths can fill to that part, were every pair to use them with its whole amount."""
         counts = np.diff(matrix.indptr)
         cross = csc_matrix((matrix.data, (matrix.indices, np.repeat(pair, counts))), (len(self._capacity), len(self._amount)))
@@ -136,15 +138,15 @@ class PathProgram(ABC):
         most = (cross > 0) @ self._amount
         self._active |= (self._capacity > 0) & (most > self._capacity * least)
 
-    def _pair_rows(self, pair: np.ndarray, shared: np.ndarray) -> csc_matrix:
+    def _pair_rows(self, pair: Array, shared: Array) -> csc_matrix:
         """The rows of some pairs: which of the columns are theirs."""
         row = np.full(len(self._amount), -1, INDEX)
         row[shared] = np.arange(len(shared))
         inside = np.flatnonzero(row[pair] >= 0)
         return csc_matrix((np.ones(len(inside)), (row[pair[inside]], inside)), (len(shared), len(pair) + len(self._rest_status)))
 
-    def _simplex(self, program: csc_matrix, cost: np.ndarray, upper: np.ndarray, room: np.ndarray, columns: np.ndarray,
-                 cells: np.ndarray, shared: np.ndarray, deadline: float, dual: bool = False) -> tuple[np.ndarray, np.ndarray, bool]:
+    def _simplex(self, program: csc_matrix, cost: Array, upper: Array, room: Array, columns: Array,
+                 cells: Array, shared: Array, deadline: float, dual: bool = False) -> tuple[Array, Array, bool]:
         """Values of columns, prices of cells, and whether they are the best; begins with the basis that stands, and keeps the new one.
 
         Columns of the program are those of some paths and then of the rest; rows are those of some cells, and of some pairs. Dual
@@ -170,12 +172,12 @@ class PathProgram(ABC):
 class FractionProgram(PathProgram):
     """The program of the greatest fraction of every amount; the pool has a path of each pair."""
 
-    def __init__(self, library: object, pairs: Pairs, search: Search, capacities: np.ndarray, pool: Pool) -> None:
+    def __init__(self, library: CDLL, pairs: Pairs, search: Search, capacities: Array, pool: Pool) -> None:
         """The program of a pool, with the congestion as its one further column."""
         super().__init__(library, pairs, search, capacities, pool)
         self._rest_status = np.full(1, BASIC, np.uint8)
 
-    def _solve(self, matrix: csc_matrix, best: Optimum | None, deadline: float) -> tuple[np.ndarray, np.ndarray, bool]:
+    def _solve(self, matrix: csc_matrix, best: Optimum | None, deadline: float) -> tuple[Array, Array, bool]:
         """Flows and prices of the paths known so far, and whether they are the best of these."""
         pair = np.array(self._pool.pair, INDEX)
         key = self._pool.key
@@ -183,8 +185,8 @@ class FractionProgram(PathProgram):
         other[key] = False
         others = np.flatnonzero(other)
         base = matrix[:, key] @ self._amount
-        bounded = best is not None and np.isfinite(best.bound)
-        self._grow_active(matrix, pair, (1 - 1e-6) / best.bound if bounded else 0.0)
+        least = (1 - 1e-6) / best.bound if best is not None and np.isfinite(best.bound) else 0.0
+        self._grow_active(matrix, pair, least)
         cells = np.flatnonzero(self._active)
         program = (matrix[:, others] - matrix[:, key[pair[others]]]).tocsr()[cells]
         shared = np.flatnonzero(np.bincount(pair[others], minlength=len(key)) > 1)
@@ -201,7 +203,7 @@ class FractionProgram(PathProgram):
             np.concatenate([-base[cells], self._amount[shared]]) / self._unit, others, cells, shared, deadline)
         return self._flows(pair, others, values[:-1] * self._unit), prices, done
 
-    def _flows(self, pair: np.ndarray, others: np.ndarray, values: np.ndarray) -> np.ndarray:
+    def _flows(self, pair: Array, others: Array, values: Array) -> Array:
         """The flows of all paths, the key paths' too, none below 0 and with the right sums."""
         flows = np.zeros(len(pair))
         flows[others] = np.clip(values, 0, self._amount[pair[others]])
@@ -211,12 +213,12 @@ class FractionProgram(PathProgram):
         flows[self._pool.key] = np.maximum(self._amount - sums / over, 0)
         return flows
 
-    def _carried(self, matrix: csc_matrix, flows: np.ndarray) -> float:
+    def _carried(self, matrix: csc_matrix, flows: Array) -> float:
         """The fraction: 1 over the congestion."""
         used = self._capacity > 0
         return float(1 / ((matrix @ flows)[used] / self._capacity[used]).max())
 
-    def _bound(self, prices: np.ndarray, distance: np.ndarray) -> float:
+    def _bound(self, prices: Array, distance: Array) -> float:
         """Volume over weighted distance."""
         weighted = float(self._amount @ distance)
         return float(self._capacity @ prices) / weighted if weighted > 0 else np.inf

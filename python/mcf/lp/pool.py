@@ -9,6 +9,7 @@ from scipy.sparse import csc_matrix
 
 from mcf import TextError
 
+from .arrays import Array
 from .problem import Walk
 from .search import Search
 
@@ -49,7 +50,7 @@ def add_shortest(pool: Pool, search: Search, which: Iterable[int]) -> int:
     return sum(pool.add(int(pair), search.walk(int(pair))) for pair in which)
 
 
-def complete(pool: Pool, search: Search, lengths: np.ndarray, each: bool = True) -> None:
+def complete(pool: Pool, search: Search, lengths: Array, each: bool = True) -> None:
     """Adds a shortest path for each pair that has none and has a way; with `each`, TextError where one has no way at all."""
     missing = np.flatnonzero(pool.key < 0)
     if not len(missing):

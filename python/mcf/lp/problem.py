@@ -11,6 +11,8 @@ from scipy.sparse.csgraph import dijkstra
 
 from mcf import ScaledNetwork
 
+from .arrays import Array
+
 Walk = tuple[int, ...]
 
 UNLIMITED = -1
@@ -24,12 +26,12 @@ class Pairs:
     `of_commodity` is each commodity's pair, and `turned` says whether it goes from the pair's target to its source.
     """
 
-    source: np.ndarray
-    target: np.ndarray
-    limit: np.ndarray
-    amount: np.ndarray
-    of_commodity: np.ndarray
-    turned: np.ndarray
+    source: Array
+    target: Array
+    limit: Array
+    amount: Array
+    of_commodity: Array
+    turned: Array
 
 
 def pairs_of(scaled: ScaledNetwork, limits: Sequence[int | None] | None = None) -> Pairs:
@@ -49,7 +51,8 @@ def pairs_of(scaled: ScaledNetwork, limits: Sequence[int | None] | None = None) 
         of_commodity.append(pair)
         turned.append(turn)
     table = np.array(list(number), np.int64).reshape(-1, 3)
-    return Pairs(*table.T, np.array(amounts, np.int64), np.array(of_commodity), np.array(turned))
+    source, target, most_cells = table.T
+    return Pairs(source, target, most_cells, np.array(amounts, np.int64), np.array(of_commodity), np.array(turned))
 
 
 class Arcs:
@@ -72,7 +75,7 @@ class Arcs:
         self._graph = csr_matrix((np.ones(len(columns)), columns, rows), (self.nodes, self.nodes))
         self._best = np.zeros(len(self._ends), np.int64)
 
-    def distances(self, lengths: np.ndarray, sources: np.ndarray) -> tuple[np.ndarray, np.ndarray]:
+    def distances(self, lengths: Array, sources: Array) -> tuple[Array, Array]:
         """Distances from sources to all nodes, and the node before each on a shortest path; exact for whole lengths of few bits.
 
         Of parallel cells the shortest one is used, the first of equal ones.
@@ -86,9 +89,10 @@ class Arcs:
         order = np.lexsort((np.arange(len(values)), values, self._of_arc))
         self._best = order[np.searchsorted(self._of_arc[order], np.arange(len(self._ends)))]
         self._graph.data = values[self._best]
-        return dijkstra(self._graph, indices=sources, return_predecessors=True)
+        distances, before = dijkstra(self._graph, indices=sources, return_predecessors=True)
+        return distances, before
 
-    def walk(self, before: np.ndarray, source: int, target: int) -> Walk:
+    def walk(self, before: Array, source: int, target: int) -> Walk:
         """The cells of the path that a row of predecessors has, for the lengths of the last call of `distances`."""
         cells = []
         node = target

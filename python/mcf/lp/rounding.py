@@ -10,6 +10,8 @@ from typing import Iterator, TypeVar
 import numpy as np
 from scipy.sparse import csc_matrix, csr_matrix
 
+from .arrays import Array
+
 MOST_PHASES = 65536
 STEPS = 20_000
 """The most moves of a repair."""
@@ -63,7 +65,7 @@ def best_of(tried: Iterator[AnyWhole], enough: Fraction, deadline: float) -> Any
 class Rounding:
     """Rounds flows of paths whose pairs' sums are whole amounts."""
 
-    def __init__(self, matrix: csc_matrix, pair: np.ndarray, amounts: list[int], capacities: list[int], flows: np.ndarray) -> None:
+    def __init__(self, matrix: csc_matrix, pair: Array, amounts: list[int], capacities: list[int], flows: Array) -> None:
         """`matrix` says which cells each path has, each once; all flows of a pair sum to its amount."""
         self._matrix = matrix.tocsc()
         self._rows: csr_matrix = matrix.tocsr()
@@ -107,7 +109,7 @@ class Rounding:
         multiples = [MOST_PHASES // part * part for part in exact if part <= MOST_PHASES]
         return list(dict.fromkeys(chosen[:1] + multiples + chosen[1:]))
 
-    def _effect(self) -> tuple[csr_matrix, np.ndarray]:
+    def _effect(self) -> tuple[csr_matrix, Array]:
         """What a unit more on each split path, and less on its pair's main path, does to the cells that are nearly full."""
         loads = self._rows @ self._flows
         has = self._capacity > 0
@@ -152,9 +154,10 @@ class Rounding:
         capacity, load = fullest(loads, self._capacities)
         return Whole(phases, weights, capacity, load)
 
-    def _cells(self, column: int) -> np.ndarray:
+    def _cells(self, column: int) -> Array:
         """The cells of a path."""
-        return self._matrix.indices[self._matrix.indptr[column]:self._matrix.indptr[column + 1]]
+        cells: Array = self._matrix.indices[self._matrix.indptr[column]:self._matrix.indptr[column + 1]]
+        return cells
 
     def _move(self, cell: int, weights: list[int], full: Fullness) -> tuple[int, int] | None:
         """The two paths of a pair between which a unit moves off a cell, so that what fills up is least full, and less than the cell."""
@@ -175,7 +178,8 @@ class Rounding:
 
     def _loads(self, weights: list[int]) -> list[int]:
         """The load of each cell, exactly: no path has a cell twice, so no load is over phases times all amounts, at most 2^62."""
-        return (self._whole @ np.array(weights, np.int64)).tolist()
+        loads: list[int] = (self._whole @ np.array(weights, np.int64)).tolist()
+        return loads
 
 
 class Fullness:
@@ -196,7 +200,7 @@ class Fullness:
 
     def after(self, cell: int) -> float:
         """The fullness of a cell with a unit more."""
-        return self.ratio[cell] + 1 / self._capacity[cell]
+        return float(self.ratio[cell] + 1 / self._capacity[cell])
 
     def change(self, cell: int, units: int) -> None:
         """Adds units to a cell's load."""

@@ -111,8 +111,8 @@ def _begin(program: Program, request: Request, deadline: float) -> Begun:
         raise TextError(f"{request.net}: no demand of an amount between two nodes, so there is nothing to carry")
     with tqdm(desc=f"paths of {request.kind.command}", disable=None, leave=False):
         half = deadline - request.seconds / 2
-        is_first = paths is not None and type(paths) is request.kind.certificate
-        first = paths if is_first else first_certificate(source, len(scaled.commodities), half)
+        is_first = isinstance(paths, Certificate) and type(paths) is request.kind.certificate
+        first = paths if isinstance(paths, Certificate) and is_first else first_certificate(source, len(scaled.commodities), half)
     if paths is None:
         return Begun(source, scaled, first, first, False)
     return Begun(source, scaled, in_form(scaled, first, program.form), paths, True)

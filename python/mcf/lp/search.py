@@ -6,13 +6,14 @@ from typing import Protocol
 
 import numpy as np
 
+from .arrays import Array
 from .problem import UNLIMITED, Arcs, Pairs, Walk
 
 
 class Search(Protocol):
     """Shortest paths of pairs among those that are allowed."""
 
-    def distances(self, lengths: np.ndarray) -> np.ndarray:
+    def distances(self, lengths: Array) -> Array:
         """The length of a shortest path of each pair, infinite where it has none; exact for whole lengths of few bits."""
 
     def walk(self, pair: int) -> Walk:
@@ -27,10 +28,11 @@ class AllPaths:
         self._pairs, self._arcs = pairs, arcs
         self._sources, self._row = np.unique(pairs.source, return_inverse=True)
 
-    def distances(self, lengths: np.ndarray) -> np.ndarray:
+    def distances(self, lengths: Array) -> Array:
         """The distance of each pair."""
         found, self._before = self._arcs.distances(lengths, self._sources)
-        return found[self._row, self._pairs.target]
+        of_pairs: Array = found[self._row, self._pairs.target]
+        return of_pairs
 
     def walk(self, pair: int) -> Walk:
         """A shortest path of a pair."""
@@ -40,15 +42,15 @@ class AllPaths:
 class Layers:
     """For each of some sources the least lengths of walks of at most so many cells to all nodes: one layer for each number of cells."""
 
-    def __init__(self, arcs: Arcs, sources: np.ndarray, most: int) -> None:
+    def __init__(self, arcs: Arcs, sources: Array, most: int) -> None:
         """Layers of these sources, up to so many cells."""
         self.sources, self._most, self._nodes = sources, most, arcs.nodes
         self._arcs = arcs.table[np.lexsort((arcs.table[:, 2], arcs.table[:, 0], arcs.table[:, 1]))]
         self._heads, self._first = np.unique(self._arcs[:, 1], return_index=True)
-        self._layers: list[np.ndarray] = []
+        self._layers: list[Array] = []
         self._lengths = np.zeros(0)
 
-    def fill(self, lengths: np.ndarray) -> None:
+    def fill(self, lengths: Array) -> None:
         """Makes the layers of some lengths; there are fewer than were asked for where further ones would be as the last."""
         self._lengths = np.asarray(lengths, np.float64)[self._arcs[:, 2]]
         layer = np.full((self._nodes, len(self.sources)), np.inf)
@@ -67,7 +69,7 @@ class Layers:
         """The number of the last layer; all further ones are as this."""
         return len(self._layers) - 1
 
-    def at(self, cells: int) -> np.ndarray:
+    def at(self, cells: int) -> Array:
         """The layer of walks of at most so many cells: a row for each node, a column for each source."""
         return self._layers[min(cells, self.last)]
 
@@ -103,7 +105,7 @@ class WithinLimits:
         self._column = np.searchsorted(used, self._row)
         self._layers = Layers(arcs, sources[used], int(pairs.limit.max(initial=0)))
 
-    def distances(self, lengths: np.ndarray) -> np.ndarray:
+    def distances(self, lengths: Array) -> Array:
         """The distance of each pair within its limit."""
         limit, target = self._pairs.limit, self._pairs.target
         found = np.zeros(len(limit)) if self._limited.all() else self._free.distances(lengths)

@@ -12,13 +12,12 @@ import numpy as np
 from mcf import (Certificate, Program, Routing, ScaledNetwork, TextError, cells_of_path, judge_of, load_text, nodes_of_walk,
                  read_any, scale)
 
+from ..limits import DEFAULT_PHASES, DEFAULT_STEP, MAX_STEP, MAX_WORK
+from .arrays import Array
 from .kinds import Kind
 from .pool import Pool
 from .problem import UNLIMITED, Pairs, Walk
 
-DEFAULT_STEP = 8192
-DEFAULT_PHASES = 1000
-_MOST_STEP = 1_048_576
 _HEAVIEST = 2
 
 
@@ -55,7 +54,7 @@ def start_phases(commodities: int) -> int:
 
 def step_for(phases: int) -> int:
     """The step with which so few phases spread the paths well."""
-    return min(_MOST_STEP, DEFAULT_STEP * DEFAULT_PHASES // phases)
+    return min(MAX_STEP, DEFAULT_STEP * DEFAULT_PHASES // phases)
 
 
 def first_certificate(source: Source, commodities: int, deadline: float) -> Certificate:
@@ -71,9 +70,9 @@ def first_certificate(source: Source, commodities: int, deadline: float) -> Cert
 
 def longer_certificates(source: Source, commodities: int, deadline: float) -> list[Certificate]:
     """Certificates of two steps with all phases that are allowed, as far as the time goes."""
-    phases = min(DEFAULT_PHASES, 2_097_152 // commodities)
+    phases = min(DEFAULT_PHASES, MAX_WORK // commodities)
     found = []
-    for step in dict.fromkeys((step_for(phases), min(_MOST_STEP, 4 * step_for(phases)))):
+    for step in dict.fromkeys((step_for(phases), min(MAX_STEP, 4 * step_for(phases)))):
         seconds = deadline - time.monotonic()
         if seconds <= 0:
             break
@@ -140,7 +139,7 @@ def pool_of(scaled: ScaledNetwork, pairs: Pairs, text: Routing, elsewhere: bool)
     return pool
 
 
-def lengths_of(scaled: ScaledNetwork, certificate: Certificate) -> np.ndarray:
+def lengths_of(scaled: ScaledNetwork, certificate: Certificate) -> Array:
     """The lengths of a certificate as prices, 0 where a cell has no capacity."""
     number_of = scaled.cell_of(certificate.form)
     prices = np.zeros(len(scaled.cells))

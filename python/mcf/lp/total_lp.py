@@ -8,9 +8,12 @@ pair's other paths.
 
 from __future__ import annotations
 
+from ctypes import CDLL
+
 import numpy as np
 from scipy.sparse import csc_matrix, vstack
 
+from .arrays import Array
 from .clp import AT_LOWER, AT_UPPER
 from .path_lp import TOLERANCE, Optimum, PathProgram
 from .pool import INDEX, Pool
@@ -25,12 +28,12 @@ FEW = 4000
 class TotalProgram(PathProgram):
     """The program of the greatest total; pairs without a path in the pool are not carried."""
 
-    def __init__(self, library: object, pairs: Pairs, search: Search, capacities: np.ndarray, pool: Pool) -> None:
+    def __init__(self, library: CDLL, pairs: Pairs, search: Search, capacities: Array, pool: Pool) -> None:
         """The program of a pool; no pair has a row yet."""
         super().__init__(library, pairs, search, capacities, pool)
         self._full = np.zeros(len(self._amount), bool)
 
-    def _solve(self, matrix: csc_matrix, best: Optimum | None, deadline: float) -> tuple[np.ndarray, np.ndarray, bool]:
+    def _solve(self, matrix: csc_matrix, best: Optimum | None, deadline: float) -> tuple[Array, Array, bool]:
         """Flows and prices of the paths known so far, and whether they are the best of these."""
         pair = np.array(self._pool.pair, INDEX)
         self._grow_active(matrix, pair, 1.0)
@@ -47,8 +50,8 @@ class TotalProgram(PathProgram):
         sums = np.bincount(pair, flows, minlength=len(self._amount))
         return flows / np.maximum(sums / self._amount, 1)[pair], prices, done
 
-    def _with_rows(self, matrix: csc_matrix, pair: np.ndarray, cells: np.ndarray, deadline: float,
-                   dual: bool) -> tuple[np.ndarray, np.ndarray, bool]:
+    def _with_rows(self, matrix: csc_matrix, pair: Array, cells: Array, deadline: float,
+                   dual: bool) -> tuple[Array, Array, bool]:
         """Values, prices and whether they are the best, with rows of some cells and of the pairs that have one."""
         full = np.flatnonzero(self._full)
         program = vstack([matrix.tocsr()[cells], self._pair_rows(pair, full)]).tocsc()
@@ -56,23 +59,23 @@ class TotalProgram(PathProgram):
         return self._simplex(program, np.full(len(pair), -1.0), self._amount[pair] / self._unit, room, np.arange(len(pair)), cells,
                              full, deadline, dual)
 
-    def _grow_full(self, pair: np.ndarray, values: np.ndarray) -> bool:
+    def _grow_full(self, pair: Array, values: Array) -> bool:
         """Gives a row to each pair whose paths carry too much; says whether there is one."""
         sums = np.bincount(pair, values, minlength=len(self._amount)) * self._unit
         over = (sums > self._amount * (1 + TOLERANCE)) & ~self._full
         self._full |= over
         return bool(over.any())
 
-    def _carried(self, matrix: csc_matrix, flows: np.ndarray) -> float:
+    def _carried(self, matrix: csc_matrix, flows: Array) -> float:
         """The sum of all flows; less by the fullest cell's part where it is overfull by more than noise, as before an optimum."""
         used = self._capacity > 0
         full = float(((matrix @ flows)[used] / self._capacity[used]).max(initial=0.0))
         return float(flows.sum()) / (full if full > 1 + NOISE_OF_LOADS else 1.0)
 
-    def _bound(self, prices: np.ndarray, distance: np.ndarray) -> float:
+    def _bound(self, prices: Array, distance: Array) -> float:
         """Volume and excess over the threshold 1."""
         return float(self._capacity @ prices + self._amount @ np.maximum(1 - distance, 0))
 
-    def _limit_of_price(self, shortest: np.ndarray) -> np.ndarray:
+    def _limit_of_price(self, shortest: Array) -> Array:
         """The least price, but no more than a unit is worth."""
         return np.minimum(shortest, 1.0)

@@ -13,6 +13,7 @@ from typing import Iterator
 import numpy as np
 from scipy.sparse import csc_matrix
 
+from .arrays import Array
 from .near import DENOMINATORS, near_fractions
 from .rounding import Whole, best_of
 
@@ -41,7 +42,7 @@ class WholeTotal(Whole):
 class TotalRounding:
     """Rounds flows of paths that are at most the amounts of their pairs and the capacities of their cells, but for noise."""
 
-    def __init__(self, matrix: csc_matrix, pair: np.ndarray, amounts: list[int], capacities: list[int], flows: np.ndarray) -> None:
+    def __init__(self, matrix: csc_matrix, pair: Array, amounts: list[int], capacities: list[int], flows: Array) -> None:
         """`matrix` says which cells each path has, each once."""
         self._pair, self._amounts, self._capacities, self._flows = pair.tolist(), amounts, capacities, flows
         places = np.split(matrix.indices, matrix.indptr[1:-1]) if len(pair) else []

@@ -10,6 +10,7 @@ import subprocess
 import tarfile
 import tempfile
 from pathlib import Path
+from typing import IO, cast
 
 from mcf import Program, TextError
 
@@ -74,7 +75,7 @@ def archive(root: Path, program: Path, seconds: int) -> tuple[str, bytes]:
     name = f"mcf-{version_of(root)}-x86_64-linux"
     packed = io.BytesIO()
     with gzip.GzipFile(filename="", mode="wb", fileobj=packed, mtime=seconds) as zipped, \
-            tarfile.open(fileobj=zipped, mode="w", format=tarfile.USTAR_FORMAT) as tar:
+            tarfile.open(fileobj=cast(IO[bytes], zipped), mode="w", format=tarfile.USTAR_FORMAT) as tar:
         for file, (mode, data) in sorted(files_of(root, program).items()):
             info = tarfile.TarInfo(f"{name}/{file}")
             info.size, info.mode, info.mtime, info.uname, info.gname = len(data), mode, seconds, "root", "root"

@@ -6,9 +6,11 @@ import time
 from fractions import Fraction
 
 import numpy as np
+from scipy.sparse import csc_matrix
 from tqdm import tqdm
 
 from mcf import ScaledNetwork, TextError
+from mcf.lp.arrays import Array
 from mcf.lp.build import shares_of_demands
 from mcf.lp.clp import load_clp
 from mcf.lp.path_lp import FractionProgram
@@ -65,9 +67,9 @@ def _pool(scaled: ScaledNetwork, pairs: Pairs, ways: Ways, count: int, notes: li
     return pool
 
 
-def _aim(amounts: list[int], capacities: list[int], cells: object, pair: np.ndarray, prices: np.ndarray, carried: float) -> Fraction:
+def _aim(amounts: list[int], capacities: list[int], cells: csc_matrix, pair: Array, prices: Array, carried: float) -> Fraction:
     """What no split over these paths can pass: an exact bound of the prices, or the linear program's own number and a little more."""
-    def shortest(lengths: np.ndarray) -> np.ndarray:
+    def shortest(lengths: Array) -> Array:
         """The least length of a path of each pair."""
         found = np.full(len(amounts), np.inf)
         np.minimum.at(found, pair, cells @ lengths.astype(np.float64))

@@ -2,9 +2,10 @@
 
 from __future__ import annotations
 
+from collections.abc import Callable
 from math import lcm
 
-from mcf import ScaledNetwork, TextError, fraction_of
+from mcf import Link, ScaledNetwork, TextError, fraction_of
 
 METHODS = ("hops", "capacity", "cost", "ecmp", "k-paths")
 LENGTHS = ("hops", "capacity", "cost")
@@ -27,7 +28,8 @@ def whole_lengths(scaled: ScaledNetwork, by: str, cost: str) -> list[int]:
 def _costs(scaled: ScaledNetwork, cost: str) -> list[int]:
     """Costs of the file over one denominator."""
     links = scaled.network.links
-    words = {"routing": lambda link: link.routing_cost, "capacity": lambda link: link.capacity_cost, "setup": lambda link: link.setup_cost}
+    words: dict[str, Callable[[Link], str]] = {
+        "routing": lambda link: link.routing_cost, "capacity": lambda link: link.capacity_cost, "setup": lambda link: link.setup_cost}
     try:
         costs = [fraction_of(words[cost](links[cell.link])) for cell in scaled.cells]
     except TextError as error:
