@@ -23,8 +23,7 @@ import sys
 from typing import NoReturn
 
 from mcf import LINK_MODES, MODULES, find_program
-from mcf.arguments import Arguments
-from mcf.cli.values import seconds
+from mcf.arguments import Arguments, seconds
 from mcf.needs import needed
 from mcf.output import main_of, require_output, write
 from mcf.route.lengths import COSTS, LENGTHS, METHODS
