@@ -1,10 +1,11 @@
 -- A run of fewer workers is a run of more.
-use Rattle.std.proofs.Common.{◌≡◌, inl, inr, ℕ, ◌≤◌, List, subst, arith}
+use Rattle.std.proofs.Common.{◌≡◌, ◌⊎◌, inl, inr, ℕ, ◌≤◌, ◌<◌, [], List, length, subst, sym, arith}
 use Rattle.flow_model.specs.Network.{Network}
+use Rattle.flow_model.specs.Least.{HasCut, HasNoCut}
 use Rattle.flow_core.specs.Phase.{Routed}
 use Rattle.solver_run.specs.declared.options.SolveOptions.{SolveOptions}
 use Rattle.solver_run.specs.History.{SolvedView, AreRoutedBy}
-use Rattle.solver_run.specs.Run.{IsPhasedRun, IsSolverRun}
+use Rattle.solver_run.specs.Run.{ArePhases, IsCutProof, IsPhasedRun, IsSolverRun}
 use Rattle.flow_solver.specs.Fewer.{IsWithFewer}
 
 -- options with so many workers
