@@ -13,6 +13,16 @@ sys.path[:0] = [str(ROOT / "python"), str(ROOT / "bench")]
 
 from mcf import Program, find_program  # noqa: E402
 
+try:
+    from hypothesis import settings
+except ImportError:
+    pass
+else:
+    # (the quick one draws the same inputs each time; the long one others, of a seed that it tells)
+    settings.register_profile("quick", max_examples=40, deadline=None, derandomize=True, database=None)
+    settings.register_profile("long", max_examples=10_000, deadline=None, database=None, print_blob=True)
+    settings.load_profile("long" if os.environ.get("MCF_LONG") else "quick")
+
 
 @pytest.fixture(scope="session")
 def root() -> Path:
