@@ -11,7 +11,7 @@ from pathlib import Path
 
 import pytest
 
-from mcf.build.copying import copy_below
+from mcf.build.copying import copy_below, copy_wide
 from mcf.build.crates import Crate, crates_below
 from mcf.build.progress import Progress
 
@@ -256,6 +256,17 @@ def test_the_copy_has_what_the_program_is_built_of(root: Path, tmp_path: Path) -
         str(path.relative_to(root))
         for name in below
         for path in (root / "crates" / name).rglob("*")
-        if path.is_file() and not {"out", "must-fail"} & set(path.relative_to(root).parts)
+        if path.is_file() and not {"out", "must-fail", "wrong-bodies"} & set(path.relative_to(root).parts)
     }
     assert made == there
+
+
+def test_the_copy_of_the_wide_program_has_other_limits_alone(root: Path, tmp_path: Path) -> None:
+    copy_below(str(root), "mcf", str(tmp_path / "room"))
+    copy_wide(str(root), "mcf", str(tmp_path / "wide"))
+    names = {str(path.relative_to(tmp_path / "room")) for path in (tmp_path / "room").rglob("*") if path.is_file()}
+    assert names == {str(path.relative_to(tmp_path / "wide")) for path in (tmp_path / "wide").rglob("*") if path.is_file()}
+    other = {name for name in names if (tmp_path / "room" / name).read_bytes() != (tmp_path / "wide" / name).read_bytes()}
+    assert other == {"crates/mcf_limits/src/lib.rt", "crates/mcf_limits/src/laws.rt"}
+    assert "pub const MAX_NODES: u16 = 1000;" in (tmp_path / "wide/crates/mcf_limits/src/lib.rt").read_text()
+    assert "wide_limits" not in (tmp_path / "wide/crates/mcf_limits/src/laws.rt").read_text()

@@ -1,7 +1,7 @@
 """Copies what rt writes from standard input into LOG, and tells on one line of standard error how far the build is; or, with the word
-`copy`, copies the crates that a crate is built of into a folder.
+`copy`, copies the crates that a crate is built of into a folder, with `copy-wide` those of the program with wide limits.
 
-usage: python3 python/mcf/build copy TOP CRATE ROOM              with the repository at TOP
+usage: python3 python/mcf/build copy TOP CRATE ROOM             with the repository at TOP; copy-wide TOP CRATE ROOM
        rt ci 2>&1 | python3 python/mcf/build LOG TOP CRATE
 """
 
@@ -14,7 +14,7 @@ from collections.abc import Iterator
 
 sys.path.insert(0, os.path.dirname(os.path.dirname(os.path.dirname(os.path.abspath(__file__)))))
 
-from mcf.build.copying import copy_below  # noqa: E402
+from mcf.build.copying import copy_below, copy_wide  # noqa: E402
 from mcf.build.crates import crates_below  # noqa: E402
 from mcf.build.progress import Progress  # noqa: E402
 
@@ -57,6 +57,8 @@ def main() -> None:
     signal.signal(signal.SIGINT, signal.SIG_DFL)
     if sys.argv[1] == "copy":
         copy_below(*sys.argv[2:])
+    elif sys.argv[1] == "copy-wide":
+        copy_wide(*sys.argv[2:])
     else:
         tell(*sys.argv[1:])
 
