@@ -5,7 +5,7 @@
 answer_help() {
     case $#/${1-} in
         1/--version)
-            printf 'mcf %s\n' "$(cat "$here/VERSION")"
+            printf '%s %s\n' "${name:-mcf}" "$(cat "$here/VERSION")"
             exit
             ;;
         1/--help | 1/-h | 1/help) page=mcf ;;
