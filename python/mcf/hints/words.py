@@ -8,14 +8,16 @@ from collections.abc import Callable, Iterator
 from dataclasses import dataclass
 from fractions import Fraction
 
+from ..limits import MAX_DEMANDS, MAX_LINKS, MAX_NODES, MAX_PHASES, MAX_STEP, MAX_WORKERS
+
 MODES = {"--links": ("directed", "undirected", "bidirected"), "--modules": ("none", "largest", "sum")}
-RANGES = {"--phases": (1, 65_536), "--workers": (1, 16), "--step": (1, 1_048_576)}
+RANGES = {"--phases": (1, MAX_PHASES), "--workers": (1, MAX_WORKERS), "--step": (1, MAX_STEP)}
 OPTIONS = ("--links", "--modules", "--gap", "--phases", "--workers", "--step")
 ONE_WORKER_OPTIONS = tuple(option for option in OPTIONS if option != "--workers")
 FILES = ("NET", "CERT", "SCRIPT")
 READ_ORDER = ("NET", "CERT", "CERT2", "LIST", "SCRIPT")
 HOP_OPTIONS = ("--hops", "--hop", "--hop-limit", "--max-hops", "--limit")
-DRAWN = {"SEED": (0, 2**64 - 1), "NODES": (2, 512), "LINKS": (2, 4096), "DEMANDS": (1, 32_768)}
+DRAWN = {"SEED": (0, 2**64 - 1), "NODES": (2, MAX_NODES), "LINKS": (2, MAX_LINKS), "DEMANDS": (1, MAX_DEMANDS)}
 
 _NUMBER = re.compile(r"(?:[0-9]+\.?[0-9]*|\.[0-9]+)(?:[Ee][+-]?[0-9]{1,2})?")
 _DIGITS = re.compile(r"[0-9]{1,20}")
