@@ -7,6 +7,7 @@ from __future__ import annotations
 
 import csv
 import io
+import re
 import tempfile
 from collections.abc import Iterator
 from dataclasses import dataclass
@@ -283,7 +284,9 @@ def test_any_other_unit_is_refused(room: Room, tail: str) -> None:
         room.convert(room.write("t.csv", f"source,target,capacity\nA,B,7{word}\n"), to="links", unit="bit", bytes=True)
     except Refused:
         return
-    assert word.lower() in known or word.isdigit() or word[:1] in "eE"
+    # (digits in front go on with the number, and so may an exponent)
+    fitting = re.fullmatch(r"[0-9]*(?:[eE]-?[0-9]{1,2})?\s*(.*)", word)
+    assert fitting and fitting[1].lower() in known | {""}
 
 
 # graphs beside networkx
