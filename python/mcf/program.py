@@ -3,6 +3,8 @@
 from __future__ import annotations
 
 import os
+import shutil
+import signal
 import subprocess
 import tempfile
 from dataclasses import dataclass
@@ -12,7 +14,11 @@ from pathlib import Path
 from . import children
 from .certificate import save_text
 from .errors import TextError
+from .hints.hint import explained
 from .network import Network, read_network
+
+ROOT = Path(__file__).resolve().parents[2]
+BUILD = "./mcf there builds it, which takes from 20 minutes to an hour since all is proved first; or name one by --mcf, or by MCF"
 
 TINY = ("?SNDlib native format; type: network; version: 1.0\nNODES (\n  A\n  B\n)\nLINKS (\n  L ( A B ) 1 0 0 0 ( )\n)\n"
         "DEMANDS (\n  D ( A B ) 1 1 UNLIMITED\n)\n")
@@ -40,8 +46,8 @@ class Program:
     def run(self, *words: str, seconds: float | None = None) -> Answer:
         """Runs a command; TextError where the program cannot be started or takes longer than so many seconds."""
         try:
-            # (the starter's hints are for a person who called it)
-            done = children.run([self.path, *words], seconds, environment={**os.environ, "MCF_HINTS": "0"})
+            # (the starter's hints are for a person who called it, and so is the hour in which it builds the program)
+            done = children.run([self.path, *words], seconds, environment={**os.environ, "MCF_HINTS": "0", "MCF_BUILD": "0"})
         except OSError as error:
             raise TextError(f"{self.path}: {error.strerror}") from error
         except subprocess.TimeoutExpired as error:
@@ -49,10 +55,10 @@ class Program:
         return Answer(done.returncode, done.stdout.decode("latin-1"))
 
     def ask(self, *words: str, statuses: tuple[int, ...] = (0,), seconds: float | None = None) -> str:
-        """The text that a command wrote; TextError, with its line, where the status is another one."""
+        """The text that a command wrote; TextError, with its line and what that means, where the status is another one."""
         answer = self.run(*words, seconds=seconds)
         if answer.status not in statuses:
-            raise TextError(f"mcf {' '.join(words)}: {answer.line or f'status {answer.status}'}")
+            raise TextError(f"mcf {words[0]}: {explained(answer.line, [*words]) if answer.line else _silent(answer.status)}")
         return answer.text
 
     def network(self, file: str | Path) -> Network:
@@ -80,11 +86,43 @@ class Program:
 
 
 def find_program(path: str | None = None) -> Program:
-    """The program: the path given, else that of the environment's MCF, else `mcf` at the top of the repository."""
-    found = path or os.environ.get("MCF") or str(Path(__file__).resolve().parents[2] / "mcf")
+    """The program: the path given, else that of the environment's MCF, else the one that was built; TextError where there is none.
+
+    Nothing is built here: the starter `mcf` of the repository would first prove everything, which takes up to an hour.
+    """
+    found = path or os.environ.get("MCF") or built_program(ROOT)
     if not os.path.isfile(found):
         raise TextError(f"{found}: no such program; name it by --mcf, or by MCF in the environment")
     return Program(os.path.abspath(found))
+
+
+def built_program(root: Path) -> str:
+    """The path of the program that was built in a repository, or lies in a release, or else is on the path."""
+    if not (root / "crates").is_dir():
+        there = root / "program/mcf"
+        found = str(there) if there.is_file() else shutil.which("mcf")
+        if found is None:
+            raise TextError("there is no program mcf here or on the path: name one by --mcf, or by MCF in the environment")
+        return found
+    built = [file for file in (root / "crates/mcf/out/mcf", root / ".built/mcf") if file.is_file()]
+    fresh = next((file for file in built if not is_old(file, root / "crates")), None)
+    if fresh is None:
+        raise TextError(f"the program in {root} {'is older than its sources' if built else 'was not built yet'}: {BUILD}")
+    return str(fresh)
+
+
+def is_old(program: Path, crates: Path) -> bool:
+    """Whether a source is newer than a program."""
+    time = program.stat().st_mtime_ns
+    sources = (file for kind in ("*.rt", "*.antt") for file in crates.rglob(kind) if "out" not in file.relative_to(crates).parts)
+    return any(file.stat().st_mtime_ns > time for file in sources)
+
+
+def _silent(status: int) -> str:
+    """What is said of an end without a line."""
+    if status < 0:
+        return f"ended by {signal.Signals(-status).name}"
+    return "it could not be started, or took no words that are not UTF-8: status 7" if status == 7 else f"status {status}"
 
 
 def _word(file: str | Path) -> str:

@@ -42,13 +42,15 @@ def _told(line: str, sentence: str, part: int) -> str:
 
 
 def explained(line: str, words: list[str]) -> str:
-    """A line that the program wrote for words, with the sentence on it, and without the names of files, which may be temporary."""
+    """A line that the program wrote for words, with the sentence on it; files that are there are not named, since they may be temporary."""
     try:
         request = read(words)
     except Misfit:
         return line
     if line == "refused net N1 line 1":
         return f"{line}: it {kind_of(front_of(request.words['NET']))}"
+    if line == "read fault":
+        return f"{line}: {_unreadable(request)}"
     row = _row_of(line, request)
     return f"{line}: {row.sentence}" if row else line
 

@@ -13,6 +13,7 @@ from pathlib import Path
 from typing import IO, cast
 
 from mcf import Program, TextError
+from mcf.program import is_old
 
 # whole folders, and files by name or pattern, that are shipped as they stand
 SHIPPED = ("VERSION", "LICENSE-APACHE", "LICENSE-MIT", "docs", "examples", "python/mcf/*.py", "python/mcf/hints", "tools/mcf_texts")
@@ -30,16 +31,9 @@ def version_of(root: Path) -> str:
 def built_program(root: Path) -> Path:
     """The program that was built and is not older than any source; TextError where there is none."""
     for program in (root / "crates/mcf/out/mcf", root / ".built/mcf"):
-        if program.is_file() and not _is_old(program, root / "crates"):
+        if program.is_file() and not is_old(program, root / "crates"):
             return program
     raise TextError("the program is missing or older than its sources: run ./mcf once, or name one by --mcf")
-
-
-def _is_old(program: Path, crates: Path) -> bool:
-    """Whether a source is newer than the program."""
-    time = program.stat().st_mtime_ns
-    sources = (file for kind in ("*.rt", "*.antt") for file in crates.rglob(kind) if "out" not in file.relative_to(crates).parts)
-    return any(file.stat().st_mtime_ns > time for file in sources)
 
 
 def is_for_this_kind(program: Path) -> bool:
