@@ -6,6 +6,7 @@ import os
 import pty
 import shutil
 import subprocess
+import sys
 import threading
 from pathlib import Path
 
@@ -153,6 +154,59 @@ def test_a_build_that_fails_leaves_no_older_program(clone: Path, monkeypatch: py
         assert (status, out) == (7, "")
         assert "rt: the library low did not build" in err and err.endswith("mcf: the program was not built\n")
     assert list((clone.parent / "tmp").iterdir()) == []
+
+
+def as_nobody(clone: Path, *words: str) -> tuple[int, str, str]:
+    """A run of a user who may read the clone alone."""
+    front = ["setpriv", "--reuid=65534", "--regid=65534", "--clear-groups"] if os.geteuid() == 0 else []
+    for folder in (clone, *clone.parents):
+        if folder.is_relative_to("/tmp/") or folder.name.startswith("pytest"):
+            folder.chmod(folder.stat().st_mode | 0o055)
+    ran = subprocess.run([*front, str(clone / "mcf"), *words], capture_output=True, text=True, cwd="/")
+    return ran.returncode, ran.stdout, ran.stderr
+
+
+def test_no_proof_is_begun_for_a_user_who_cannot_keep_it(clone: Path, monkeypatch: pytest.MonkeyPatch) -> None:
+    run(clone)
+    assert as_nobody(clone, "x") == (0, "built x\n", "")
+    set_time(clone / "crates/mcf/src/lib.rt", 10)
+    folder = clone / "crates/mcf/out"
+    folder.chmod(0o555)
+    status, out, err = as_nobody(clone, "x")
+    assert (status, out) == (7, "") and err == f"mcf: the program is older than its sources, and this user cannot put another one into {folder}\n"
+    shutil.rmtree(clone / ".built")
+    folder.chmod(0o755)
+    shutil.rmtree(folder)
+    folder.parent.chmod(0o555)
+    assert as_nobody(clone, "x") == (7, "", f"mcf: the program was not built yet, and this user cannot put another one into {folder}\n")
+    folder.parent.chmod(0o755)
+    assert len(calls(clone)) == 1
+
+
+def test_no_proof_is_begun_where_a_folder_is_in_the_way(clone: Path) -> None:
+    (clone / "crates/mcf/out/mcf").mkdir(parents=True)
+    set_time(clone / "crates/mcf/src/lib.rt", 10)
+    status, out, err = run(clone, "x")
+    assert (status, out) == (7, "") and err.count("\n") == 1 and "cannot put another one into" in err and calls(clone) == []
+
+
+def test_a_tool_never_builds(clone: Path, monkeypatch: pytest.MonkeyPatch) -> None:
+    words = [sys.executable, "-c", f"import sys; sys.path.insert(0, {str(clone / 'python')!r})\n"
+             "from mcf import TextError, find_program\ntry:\n    print(find_program().run('x').text or find_program().run('x'))\n"
+             "except TextError as why:\n    print(why)\n"]
+    monkeypatch.delenv("MCF", raising=False)
+    done = lambda: subprocess.run(words, capture_output=True, text=True).stdout  # noqa: E731
+    assert done().startswith(f"the program in {clone} was not built yet: ./mcf there builds it, which takes from 20 minutes to an hour")
+    assert calls(clone) == []
+    monkeypatch.setenv("MCF", str(clone / "mcf"))
+    assert done() == "Answer(status=7, text='')\n" and calls(clone) == []
+    monkeypatch.delenv("MCF")
+    run(clone)
+    assert done() == "built x\n\n"
+    (clone / "crates/mcf/out").rename(clone / "crates/mcf/aside")
+    assert done() == "built x\n\n"
+    set_time(clone / "crates/mcf/src/lib.rt", 10)
+    assert done().startswith(f"the program in {clone} is older than its sources: ") and len(calls(clone)) == 1
 
 
 def test_without_the_toolchain_one_line_says_so(clone: Path, monkeypatch: pytest.MonkeyPatch) -> None:
