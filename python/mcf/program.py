@@ -2,10 +2,12 @@
 
 from __future__ import annotations
 
+import errno
 import os
 import shutil
 import signal
 import subprocess
+import sysconfig
 import tempfile
 from dataclasses import dataclass
 from functools import cached_property
@@ -45,6 +47,8 @@ class Program:
 
     def run(self, *words: str, seconds: float | None = None) -> Answer:
         """Runs a command; TextError where the program cannot be started or takes longer than so many seconds."""
+        if not os.access(self.path, os.X_OK):
+            raise TextError(f"{self.path}: {os.strerror(errno.EACCES if os.path.exists(self.path) else errno.ENOENT)}")
         try:
             # (the starter's hints are for a person who called it, and so is the hour in which it builds the program)
             done = children.run([self.path, *words], seconds, environment={**os.environ, "MCF_HINTS": "0", "MCF_BUILD": "0"})
@@ -97,10 +101,10 @@ def find_program(path: str | None = None) -> Program:
 
 
 def built_program(root: Path) -> str:
-    """The path of the program that was built in a repository, or lies in a release, or else is on the path."""
+    """The path of the program that was built in a repository, or lies in a release or beside this Python's scripts, or else is on the path."""
     if not (root / "crates").is_dir():
-        there = root / "program/mcf"
-        found = str(there) if there.is_file() else shutil.which("mcf")
+        there = (root / "program/mcf", Path(sysconfig.get_path("scripts"), "mcf"))
+        found = next((str(file) for file in there if file.is_file()), shutil.which("mcf"))
         if found is None:
             raise TextError("there is no program mcf here or on the path: name one by --mcf, or by MCF in the environment")
         return found

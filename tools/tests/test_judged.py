@@ -7,7 +7,8 @@ from pathlib import Path
 
 import pytest
 
-from mcf import Certificate, HopCertificate, Program, Routing, TextError, TotalCertificate, load_text
+from mcf import Program, TextError, load_text
+from mcf.certificate import Certificate, HopCertificate, Routing, TotalCertificate
 from mcf.judged import Judged, NotValid, judge, judge_file
 from mcf.ranges import Range
 

@@ -13,19 +13,9 @@ from pathlib import Path
 import pytest
 
 import browser
-from mcf import (
-    Certificate,
-    Length,
-    Network,
-    Path as Route,
-    Potential,
-    Program,
-    load_text,
-    read_any,
-    read_certificate,
-    read_network,
-    scale,
-)
+from mcf import Length, Path as Route, Potential, Program, load_text, read_any, read_certificate, read_network, scale
+from mcf.certificate import Certificate
+from mcf.network import Network
 from mcf.report import drawing, layout, page, sentences, shown, tables
 from mcf.report.figures import Figures
 

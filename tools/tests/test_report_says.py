@@ -24,7 +24,8 @@ pytest.importorskip("hypothesis", reason="python3-hypothesis is missing: tools/s
 from hypothesis import given  # noqa: E402
 from hypothesis import strategies as st  # noqa: E402
 
-from mcf import Network, Node, Program, TextError, load_text, read_any, read_network, scale  # noqa: E402
+from mcf import Node, Program, TextError, load_text, read_any, read_network, scale  # noqa: E402
+from mcf.network import Network  # noqa: E402
 from mcf.matrices import answers, matrices, unit_of, with_demands  # noqa: E402
 from mcf.report import drawing, layout, page, sentences, shown, tables  # noqa: E402
 from mcf.report.figures import Figures  # noqa: E402
