@@ -65,6 +65,10 @@ class Answer:
         """The core's rows of the text, for `mcf.loads`, `mcf.lengths` and the like."""
         return core.read_any(self.data.decode("latin-1"))
 
+    def require_rows(self) -> None:
+        """TextError, with the line, where the text is none."""
+        getattr(self, "rows")
+
     @cached_property
     def scaled(self) -> ScaledNetwork:
         """The network in whole units, with links and modules as the text reads them."""
@@ -321,15 +325,15 @@ class TotalCertificate(Certificate):
         return [share * volume / whole if whole else Fraction(0) for share in super()._shares()]
 
 
-_KINDS: tuple[tuple[type[core.Routing], type[Answer]], ...] = (
-    (core.HopCertificate, HopCertificate), (core.TotalCertificate, TotalCertificate), (core.Certificate, Certificate))
+_KINDS: dict[str, type[Answer]] = {
+    core.Routing.header: Routing, core.HopCertificate.header: HopCertificate, core.TotalCertificate.header: TotalCertificate}
 
 
 def answer_of(network: Network, data: bytes) -> Answer:
-    """The answer of a text, of its own kind."""
-    rows = core.read_any(data.decode("latin-1"))
-    made = next((kind for known, kind in _KINDS if isinstance(rows, known)), Routing)(network, data)
-    made.__dict__["rows"] = rows
+    """The answer of a text, of its own kind; TextError, with the line, where it is none."""
+    kind = _KINDS.get(data.split(b" ", 1)[0].decode("latin-1"), Certificate)
+    made = kind(network, data)
+    made.require_rows()
     return made
 
 

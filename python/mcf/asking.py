@@ -3,8 +3,11 @@
 from __future__ import annotations
 
 import os
+import warnings
 from collections.abc import Iterator, Mapping, Sequence
 from fractions import Fraction
+from functools import lru_cache
+from importlib import import_module
 from typing import TYPE_CHECKING, Any, TypeVar
 
 from . import certificate as core
@@ -13,6 +16,7 @@ from .commands import Judgement, ask, judgement_of, option_words, sentence_of
 from .errors import Invalid, McfError, NoProgram, TextError
 from .given import decimal_word, name_of, number_of, word_of
 from .limits import DEFAULT_PHASES, MAX_DEMANDS, MAX_MATRICES, MAX_WORK
+from .needs import needed
 from .program import find_program
 from .running import run_tool
 from .scaled import scale
@@ -216,6 +220,16 @@ def _tightened(network: Network, texts: Mapping[str, bytes], timeout: float | No
 
 
 def _bar(what: str, progress: bool, total: int | None = None) -> Any:
-    """A bar of progress, in a notebook too."""
-    from tqdm.auto import tqdm
-    return tqdm(desc=what, total=total, disable=None if progress else True, leave=False)
+    """A bar of progress on a terminal, and in a notebook that can show one."""
+    with needed():
+        return _bars(progress)(desc=what, total=total, disable=None if progress else True, leave=False)
+
+
+@lru_cache(maxsize=2)
+def _bars(progress: bool) -> Any:
+    """The bars of tqdm; where a notebook has no widgets, the plain ones, without a warning."""
+    if not progress:
+        return import_module("tqdm").tqdm
+    with warnings.catch_warnings():
+        warnings.simplefilter("ignore")
+        return import_module("tqdm.auto").tqdm

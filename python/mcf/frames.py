@@ -102,9 +102,7 @@ def table_of(given: object, kind: str) -> Table:
 
     ValueError where a column is missing or stands twice.
     """
-    data = given.copy(deep=True) if isinstance(given, (pandas.DataFrame, pandas.Series)) else pandas.DataFrame(given)
-    if isinstance(data, pandas.Series):
-        data = _frame_of_series(data)
+    data = _frame_of(given, kind)
     own = _OWN[kind]
     levels = [name for name in data.index.names if name in own and name not in data.columns]
     data = data.reset_index(level=levels) if levels else data
@@ -119,8 +117,16 @@ def table_of(given: object, kind: str) -> Table:
     return Table(kind, columns, list(data.index), rest)
 
 
-def _frame_of_series(series: pandas.Series) -> pandas.DataFrame:
-    """The frame of a series of amounts with both ends as its index."""
+def _frame_of(given: object, kind: str) -> pandas.DataFrame:
+    """A frame of its own, of a frame, of a series of amounts with both ends as its index, or of what pandas makes a frame of."""
+    if isinstance(given, pandas.DataFrame):
+        return given.copy(deep=True)
+    if not isinstance(given, pandas.Series):
+        try:
+            return pandas.DataFrame(given)
+        except (ValueError, TypeError) as error:
+            raise ValueError(f"{kind}: a frame is wanted, and pandas makes none of this {type(given).__name__}: {error}") from None
+    series = given.copy(deep=True)
     if series.index.nlevels == 2 and list(series.index.names) == [None, None]:
         series.index = series.index.set_names(["source", "target"])
     return series.rename("amount").to_frame()
@@ -193,6 +199,7 @@ class Names:
     def __init__(self) -> None:
         """No word is taken yet."""
         self._taken: dict[str, str] = {}
+        self._last: dict[str, int] = {}
 
     def own(self, name: object, source: str, target: str, what: str) -> str:
         """The word of a row; ValueError where another row has its id."""
@@ -205,10 +212,11 @@ class Names:
     def _free(self, first: str) -> str:
         """A word of both ends, with the least number behind it that makes it free."""
         stem = first if len(first) <= MAX_WORD_BYTES - 8 else "row"
-        word, number = stem, 1
+        word, number = stem, self._last.get(stem, 1)
         while word in self._taken:
             number += 1
             word = f"{stem}_{number}"
+        self._last[stem] = number
         return word
 
 

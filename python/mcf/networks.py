@@ -10,6 +10,7 @@ from __future__ import annotations
 import os
 from collections.abc import Collection, Iterable, Mapping, Sequence
 from dataclasses import dataclass, field, replace
+from functools import cached_property
 from typing import TYPE_CHECKING, Any, NamedTuple, Union
 
 from . import asking
@@ -119,7 +120,7 @@ class Network:
         """Whether links go from source to target alone, unless a call says otherwise."""
         return self.mode == "directed"
 
-    @property
+    @cached_property
     def data(self) -> bytes:
         """The text that the program reads: the file's own, if it was a network file, else one line for each row."""
         return write_network(self.rows).encode("latin-1") if self._file is None else self._file
@@ -325,8 +326,9 @@ def read(path: Path, *more: Path, **options: Any) -> Network:
 
     Formats are told by their contents, also within gzip: SNDlib native and XML, GraphML (Topology Zoo, networkx, Gephi), REPETITA, CSV of
     links (source, target, capacity), of demands (source, target, amount) and of places (node, x, y). Options are those of the tool
-    convert: capacity (the attribute of GraphML), missing (the capacity of links that have none, as "10G"), unit and from_unit ("Gbit",
-    ..), decimals (to round to, 0 to 6), merge (demands of the same ends become one). What was dropped, renamed or rounded is in `.notes`.
+    convert: capacity (the attribute of GraphML), capacity_default (of links that have none, as "10G"), unit and from_unit ("Gbit", ..),
+    round (to so many decimals, 0 to 6), merge (demands of the same ends become one), gravity (demands of so much in all, made up where
+    there are none), scale (all demands times a number). What was dropped, renamed or rounded is in `.notes`.
 
     A network file is handed to the program as it stands, so certificates of the network are those of the file.
     Refused where a file is no network, with the line; ReadFault where it cannot be read; ValueError for another option.

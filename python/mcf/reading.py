@@ -4,7 +4,6 @@ from __future__ import annotations
 
 import io
 from dataclasses import replace
-from fractions import Fraction
 from typing import Any
 
 from .commands import ask
@@ -13,12 +12,15 @@ from .convert.model import Notes
 from .convert.model import Refused as NoNetwork
 from .convert.work import Task, convert
 from .errors import ReadFault, Refused
+from .given import number_of
 from .network import read_network
 from .networks import Network
 from .output import one_line
 from .running import in_memory
 
-_OPTIONS = ("capacity", "missing", "unit", "from_unit", "decimals", "merge", "merge_both", "columns", "comma", "gravity", "scale", "kind")
+# options of `mcf.read`, and their names in the converter's task
+_OPTIONS = {"capacity": "capacity", "capacity_default": "missing", "unit": "unit", "from_unit": "from_unit", "round": "decimals",
+            "merge": "merge", "gravity": "gravity", "scale": "scale"}
 _ONE_WAY = "links are one way"
 
 
@@ -63,11 +65,11 @@ def _mode(path: str, data: bytes) -> str:
 def _converted(paths: list[str], options: dict[str, Any]) -> tuple[bytes, tuple[str, ...]]:
     """The network text of files of any format, and what the converter says of it."""
     said = io.StringIO()
-    exact = {name: Fraction(str(options[name])) for name in ("gravity", "scale") if name in options}
+    asked = {_OPTIONS[name]: number_of(value, name) if name in ("gravity", "scale") else value for name, value in options.items()}
     with in_memory([b""]) as (number,):
         target = f"/proc/self/fd/{number}"
         try:
-            convert(Task(paths, target, written="net", **{**options, **exact}), Notes(said))
+            convert(Task(paths, target, written="net", **asked), Notes(said))
         except NoNetwork as refused:
             raise Refused("convert", paths[0], None, one_line(str(refused)), "") from None
         return _contents(target), tuple(said.getvalue().splitlines())

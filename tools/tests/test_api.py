@@ -139,7 +139,7 @@ def test_a_name_that_no_network_text_holds_is_refused(name: str, said: str) -> N
     (LINKS, {}, pandas.DataFrame({"id": ["A", "B", "C", "A"]}), "nodes: 'A' stands twice"),
     (LINKS.assign(id=["x", "y", "x"]), {}, None, "links, row 2: the id 'x' is that of links, row 0 too"),
     (LINKS.assign(source=["A", None, "B"]), {}, None, "links, row 1: source is missing"),
-    (LINKS, {"A": 1}, None, "demands"),
+    (LINKS, {"A": 1}, None, "demands: a frame is wanted, and pandas makes none of this dict"),
     (LINKS, {}, pandas.DataFrame({"id": ["A", "B", "C"], "x": ["here", 1, 2], "y": [1, 2, 3]}), "nodes, row 0: 'here', 1 are no coordinates")])
 def test_a_fault_of_a_frame_is_named(frame: pandas.DataFrame, demands: object, nodes: object, said: str) -> None:
     with pytest.raises(ValueError, match=said):
@@ -194,7 +194,7 @@ def test_files_of_other_formats_are_read(program: Program, root: Path, tmp_path:
     network = mcf.read(tmp_path / "links.csv", tmp_path / "demands.csv")
     assert network.nodes.id.tolist() == ["A", "B", "New_York"] and any("New York" in note for note in network.notes)
     assert network.solve().lower == Fraction(1, 2)
-    assert mcf.read(root / "examples/alps.graphml", unit="Gbit").links.capacity.max() < 1e6
+    assert mcf.read(root / "examples/alps.graphml", unit="Gbit", capacity_default="10G").links.capacity.max() < 1e6
 
 
 def test_a_network_file_is_handed_on_as_it_stands(program: Program, root: Path, tmp_path: Path) -> None:
@@ -284,7 +284,8 @@ def test_totals_and_hop_limits(program: Program, root: Path) -> None:
 
 
 def test_a_total_of_decimals_is_in_the_unit_of_the_network(program: Program) -> None:
-    total = Network.from_frames(links(capacity=[0.25]), {("A", "B"): 2.5}).throughput(gap=0)
+    total = Network.from_frames(links(capacity=[0.25]), {("A", "B"): 2.5}).certify("throughput", gap=0, progress=False)
+    assert isinstance(total, mcf.TotalCertificate)
     assert total.lower == total.upper == Fraction(1, 4) and total.judged and total.judged.lower == Fraction(1, 4)
     assert total.link_table().load.tolist() == [0.25] and total.demand_table().carried.tolist() == [0.25]
 
