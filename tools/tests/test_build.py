@@ -8,6 +8,7 @@ import shutil
 import subprocess
 import sys
 import threading
+import time
 from pathlib import Path
 
 import pytest
@@ -72,8 +73,8 @@ def calls(clone: Path) -> list[str]:
 
 def set_time(file: Path, seconds: float) -> None:
     """Gives a file a time, in seconds from now."""
-    time = file.stat().st_mtime + seconds
-    os.utime(file, (time, time))
+    new = time.time() + seconds
+    os.utime(file, (new, new))
 
 
 def test_first_run_builds_and_says_so(clone: Path) -> None:
