@@ -38,13 +38,15 @@ Columns = dict[str, list[Any]]
 class Answer:
     """A certificate or a routing of a network.
 
-    network: the network that it is of. data: its text, as the program reads it.
+    network: the network that it is of. data: its text, as the program reads it. notes: what the tool said that made it, a line each, as how
+    far a routing is below the best.
     """
 
     kind: ClassVar[str] = ""
 
     network: Network
     data: bytes
+    notes: tuple[str, ...] = field(default=(), compare=False)
     _said: list[Judgement] = field(default_factory=list, compare=False)
 
     @classmethod
@@ -230,7 +232,7 @@ class Answer:
             "kind": self.kind, "judged": self.judged.line if self.judged else None,
             "judgement": self.judged.verdict if self.judged else NOT_JUDGED, "closed": self.closed, "links": self.rows.links,
             "modules": self.rows.modules, "phases": self.phases, "lower": _json(self.lower), "upper": _json(self.upper),
-            "gap": _json(self.gap)}
+            "gap": _json(self.gap), "notes": list(self.notes)}
         if tables:
             said |= {"link_table": _records(self._links(False)), "demand_table": _records(self._demands()), "paths": _records(self._paths())}
         return json.dumps(said, indent=indent)
@@ -251,7 +253,8 @@ class Answer:
     def _repr_html_(self) -> str:
         """The same for a notebook, with the links that hold the bound."""
         head = "".join(f"<tr><th>{html.escape(name)}</th><td>{html.escape(value)}</td></tr>" for name, value in self._heading)
-        title = f"<b>{html.escape(type(self).__name__)}</b><table>{head}</table>"
+        notes = "".join(f"<p>{html.escape(note)}</p>" for note in self.notes)
+        title = f"<b>{html.escape(type(self).__name__)}</b><table>{head}</table>{notes}"
         return title if self._shares() is None else f"{title}{self.bottleneck().head(10).to_html(index=False)}"
 
 
@@ -329,10 +332,10 @@ _KINDS: dict[str, type[Answer]] = {
     core.Routing.header: Routing, core.HopCertificate.header: HopCertificate, core.TotalCertificate.header: TotalCertificate}
 
 
-def answer_of(network: Network, data: bytes) -> Answer:
+def answer_of(network: Network, data: bytes, notes: tuple[str, ...] = ()) -> Answer:
     """The answer of a text, of its own kind; TextError, with the line, where it is none."""
     kind = _KINDS.get(data.split(b" ", 1)[0].decode("latin-1"), Certificate)
-    made = kind(network, data)
+    made = kind(network, data, notes)
     made.require_rows()
     return made
 

@@ -40,9 +40,9 @@ def solved(network: Network, kind: type[_Kind], command: str, options: Options, 
     return _judged(_of_kind(kind, network, ended.out), timeout)
 
 
-def _of_kind(kind: type[_Kind], network: Network, data: bytes) -> _Kind:
+def _of_kind(kind: type[_Kind], network: Network, data: bytes, notes: tuple[str, ...] = ()) -> _Kind:
     """The answer of a text, which has to be of a kind."""
-    answer = answer_of(network, data)
+    answer = answer_of(network, data, notes)
     if not isinstance(answer, kind):
         raise McfError(f"a {kind.kind} is expected, and the answer is a {answer.kind}")
     return answer
@@ -97,19 +97,19 @@ def certified(network: Network, kind: str, options: Options, progress: bool, tim
     seconds = options.pop("seconds")
     words = ["{0}", "--kind", kind, *option_words(_options(network, options)), "--seconds", str(float(seconds))]
     with _bar(f"certify {kind}", progress):
-        data = _by_tool("certify", words, network, timeout)
-    return _judged(_of_kind(Certificate, network, data), timeout)
+        data, notes = _by_tool("certify", words, network, timeout)
+    return _judged(_of_kind(Certificate, network, data, notes), timeout)
 
 
 def routed(network: Network, options: Options, timeout: float | None) -> Routing:
     """The judged routing of the tool route."""
     given = {name: str(value) for name, value in _options(network, options).items() if value is not None}
     words = ["{0}", *(word for name, value in given.items() for word in (f"--{name}", value))]
-    return _judged(_of_kind(Routing, network, _by_tool("route", words, network, timeout)), timeout)
+    return _judged(_of_kind(Routing, network, *_by_tool("route", words, network, timeout)), timeout)
 
 
-def _by_tool(tool: str, words: list[str], network: Network, timeout: float | None) -> bytes:
-    """What a tool wrote of a network; McfError with its line where it has no answer."""
+def _by_tool(tool: str, words: list[str], network: Network, timeout: float | None) -> tuple[bytes, tuple[str, ...]]:
+    """What a tool wrote of a network, and what it said beside; McfError with its line where it has no answer."""
     try:
         program = find_program().path
     except TextError as error:
@@ -117,7 +117,8 @@ def _by_tool(tool: str, words: list[str], network: Network, timeout: float | Non
     ended, paths = run_tool(tool, [*words, "--mcf", program], [network.data], timeout)
     if ended.status not in (0, 1) or not ended.out:
         raise McfError((ended.trouble or f"{tool} ended with status {ended.status}").replace(paths[0], "the network"))
-    return ended.out
+    lines = ended.err.decode("utf-8", "replace").splitlines()
+    return ended.out, tuple(line.removeprefix(f"{tool}: ") for line in lines if line.startswith(f"{tool}: "))
 
 
 def batch(network: Network, matrices: Mapping[str, Any], options: Options, progress: bool, timeout: float | None) -> Batch:

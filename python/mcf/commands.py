@@ -97,7 +97,7 @@ def ask(command: str, texts: Mapping[str, bytes], options: Sequence[str] = (), t
     require_program(path)
     with in_memory(list(texts.values())) as files:
         words = [command, *options, "--", *(f"/proc/self/fd/{number}" for number in files)]
-        ended = run([path, *words], files, timeout)
+        ended = run([path, *words], files, timeout, name=f"mcf {command}")
     require_status(ended, path)
     _require_answer(command, ended, path, words, texts)
     return ended

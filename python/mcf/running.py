@@ -65,12 +65,13 @@ class Ended:
         return lines[-1] if lines else ""
 
 
-def run(words: Sequence[str], descriptors: Sequence[int] = (), timeout: float | None = None, environment: dict[str, str] | None = None,
-        gently: bool = False) -> Ended:
+def run(words: Sequence[str], descriptors: Sequence[int] = (), timeout: float | None = None, *, name: str | None = None,
+        environment: dict[str, str] | None = None, gently: bool = False) -> Ended:
     """Runs a program to its end.
 
     descriptors: what the child has beside its standard streams; standard input is empty.
-    timeout: in seconds; Timeout where it is over. gently: where the caller dies the child gets SIGTERM, and may tidy up.
+    timeout: in seconds; Timeout where it is over, which calls the program by `name`, or by that of its file.
+    gently: where the caller dies the child gets SIGTERM, and may tidy up.
     NoProgram where it cannot be started.
     """
     started = None
@@ -79,7 +80,7 @@ def run(words: Sequence[str], descriptors: Sequence[int] = (), timeout: float | 
         out, err = started.communicate(timeout=timeout)
         return Ended(started.returncode, out, err)
     except subprocess.TimeoutExpired:
-        raise Timeout(f"{Path(words[0]).name} was not done in {timeout:g} seconds") from None
+        raise Timeout(f"{name or Path(words[0]).name} was not done in {timeout:g} seconds") from None
     finally:
         if started is not None:
             _end(started)
@@ -189,8 +190,8 @@ def run_tool(tool: str, words: Sequence[str], texts: Sequence[bytes], timeout: f
     with tempfile.TemporaryDirectory(prefix="mcf-") as room, in_memory(texts) as files:
         paths = [f"/proc/{os.getpid()}/fd/{number}" for number in files]
         given = [word.format(*paths) if word.startswith("{") else word for word in words]
-        ended = run([sys.executable, "-P", "-B", "-c", _TOOL, parent, room, tool, *given], timeout=timeout, environment={"TMPDIR": room},
-                    gently=True)
+        ended = run([sys.executable, "-P", "-B", "-c", _TOOL, parent, room, tool, *given], timeout=timeout, name=tool,
+                    environment={"TMPDIR": room}, gently=True)
     return ended, paths
 
 
