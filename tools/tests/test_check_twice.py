@@ -284,9 +284,10 @@ def test_its_limits_are_those_of_the_program(root: Path) -> None:
         signal.signal(number, handler)
     sections, most = scope["SECTIONS"], scope["MOST"]
     assert sections == {"NODES": limits.MAX_NODES, "LINKS": limits.MAX_LINKS, "DEMANDS": limits.MAX_DEMANDS}
-    assert [scope[name] for name in ("NET_BYTES", "CERT_BYTES", "WORD_BYTES", "UNITS", "TOTAL", "CELLS", "HOPS")] == [
-        limits.MAX_NET_BYTES, limits.MAX_CERT_BYTES, limits.MAX_WORD_BYTES, limits.MAX_UNITS, limits.MAX_TOTAL, limits.MAX_PATH_CELLS,
-        limits.MAX_HOPS]
+    assert [scope[name] for name in ("NET_BYTES", "CERT_BYTES", "UNITS", "TOTAL", "HOPS")] == [
+        limits.MAX_NET_BYTES, limits.MAX_CERT_BYTES, limits.MAX_UNITS, limits.MAX_TOTAL, limits.MAX_HOPS]
+    assert f"len(token) <= {limits.MAX_WORD_BYTES}" in load_text(root / "tools/check_twice")
+    assert f"2 <= len(row) <= {2 + limits.MAX_PATH_CELLS}" in load_text(root / "tools/check_twice")
     assert isinstance(most, dict) and [most[name] for name in ("gap", "phases", "room", "load", "threshold")] == [
         limits.MAX_GAP, limits.MAX_PHASES, limits.MAX_UNITS, limits.MAX_LENGTH, limits.MAX_LENGTH]
 
