@@ -10,6 +10,7 @@ import sys
 import time
 from collections import Counter
 from pathlib import Path
+from typing import Any
 
 import pytest
 
@@ -215,7 +216,18 @@ def test_whole_texts_of_the_other_kinds_are_judged_alike(program: Program, root:
         assert first == second and first.startswith("valid ")
 
 
+def names_of(root: Path) -> dict[str, Any]:
+    """The names of the second checker, read in this process, whose signals stay as they were."""
+    names: dict[str, Any] = {"__name__": "check_twice"}
+    before = {number: signal.getsignal(number) for number in (signal.SIGINT, signal.SIGTERM, signal.SIGHUP)}
+    exec(compile(load_text(root / "tools/check_twice"), "check_twice", "exec"), names)
+    for number, handler in before.items():
+        signal.signal(number, handler)
+    return names
+
+
 def test_damaged_texts_of_the_other_kinds_are_judged_alike(program: Program, root: Path, others: list[tuple[Path, str]], tmp_path: Path) -> None:
+    judge, cert = names_of(root)["judge"], tmp_path / "cert"
     seen: Counter[str] = Counter()
     texts: set[str] = set()
     seed = 0
@@ -226,7 +238,8 @@ def test_damaged_texts_of_the_other_kinds_are_judged_alike(program: Program, roo
         if changed in texts or changed == text:
             continue
         texts.add(changed)
-        first, second = judged(program, root, tmp_path, net, changed)
+        save_text(cert, changed)
+        first, second = program.check(net, cert, command=judge_of(changed)).text, f"{judge(load_text(net), changed)[0]}\n"
         assert alike(first, second), f"seed {seed - 1}: mcf says {first.strip()}, check_twice {second.strip()}"
         words = first.split()
         seen[words[1] if words[0] == "invalid" else words[0]] += 1
@@ -277,18 +290,14 @@ def test_hop_limits_are_read_alike(program: Program, root: Path, tmp_path: Path,
 
 
 def test_its_limits_are_those_of_the_program(root: Path) -> None:
-    scope: dict[str, object] = {"__name__": "check_twice"}
-    before = {number: signal.getsignal(number) for number in (signal.SIGINT, signal.SIGTERM, signal.SIGHUP)}
-    exec(compile(load_text(root / "tools/check_twice"), "check_twice", "exec"), scope)
-    for number, handler in before.items():
-        signal.signal(number, handler)
+    scope = names_of(root)
     sections, most = scope["SECTIONS"], scope["MOST"]
     assert sections == {"NODES": limits.MAX_NODES, "LINKS": limits.MAX_LINKS, "DEMANDS": limits.MAX_DEMANDS}
     assert [scope[name] for name in ("NET_BYTES", "CERT_BYTES", "UNITS", "TOTAL", "HOPS")] == [
         limits.MAX_NET_BYTES, limits.MAX_CERT_BYTES, limits.MAX_UNITS, limits.MAX_TOTAL, limits.MAX_HOPS]
     assert f"len(token) <= {limits.MAX_WORD_BYTES}" in load_text(root / "tools/check_twice")
     assert f"2 <= len(row) <= {2 + limits.MAX_PATH_CELLS}" in load_text(root / "tools/check_twice")
-    assert isinstance(most, dict) and [most[name] for name in ("gap", "phases", "room", "load", "threshold")] == [
+    assert [most[name] for name in ("gap", "phases", "room", "load", "threshold")] == [
         limits.MAX_GAP, limits.MAX_PHASES, limits.MAX_UNITS, limits.MAX_LENGTH, limits.MAX_LENGTH]
 
 
