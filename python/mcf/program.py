@@ -3,7 +3,9 @@
 from __future__ import annotations
 
 import os
+import shutil
 import subprocess
+import sysconfig
 import tempfile
 from dataclasses import dataclass
 from functools import cached_property
@@ -13,6 +15,9 @@ from . import children
 from .certificate import save_text
 from .errors import TextError
 from .network import Network, read_network
+
+PACKAGES, ROOT = Path(__file__).resolve().parents[1:3]
+BUILD = "./mcf there builds it, which takes from 20 minutes to an hour since all is proved first; or name one by --mcf, or by MCF"
 
 TINY = ("?SNDlib native format; type: network; version: 1.0\nNODES (\n  A\n  B\n)\nLINKS (\n  L ( A B ) 1 0 0 0 ( )\n)\n"
         "DEMANDS (\n  D ( A B ) 1 1 UNLIMITED\n)\n")
@@ -80,11 +85,46 @@ class Program:
 
 
 def find_program(path: str | None = None) -> Program:
-    """The program: the path given, else that of the environment's MCF, else `mcf` at the top of the repository."""
-    found = path or os.environ.get("MCF") or str(Path(__file__).resolve().parents[2] / "mcf")
+    """The program: the path given, else that of the environment's MCF, else the one that was built; TextError where there is none.
+
+    Nothing is built here: the starter `mcf` of the repository would first prove everything, which takes up to an hour.
+    """
+    found = path or os.environ.get("MCF") or built_program(ROOT)
     if not os.path.isfile(found):
         raise TextError(f"{found}: no such program; name it by --mcf, or by MCF in the environment")
     return Program(os.path.abspath(found))
+
+
+def built_program(root: Path) -> str:
+    """The path of the program that was built in a repository, or lies in a release, or was installed with the package, or is on the path."""
+    if not (root / "crates").is_dir():
+        there = root / "program/mcf"
+        found = str(there) if there.is_file() else installed_program(PACKAGES) or shutil.which("mcf")
+        if found is None:
+            raise TextError("there is no program mcf here or on the path: name one by --mcf, or by MCF in the environment")
+        return found
+    built = [file for file in (root / "crates/mcf/out/mcf", root / ".built/mcf") if file.is_file()]
+    fresh = next((file for file in built if not is_old(file, root / "crates")), None)
+    if fresh is None:
+        raise TextError(f"the program in {root} {'is older than its sources' if built else 'was not built yet'}: {BUILD}")
+    return str(fresh)
+
+
+def installed_program(packages: Path) -> str | None:
+    """The program among the scripts that pip or Debian installs with the packages of a folder."""
+    for scheme in sysconfig.get_scheme_names():
+        places = sysconfig.get_paths(scheme)
+        program = Path(places["scripts"], "mcf")
+        if packages == Path(places["platlib"]).resolve() and program.is_file():
+            return str(program)
+    return None
+
+
+def is_old(program: Path, crates: Path) -> bool:
+    """Whether a source is newer than a program."""
+    time = program.stat().st_mtime_ns
+    sources = (file for kind in ("*.rt", "*.antt") for file in crates.rglob(kind) if "out" not in file.relative_to(crates).parts)
+    return any(file.stat().st_mtime_ns > time for file in sources)
 
 
 def _word(file: str | Path) -> str:
