@@ -15,6 +15,7 @@ from pathlib import Path as File
 
 from .certificate import Routing, judge_of, load_text, read_any, save_text
 from .errors import TextError
+from .hints.hint import explained
 from .program import Program
 from .ranges import Range
 
@@ -58,9 +59,9 @@ class Judged:
 class NotValid(TextError):
     """A text that is not valid or feasible; `said` is the program's line."""
 
-    def __init__(self, command: str, said: str) -> None:
-        """The command that judged, and what it said."""
-        super().__init__(f"mcf {command} says: {said}")
+    def __init__(self, command: str, said: str, meaning: str = "") -> None:
+        """The command that judged, what it said, and the same with what it means."""
+        super().__init__(f"mcf {command} says: {meaning or said}")
         self.command, self.said = command, said
 
 
@@ -71,8 +72,9 @@ def judge(program: Program, net: str | File, text: str, command: str | None = No
         file = File(room, "cert")
         save_text(file, text)
         answer = program.check(net, file, command=judging)
+        meaning = explained(answer.line, [judging, str(net), str(file)]) if answer.status in (1, 3, 4) else ""
     if answer.status != 0 or not (_VALID.fullmatch(answer.line) or _FEASIBLE.fullmatch(answer.line)):
-        raise NotValid(judging, answer.line or f"status {answer.status}")
+        raise NotValid(judging, answer.line or f"status {answer.status}", meaning)
     return Judged(text, answer.line)
 
 

@@ -4,6 +4,7 @@ from __future__ import annotations
 
 import os
 import shutil
+import signal
 import subprocess
 import sysconfig
 import tempfile
@@ -14,6 +15,7 @@ from pathlib import Path
 from . import children
 from .certificate import save_text
 from .errors import TextError
+from .hints.hint import explained
 from .network import Network, read_network
 
 PACKAGES, ROOT = Path(__file__).resolve().parents[1:3]
@@ -45,8 +47,8 @@ class Program:
     def run(self, *words: str, seconds: float | None = None) -> Answer:
         """Runs a command; TextError where the program cannot be started or takes longer than so many seconds."""
         try:
-            # (the starter's hints are for a person who called it)
-            done = children.run([self.path, *words], seconds, environment={**os.environ, "MCF_HINTS": "0"})
+            # (the starter's hints are for a person who called it, and so is the hour in which it builds the program)
+            done = children.run([self.path, *words], seconds, environment={**os.environ, "MCF_HINTS": "0", "MCF_BUILD": "0"})
         except OSError as error:
             raise TextError(f"{self.path}: {error.strerror}") from error
         except subprocess.TimeoutExpired as error:
@@ -54,10 +56,10 @@ class Program:
         return Answer(done.returncode, done.stdout.decode("latin-1"))
 
     def ask(self, *words: str, statuses: tuple[int, ...] = (0,), seconds: float | None = None) -> str:
-        """The text that a command wrote; TextError, with its line, where the status is another one."""
+        """The text that a command wrote; TextError, with its line and what that means, where the status is another one."""
         answer = self.run(*words, seconds=seconds)
         if answer.status not in statuses:
-            raise TextError(f"mcf {' '.join(words)}: {answer.line or f'status {answer.status}'}")
+            raise TextError(f"mcf {words[0]}: {explained(answer.line, [*words]) if answer.line else _silent(answer.status)}")
         return answer.text
 
     def network(self, file: str | Path) -> Network:
@@ -125,6 +127,13 @@ def is_old(program: Path, crates: Path) -> bool:
     time = program.stat().st_mtime_ns
     sources = (file for kind in ("*.rt", "*.antt") for file in crates.rglob(kind) if "out" not in file.relative_to(crates).parts)
     return any(file.stat().st_mtime_ns > time for file in sources)
+
+
+def _silent(status: int) -> str:
+    """What is said of an end without a line."""
+    if status < 0:
+        return f"ended by {signal.Signals(-status).name}"
+    return "it could not be started, or took no words that are not UTF-8: status 7" if status == 7 else f"status {status}"
 
 
 def _word(file: str | Path) -> str:

@@ -2,7 +2,6 @@
 
 from __future__ import annotations
 
-import contextlib
 import os
 import shutil
 import subprocess
@@ -16,12 +15,14 @@ sys.path[:0] = [str(ROOT / "python"), str(ROOT / "bench")]
 
 from mcf import Program, find_program  # noqa: E402
 
-with contextlib.suppress(ModuleNotFoundError):
+try:
     from hypothesis import settings
-
-    # (nothing is measured by the clock; the quick profile draws the same each time, and the long one anew)
-    settings.register_profile("quick", deadline=None, database=None, derandomize=True)
-    settings.register_profile("long", deadline=None, database=None, max_examples=10_000)
+except ImportError:
+    pass
+else:
+    # (the quick one draws the same inputs each time; the long one others, of a seed that it tells)
+    settings.register_profile("quick", max_examples=40, deadline=None, derandomize=True, database=None)
+    settings.register_profile("long", max_examples=10_000, deadline=None, database=None, print_blob=True)
     settings.load_profile("long" if os.environ.get("MCF_LONG") else "quick")
 
 

@@ -11,7 +11,7 @@ from scipy.optimize import linprog
 
 from mcf import Demand, Link, Network, Node, ScaledNetwork, scale
 
-CAPACITIES = ("0", "1", "2", "3", "0.5", "7")
+CAPACITIES = ("2", "3", "5", "1", "7", "4", "0.5", "6", "1", "2", "3", "0")
 AMOUNTS = ("1", "2", "0.5", "3")
 
 
@@ -19,7 +19,8 @@ AMOUNTS = ("1", "2", "0.5", "3")
 def small_networks(draw: st.DrawFn) -> Network:
     """Three to five nodes in a row or a ring, with further links that may be parallel, and one to four demands."""
     names = [f"N{number}" for number in range(draw(st.integers(3, 5)))]
-    ends = list(zip(names, names[1:])) + draw(st.lists(st.tuples(st.sampled_from(names), st.sampled_from(names)), max_size=3))
+    ends = list(zip(names, [*names[1:], names[0]]))[draw(st.sampled_from((0, 0, 0, 1))):]
+    ends += draw(st.lists(st.tuples(st.sampled_from(names), st.sampled_from(names)), max_size=3))
     ends = [pair for pair in ends if pair[0] != pair[1]]
     links = [Link(f"L{number}", *pair, draw(st.sampled_from(CAPACITIES))) for number, pair in enumerate(ends)]
     pairs = st.tuples(st.sampled_from(names), st.sampled_from(names)).filter(lambda pair: pair[0] != pair[1])

@@ -10,8 +10,7 @@ from pathlib import Path
 
 import pytest
 
-import mcf.limits
-from converted import DATA, EXAMPLES, ROOT, converted, made
+from converted import DATA, EXAMPLES, converted, made
 from mcf.convert.words import MOST, word_of
 from mcf.names import cell_of, text_of
 from mcf.units import Rate, carrier_of, unit_of
@@ -562,20 +561,3 @@ def test_changes_of_what_is_not_written_are_refused(tmp_path: Path) -> None:
     room = made(tmp_path, a_net=NET)
     assert converted(room, "a.net", "--close", "L1", to="list").why == "--close 'L1' changes links, and what is written has none"
     assert converted(room, "a.net", "--times-demand", "D1", "2", to="graphml").why == "--times-demand 'D1' changes demands, and what is written has none"
-
-
-# limits
-
-
-def test_limits_are_those_of_the_program() -> None:
-    text = (ROOT / "crates/mcf_limits/src/lib.rt").read_text()
-    found = dict(re.findall(r"^pub const (\w+): \w+ = ([0-9_ <]+);", text, re.M))
-    assert found and text.count("pub const") == len(found)
-    there = {name: value for name, value in vars(mcf.limits).items() if name.isupper()}
-    assert there == {name: _value(word) for name, word in found.items()}
-
-
-def _value(word: str) -> int:
-    """The value of a constant, which is a number or one that is shifted."""
-    number, _, shift = word.partition("<<")
-    return int(number) << int(shift or 0)

@@ -11,7 +11,7 @@ from typing import TYPE_CHECKING, NoReturn
 from mcf import TextError, find_program, fraction_of
 from mcf.arguments import Arguments
 from mcf.needs import needed
-from mcf.output import main_of, require_output
+from mcf.output import main_of, require_output, write
 from mcf.ranges import status
 
 if TYPE_CHECKING:
@@ -110,7 +110,7 @@ def surveyed() -> int:
 def run(words: argparse.Namespace, kinds: list[str]) -> int:
     """Makes the surveys, writes them, and says the status."""
     with needed():
-        from mcf.report.work import judged_figures, write
+        from mcf.report.work import judged_figures
         from mcf.survey.cases import Ground, based, survey
         from mcf.survey.page import survey_page
         from mcf.survey.words import grown, grown_sentence, sentence, survey_table
@@ -125,10 +125,10 @@ def run(words: argparse.Namespace, kinds: list[str]) -> int:
     alone = [] if kinds else grown(base, growths)
     surveys = [survey(ground, kind, settings, base) for kind in kinds]
     if words.csv:
-        write(words.csv, survey_table(surveys, alone))
+        write(words.csv, survey_table(surveys, alone).encode("latin-1", "replace"))
     if words.html:
         title = words.title or Path(os.fsencode(words.net).decode("utf-8", "replace")).stem
-        write(words.html, survey_page(title, figures.scaled, surveys, alone), "utf-8")
+        write(words.html, survey_page(title, figures.scaled, surveys, alone).encode("utf-8", "replace"))
     if words.csv != "-" and words.html != "-":
         for text in [*(sentence(one) for one in surveys), *(grown_sentence(*one) for one in alone)]:
             print(text[0].upper() + text[1:])

@@ -161,9 +161,11 @@ def read(path: str, text: str, notes: Notes, form: Form) -> Source:
         raise Refused(f"{path}: no rows")
     line, head = rows[0]
     named = {role: name for role, name in form.columns.items() if name in head}
-    if not named and _is_square(head, rows):
-        return _square(path, line, head, rows[1:], form)
     table = Table(path, _places(head, named), rows[1:], form)
+    if not named and _is_square(head, rows):
+        if _kind(table.place):
+            raise Refused(f"{path} line {line}: this may be a square of nodes or a table of {_kind(table.place)} (--columns makes it a table)")
+        return _square(path, line, head, rows[1:], form)
     if "id" not in named and _is_demand_the_id(head, table.place):
         table.place = _places(head, named | {"amount": head[table.place["id"]]})
         _tell_amounts(head, table, notes)
@@ -175,20 +177,22 @@ def read(path: str, text: str, notes: Notes, form: Form) -> Source:
 
 def _read_by_columns(head: list[str], table: Table, notes: Notes) -> Source:
     """What a table has by the roles of its columns."""
-    path, place = table.path, table.place
-    pairs = "source" in place and "target" in place
-    if pairs and ("capacity" in place or "modules" in place):
-        _tell_unread(path, head, place, LINK_ROLES, notes)
+    path, place, kind = table.path, table.place, _kind(table.place)
+    if not kind:
+        due = "source, target and capacity (links) or amount (demands), or node, x and y (places)"
+        lost = "".join(f", and no {name!r}" for name in table.form.columns.values() if name not in head)
+        raise Refused(f"{path}: columns {due} are due; it has {', '.join(head)}{lost} (--columns names them)")
+    _tell_unread(path, head, place, {"links": LINK_ROLES, "demands": DEMAND_ROLES, "places": ("node", "id", "x", "y")}[kind], notes)
+    if kind == "links":
         return _links(table, notes)
-    if pairs and "amount" in place:
-        _tell_unread(path, head, place, DEMAND_ROLES, notes)
-        return _demands(table)
-    if ("node" in place or "id" in place) and "x" in place and "y" in place:
-        _tell_unread(path, head, place, ("node", "id", "x", "y"), notes)
-        return _places_of_nodes(table)
-    due = "source, target and capacity (links) or amount (demands), or node, x and y (places)"
-    lost = "".join(f", and no {name!r}" for name in table.form.columns.values() if name not in head)
-    raise Refused(f"{path}: columns {due} are due; it has {', '.join(head)}{lost} (--columns names them)")
+    return _demands(table) if kind == "demands" else _places_of_nodes(table)
+
+
+def _kind(place: dict[str, int]) -> str:
+    """What a table with columns of these roles has: links, demands or places; nothing where it has not enough of them."""
+    if "source" in place and "target" in place and place.keys() & {"capacity", "modules", "amount"}:
+        return "links" if place.keys() & {"capacity", "modules"} else "demands"
+    return "places" if place.keys() & {"node", "id"} and {"x", "y"} <= place.keys() else ""
 
 
 def _places(head: list[str], columns: dict[str, str]) -> dict[str, int]:

@@ -1,15 +1,17 @@
-"""The hint for a run of the program that ended with status 1, 2, 3 or 4."""
+"""The hint for a run of the program that ended with a status from 1 to 7, but for want of memory."""
 
 from __future__ import annotations
 
 import os
 
 from .netfile import front_of, kind_of
-from .table import TABLE
+from .table import TABLE, Row
 from .told import line_of
 from .words import Misfit, Request, read, shown
 
 USAGE = "the words are not in the grammar: compare them with ./mcf help COMMAND"
+UNWRITTEN = ("standard output took no more, mostly since the disk is full or a reader went away: what was written is cut off, "
+             "and no answer")
 # the part of the guide on what is wrong
 WRONG = 10
 _KINDS = ((b"mcf-routing ", "routing"), (b"mcf-hops ", "limited"), (b"mcf-throughput ", "total"))
@@ -17,6 +19,11 @@ _KINDS = ((b"mcf-routing ", "routing"), (b"mcf-hops ", "limited"), (b"mcf-throug
 
 def hint(status: int, program: str, words: list[str], output: int) -> str | None:
     """One line: what the program said, a sentence on it, and the part of the guide; None where there is nothing to say."""
+    if status == 5:
+        return _told("write fault", UNWRITTEN, WRONG)
+    if status == 7:
+        odd = next((word for word in words if not _is_text(word)), None)
+        return None if odd is None else _told("no words", f"{shown(odd)} is not UTF-8, as each word has to be: rename the file", WRONG)
     try:
         request = read(words)
     except Misfit as misfit:
@@ -34,15 +41,45 @@ def _told(line: str, sentence: str, part: int) -> str:
     return f"hint: {line}: {sentence} (docs/guide.md, part {part})"
 
 
+def explained(line: str, words: list[str]) -> str:
+    """A line that the program wrote for words, with the sentence on it; files that are there are not named, since they may be temporary."""
+    try:
+        request = read(words)
+    except Misfit:
+        return line
+    if line == "refused net N1 line 1":
+        return f"{line}: it {kind_of(front_of(request.words['NET']))}"
+    if line == "read fault":
+        return f"{line}: {_unreadable(request)}"
+    row = _row_of(line, request)
+    return f"{line}: {row.sentence}" if row else line
+
+
+def _is_text(word: str) -> bool:
+    """Whether a word is UTF-8, as it was given."""
+    return not any("\udc80" <= letter <= "\udcff" for letter in word)
+
+
+def _row_of(line: str, request: Request) -> Row | None:
+    """The row of the table for a line."""
+    kind = _kind_of_certificate(line, request)
+    return next((row for row in TABLE if row.line.fullmatch(line) and row.of in ("", kind, request.command)), None)
+
+
+def _kind_of_certificate(line: str, request: Request) -> str:
+    """What the second file is, or the third where the line is on that."""
+    return _kind(request.words.get("CERT2" if line.startswith("refused cert2 ") else "CERT", ""))
+
+
 def _of_line(line: str, program: str, request: Request) -> str:
     """The hint for a line of a request that is in the grammar."""
     if line == "refused net N1 line 1":
         return _told(line, f"{shown(request.words['NET'])} {kind_of(front_of(request.words['NET']))}", 1)
-    kind = _kind(request.words.get("CERT2" if line.startswith("refused cert2 ") else "CERT", ""))
-    row = next((row for row in TABLE if row.line.fullmatch(line) and row.of in ("", kind, request.command)), None)
+    row = _row_of(line, request)
     if row is None:
         return _told(line, "docs/formats.md tells what is refused so, under this kind", WRONG)
-    found = _fullest(program, request) if line == "invalid C3" and kind == "routing" else None
+    is_overfull = line == "invalid C3" and _kind_of_certificate(line, request) == "routing"
+    found = _fullest(program, request) if is_overfull else None
     return _told(line, found or row.sentence, row.part)
 
 

@@ -66,7 +66,7 @@ run_program() {
         kill -"$((status - 128))" $$
     fi
     case $status in
-        1 | 2 | 3 | 4)
+        1 | 2 | 3 | 4 | 5 | 7)
             { hint=$(/usr/bin/python3 -I -S -B -X utf8 "$here/python/mcf/hints" "$status" "$program" "$@" 2>/dev/null); } 9>&1
             [ -z "$hint" ] || printf '%s\n' "$hint" >&2
             ;;

@@ -8,14 +8,18 @@ from collections.abc import Callable, Iterator
 from dataclasses import dataclass
 from fractions import Fraction
 
+from mcf.limits import MAX_DECIMALS, MAX_DEMANDS, MAX_GAP, MAX_LINKS, MAX_NODES, MAX_PHASES, MAX_STEP, MAX_WORKERS
+
 MODES = {"--links": ("directed", "undirected", "bidirected"), "--modules": ("none", "largest", "sum")}
-RANGES = {"--phases": (1, 65_536), "--workers": (1, 16), "--step": (1, 1_048_576)}
+RANGES = {"--phases": (1, MAX_PHASES), "--workers": (1, MAX_WORKERS), "--step": (1, MAX_STEP)}
 OPTIONS = ("--links", "--modules", "--gap", "--phases", "--workers", "--step")
 ONE_WORKER_OPTIONS = tuple(option for option in OPTIONS if option != "--workers")
 FILES = ("NET", "CERT", "SCRIPT")
 READ_ORDER = ("NET", "CERT", "CERT2", "LIST", "SCRIPT")
 HOP_OPTIONS = ("--hops", "--hop", "--hop-limit", "--max-hops", "--limit")
-DRAWN = {"SEED": (0, 2**64 - 1), "NODES": (2, 512), "LINKS": (2, 4096), "DEMANDS": (1, 32_768)}
+DRAWN = {"SEED": (0, 2**64 - 1), "NODES": (2, MAX_NODES), "LINKS": (2, MAX_LINKS), "DEMANDS": (1, MAX_DEMANDS)}
+HELP_WORDS = ("--help", "-h", "--version", "help")
+MOST_GAP = MAX_GAP // 10**MAX_DECIMALS
 
 _NUMBER = re.compile(r"(?:[0-9]+\.?[0-9]*|\.[0-9]+)(?:[Ee][+-]?[0-9]{1,2})?")
 _DIGITS = re.compile(r"[0-9]{1,20}")
@@ -96,9 +100,9 @@ def read(words: list[str]) -> Request:
     if not words:
         raise Misfit(f"a command has to stand there: {listed(tuple(COMMANDS))}; ./mcf --help explains them")
     name, rest = words[0], iter(words[1:])
+    if name in HELP_WORDS:
+        raise _misfit_of_help(words)
     if name not in COMMANDS:
-        # (the starter answers help on the commands that there are)
-        name = words[1] if name == "help" and len(words) == 2 else name
         raise Misfit(f"{shown(name)} is no command{_nearest(name, tuple(COMMANDS))}")
     command, is_plain = COMMANDS[name], False
     found: dict[str, str] = {}
@@ -114,6 +118,14 @@ def read(words: list[str]) -> Request:
         missing = " and ".join(command.words[len(found):])
         raise Misfit(f"{missing} is missing at the end: {name} takes {command.taken}")
     return Request(name, found)
+
+
+def _misfit_of_help(words: list[str]) -> Misfit:
+    """What is wrong with words that begin as those of help, and are others than those that the starter answers."""
+    known = [word for word in words[1:] if word in COMMANDS]
+    if len(words) == 2 and not known and words[0] != "--version":
+        return Misfit(f"{shown(words[1])} is no command{_nearest(words[1], tuple(COMMANDS))}")
+    return Misfit(f"{shown(words[0])} is no command: help on one is ./mcf help {known[0] if known else 'COMMAND'}")
 
 
 def _take_word(name: str, command: Command, found: dict[str, str], word: str) -> None:
@@ -133,6 +145,8 @@ def _take_word(name: str, command: Command, found: dict[str, str], word: str) ->
 def _take_option(name: str, command: Command, seen: set[str], word: str, rest: Iterator[str]) -> None:
     """One more option, with its value."""
     option, equals, value = word.partition("=")
+    if option in HELP_WORDS:
+        raise Misfit(f"{shown(option)} is no option of {name}: help on it is ./mcf help {name}")
     if option in HOP_OPTIONS:
         raise Misfit(f"{shown(option)} is no option of {name}: the hop limit of a demand is the last word of its row in the network's file, "
                      "and hops keeps it", 8)
@@ -160,7 +174,7 @@ def _values_of(option: str) -> tuple[str, Callable[[str], bool]]:
     if option in RANGES:
         least, most = RANGES[option]
         return f"a whole number from {least} to {most} in digits alone", lambda value: _is_whole(value, least, most)
-    return "a number from 0 to 1000 with a point and at most six decimals, as 0.05", _is_gap
+    return f"a number from 0 to {MOST_GAP} with a point and at most six decimals, as 0.05", _is_gap
 
 
 def _is_whole(word: str, least: int, most: int) -> bool:
@@ -169,11 +183,11 @@ def _is_whole(word: str, least: int, most: int) -> bool:
 
 
 def _is_gap(word: str) -> bool:
-    """Whether a word is a number of network files, a whole number of millionths, from 0 to 1000."""
+    """Whether a word is a number of network files, a whole number of millionths, up to the greatest gap."""
     if not _NUMBER.fullmatch(word):
         return False
     value = Fraction(word)
-    return value <= 1000 and (value * 10**6).denominator == 1
+    return value <= MOST_GAP and (value * 10**MAX_DECIMALS).denominator == 1
 
 
 def _nearest(word: str, names: tuple[str, ...]) -> str:

@@ -5,7 +5,7 @@ from __future__ import annotations
 import math
 from collections import defaultdict
 from collections.abc import Callable
-from dataclasses import dataclass
+from dataclasses import dataclass, replace
 from fractions import Fraction
 
 from .figures import Figures, LinkFigures
@@ -19,7 +19,7 @@ CLASSES = (
     (Fraction(9, 10), "75 to 90 %"),
     (Fraction(1), "90 to 100 %"),
 )
-OVER = (len(CLASSES), "more than 100 %")
+OVER = ((Fraction(2), "100 to 200 %"), (None, "more than 200 %"))
 UNUSED, CLOSED = "n", "c"
 MOST_LABELS = 70
 LARGE = 1.8
@@ -38,7 +38,7 @@ class Line:
 
 @dataclass(frozen=True)
 class Dot:
-    """A node with its label, where there is room for one."""
+    """A node with its label, where there is room for one; its place may be made up."""
 
     x: float
     y: float
@@ -47,6 +47,7 @@ class Dot:
     label_x: float
     label_y: float
     anchor: str
+    made_up: bool = False
 
 
 @dataclass(frozen=True)
@@ -65,7 +66,7 @@ def class_of(utilisation: Fraction | None) -> str:
         return CLOSED
     if utilisation == 0:
         return UNUSED
-    return str(next((at for at, (most, _) in enumerate(CLASSES) if utilisation <= most), OVER[0]))
+    return str(next(at for at, (most, _) in enumerate((*CLASSES, *OVER)) if most is None or utilisation <= most))
 
 
 def drawing(figures: Figures, places: Layout) -> Drawing:
@@ -152,7 +153,8 @@ def _dots(figures: Figures, places: Layout, radius: float) -> tuple[Dot, ...]:
         wanted = {end for cell in cells for end in (cell.tail, cell.head)}
     boxes = [(x - radius, y - radius, x + radius, y + radius) for x, y in places.places]
     room = _Room(places.width, places.height, boxes, _points(figures, places))
-    return tuple(_dot(name(node.id), places, at, radius, room, at in wanted) for at, node in enumerate(nodes))
+    dots = (_dot(name(node.id), places, at, radius, room, at in wanted) for at, node in enumerate(nodes))
+    return tuple(replace(dot, made_up=at in places.made_up) for at, dot in enumerate(dots))
 
 
 def _points(figures: Figures, places: Layout) -> list[tuple[float, float]]:

@@ -7,12 +7,16 @@ from dataclasses import dataclass, replace
 from fractions import Fraction
 from functools import cached_property
 
-from mcf import Certificate, Routing, ScaledNetwork, TextError, cells_of_path, loads, lower, shares_of_bound, upper
+from mcf import (Certificate, HopCertificate, Routing, ScaledNetwork, TextError, TotalCertificate, cells_of_path, excess, loads, lower,
+                 shares_of_bound, upper, volume)
 
 
 @dataclass(frozen=True)
 class LinkFigures:
-    """A link, or one way of it. Loads are in the file's unit: where all demands are carried, and at the lower fraction."""
+    """A link, or one way of it. Loads are in the file's unit: where all demands are carried once, and at the lower fraction.
+
+    In a certificate of a total, which carries one demand more and another less, both are the load as the total is carried.
+    """
 
     cell: int
     link: str
@@ -58,11 +62,23 @@ class DemandFigures:
     amount: Fraction
     paths: tuple[PathFigures, ...]
     fewest: int | None
+    limit: int | None = None
+
+    @property
+    def carried(self) -> Fraction:
+        """The part of it that the paths carry, all where all demands are carried once."""
+        return sum((path.part for path in self.paths), Fraction(0))
+
+    @property
+    def has_no_way(self) -> bool:
+        """Whether no walk over links with capacity leads there, within the limit where it has one."""
+        return self.fewest is None or (self.limit is not None and self.fewest > self.limit)
 
     @property
     def mean_links(self) -> Fraction:
         """How many links its traffic goes over, on average."""
-        return sum((path.part * len(path.links) for path in self.paths), Fraction(0))
+        links = sum((path.part * len(path.links) for path in self.paths), Fraction(0))
+        return links / self.carried if self.carried else Fraction(0)
 
     @property
     def most_links(self) -> int:
@@ -82,41 +98,72 @@ class Figures:
         """The same, where a routing takes over the bound of a certificate of the same network."""
         mine, its = self.scaled, other.scaled
         same = (mine.cells, mine.commodities, mine.decimals) == (its.cells, its.commodities, its.decimals)
-        return replace(self, known=other.upper) if same and not self.is_certificate else self
+        bounds_all = type(other.text) is Certificate
+        return replace(self, known=other.upper) if same and bounds_all and not self.is_certificate else self
 
     @property
     def is_certificate(self) -> bool:
         """Whether there is a bound."""
         return isinstance(self.text, Certificate)
 
+    @property
+    def is_total(self) -> bool:
+        """Whether the bounds are totals, and no fractions of every demand."""
+        return isinstance(self.text, TotalCertificate)
+
+    @property
+    def keeps_limits(self) -> bool:
+        """Whether all paths are within the hop limits, and the bound is one of such routings alone."""
+        return isinstance(self.text, HopCertificate)
+
     @cached_property
     def lower(self) -> Fraction:
-        """The fraction of every demand that the paths carry; 0 where there are none."""
-        return lower(self.text) if self.text.phases and self.text.scale_load else Fraction(0)
+        """The fraction of every demand that the paths carry, or the total in the file's unit; 0 where there are none."""
+        carried = lower(self.text) if self.text.paths and self.text.scale_load else Fraction(0)
+        return self.scaled.in_file_unit(carried) if self.is_total else carried
 
     @cached_property
     def upper(self) -> Fraction | None:
         """What no routing exceeds, where it is known."""
-        return upper(self.scaled, self.text) if isinstance(self.text, Certificate) else self.known
+        if not isinstance(self.text, Certificate):
+            return self.known
+        most = upper(self.scaled, self.text)
+        return self.scaled.in_file_unit(most) if self.is_total else most
 
     @cached_property
     def links(self) -> tuple[LinkFigures, ...]:
         """The figures of all links, or of both ways of each, in the order of the file."""
         weights = loads(self.scaled, self.text)
-        shares = shares_of_bound(self.scaled, self.text) if isinstance(self.text, Certificate) else None
-        return tuple(self._link(number, weights[number], shares) for number in range(len(weights)))
+        return tuple(self._link(number, weights[number], self._shares) for number in range(len(weights)))
+
+    @cached_property
+    def _shares(self) -> list[Fraction] | None:
+        """The share of each cell in what is above in the bound, to which a total's demands add what they have above their distances."""
+        if not isinstance(self.text, Certificate):
+            return None
+        shares = shares_of_bound(self.scaled, self.text)
+        if not isinstance(self.text, TotalCertificate):
+            return shares
+        links = volume(self.scaled, self.text)
+        whole = links + excess(self.scaled, self.text)
+        return [share * links / whole if whole else Fraction(0) for share in shares]
 
     def _link(self, number: int, weight: int, shares: list[Fraction] | None) -> LinkFigures:
         """The figures of a cell."""
         cell, scaled = self.scaled.cells[number], self.scaled
         nodes, file_unit = scaled.network.nodes, scaled.in_file_unit
-        full = Fraction(weight, self.text.phases) if self.text.phases else Fraction(0)
+        full = weight * self._factor
         share = shares[number] if shares else None
         link = scaled.network.links[cell.link].id
         ends = nodes[cell.tail].id, nodes[cell.head].id
-        return LinkFigures(
-            number, link, cell.sign, *ends, file_unit(cell.capacity), file_unit(full), file_unit(full * self.lower), share
-        )
+        at_lower = full if self.is_total else full * self.lower
+        return LinkFigures(number, link, cell.sign, *ends, file_unit(cell.capacity), file_unit(full), file_unit(at_lower), share)
+
+    @cached_property
+    def _factor(self) -> Fraction:
+        """What weights are multiplied by: where all demands are carried once, or as a total is carried."""
+        above, below = (self.text.scale_capacity, self.text.scale_load) if self.is_total else (1, self.text.phases)
+        return Fraction(above, below) if below else Fraction(0)
 
     @cached_property
     def most_utilised(self) -> LinkFigures | None:
@@ -140,7 +187,7 @@ class Figures:
         parts: list[list[PathFigures]] = [[] for _ in self.scaled.commodities]
         for path in self.text.paths:
             number = self._commodity(path.demand)
-            part = Fraction(path.weight, self.text.phases * self.scaled.commodities[number].amount)
+            part = path.weight * self._factor / self.scaled.commodities[number].amount
             parts[number].append(PathFigures(part, tuple(self._names(cells_of_path(self.scaled, self.text.form, path)))))
         rows = [self._demand(number, parts[number]) for number in range(len(parts))]
         return tuple(sorted(rows, key=lambda row: -row.amount))
@@ -163,7 +210,8 @@ class Figures:
         ends = nodes[commodity.source].id, nodes[commodity.target].id
         fewest = self._hops[commodity.source][commodity.target]
         ordered = tuple(sorted(paths, key=lambda path: (-path.part, len(path.links), path.links)))
-        return DemandFigures(scaled.demand_id(number), *ends, scaled.in_file_unit(commodity.amount), ordered, fewest)
+        limit = scaled.limits[number] if self.keeps_limits else None
+        return DemandFigures(scaled.demand_id(number), *ends, scaled.in_file_unit(commodity.amount), ordered, fewest, limit)
 
     @cached_property
     def _hops(self) -> dict[int, list[int | None]]:
@@ -178,8 +226,8 @@ class Figures:
 
     @cached_property
     def without_way(self) -> tuple[DemandFigures, ...]:
-        """The demands that have no way over links with capacity."""
-        return tuple(row for row in self.demands if row.fewest is None)
+        """The demands that have no way over links with capacity, or none within their limit."""
+        return tuple(row for row in self.demands if row.has_no_way)
 
     @property
     def total(self) -> Fraction:

@@ -16,11 +16,11 @@ from . import sentences, shown
 from .drawing import CLASSES, CLOSED, OVER, UNUSED, Drawing, drawing
 from .figures import DemandFigures, Figures, LinkFigures
 from .layout import layout
+from .summary import Summary
 
-COLOURS = ("#4393c3", "#92c5de", "#e6c34a", "#f4a05c", "#d6604d")
+COLOURS = ("#4393c3", "#92c5de", "#e6c34a", "#f4a05c", "#d6604d", "#8e0f24", "#4d004b")
 LEGEND = (
-    *((str(at), colour, words) for at, (colour, (_, words)) in enumerate(zip(COLOURS, CLASSES))),
-    (str(OVER[0]), "#8e0f24", OVER[1]),
+    *((str(at), colour, words) for at, (colour, (_, words)) in enumerate(zip(COLOURS, (*CLASSES, *OVER)))),
     (UNUSED, "#c2cad2", "unused"),
     (CLOSED, "#9aa5b1", "without capacity"),
 )
@@ -60,8 +60,8 @@ class Side:
     @property
     def tone(self) -> str:
         """The colour of the sentence."""
-        low, high = self.figures.lower, self.figures.upper
-        return "good" if low >= 1 else "open" if high is None or high >= 1 else "bad"
+        low, high, all_of_it = self.figures.lower, self.figures.upper, self.figures.total if self.figures.is_total else 1
+        return "good" if low >= all_of_it else "open" if high is None or high >= all_of_it else "bad"
 
     @property
     def growth(self) -> str:
@@ -72,6 +72,8 @@ class Side:
     def cards(self) -> list[tuple[str, str]]:
         """The figures at the top."""
         low, high = self.figures.lower, self.figures.upper
+        if self.figures.is_total:
+            return self._total_cards(low, high or self.figures.total)
         cards = [("Carried of every demand", shown.percent_down(low) if low else "0.0 %")]
         if high is not None:
             cards.append(("No routing carries more than", shown.percent_up(high)))
@@ -80,6 +82,22 @@ class Side:
         cards.append(("Maximum link utilisation", sentences.peak(self.figures) if self.figures.text.phases else "–"))
         cards.append(("All demands together", f"{shown.amount(self.figures.total)} {self.unit}".strip()))
         return cards
+
+    def _total_cards(self, low: Fraction, high: Fraction) -> list[tuple[str, str]]:
+        """The figures at the top, of a total."""
+        total = self.figures.total
+        return [
+            ("Carried in all", f"{shown.amount_down(low)} {self.unit}".strip()),
+            ("Of all demands together", shown.percent_down(low / total) if low else "0.0 %"),
+            ("No routing carries more than", f"{shown.amount_up(min(high, total))} {self.unit}".strip()),
+            ("Maximum link utilisation", sentences.peak(self.figures)),
+            ("All demands together", f"{shown.amount(total)} {self.unit}".strip()),
+        ]
+
+    @property
+    def load(self) -> str:
+        """At which load links are shown in tables."""
+        return "as the total is carried" if self.figures.is_total else "all demands carried once"
 
     @property
     def most(self) -> Fraction:
@@ -178,9 +196,15 @@ def sides_of(both: list[tuple[Figures, str, str]], rows: int) -> list[Side]:
 
 def report_page(title: str, sides: list[Side]) -> str:
     """The page of one certificate, or of two side by side."""
-    full = all(one.figures.lower >= 1 for one in sides)
     rows = changes(sides[0].figures, sides[1].figures) if len(sides) > 1 else []
-    return render("report.html", title=title, sides=sides, changes=rows, full=full, most=max(one.most for one in sides))
+    return render("report.html", title=title, sides=sides, changes=rows, most=max(one.most for one in sides))
+
+
+def batch_page(title: str, rows: list[Summary], sentence: str, unit: str) -> str:
+    """The page of many matrices on one network."""
+    network = about(rows[0].figures.scaled, demands=False) if rows else ""
+    most = max([Fraction(1), *((row.fullest.utilisation or Fraction(0)) for row in rows if row.fullest)])
+    return render("batch.html", title=title, rows=rows, sentence=shown.joined(sentence), about=network, unit=unit, most=most)
 
 
 def render(template: str, **values: Any) -> str:
@@ -188,14 +212,11 @@ def render(template: str, **values: Any) -> str:
     return _templates().get_template(template).render(colours=LEGEND, **values)
 
 
-def about(scaled: ScaledNetwork) -> str:
+def about(scaled: ScaledNetwork, demands: bool = True) -> str:
     """A network in a line."""
     network = scaled.network
-    parts = [
-        shown.counted(len(network.nodes), "node"),
-        shown.counted(len(network.links), "link"),
-        shown.counted(len(scaled.commodities), "demand"),
-    ]
+    parts = [shown.counted(len(network.nodes), "node"), shown.counted(len(network.links), "link")]
+    parts += [shown.counted(len(scaled.commodities), "demand")] if demands else []
     modes = {
         "undirected": "both ways of a link share its capacity",
         "directed": "links are one way",
@@ -224,6 +245,8 @@ def _templates() -> jinja2.Environment:
     found.globals |= {
         "name": shown.name,
         "percent": shown.percent,
+        "percent_up": shown.percent_up,
+        "down": lambda value: shown.percent_down(value) if value else "0.0 %",
         "amount": shown.amount,
         "counted": shown.counted,
         "bar": bar,

@@ -5,11 +5,21 @@ from __future__ import annotations
 from fractions import Fraction
 
 from .figures import Figures
-from .shown import counted, name, percent, percent_down, percent_up
+from .shown import amount, amount_down, amount_up, counted, name, percent, percent_down, percent_up
+
+OPTIMUM = "this is the exact optimum"
 
 
 def verdict(figures: Figures) -> str:
     """What holds, in a sentence: lower fractions are rounded down, upper ones up."""
+    if figures.is_total:
+        return _total(figures.lower, figures.upper or figures.total, figures.total)
+    text = _fraction(figures)
+    return text.replace("no routing", "no routing within the hop limits") if figures.keeps_limits else text
+
+
+def _fraction(figures: Figures) -> str:
+    """Where all demands are carried by the same fraction."""
     low, high = figures.lower, figures.upper
     if low == 0:
         return _nothing(figures)
@@ -36,8 +46,8 @@ def _spare(low: Fraction) -> str:
 def _exact(low: Fraction) -> str:
     """Where both fractions are the same."""
     if low >= 1:
-        return f"Every demand fits{_spare(low)}, and no routing gives more: this is the exact optimum."
-    return f"Not every demand fits: {_carried(low, 'each')}, and no routing carries more: this is the exact optimum."
+        return f"Every demand fits{_spare(low)}, and no routing gives more: {OPTIMUM}."
+    return f"Not every demand fits: {_carried(low, 'each')}, and no routing carries more: {OPTIMUM}."
 
 
 def _routing(low: Fraction, high: Fraction | None) -> str:
@@ -57,7 +67,21 @@ def _nothing(figures: Figures) -> str:
     if not lost:
         return "These paths carry nothing of some demand."
     some, greatest = counted(len(lost), "demand has", "demands have"), name(lost[0].demand)
-    return f"{some} no way over links with capacity, the greatest of them {greatest}: no part of every demand can be carried."
+    limit = " within their hop limits" if figures.keeps_limits else ""
+    return f"{some} no way over links with capacity{limit}, the greatest of them {greatest}: no part of every demand can be carried."
+
+
+def _total(low: Fraction, high: Fraction, total: Fraction) -> str:
+    """Where each demand is carried in part: the total is rounded down, its bound up."""
+    if low == total:
+        return f"Every demand is carried whole, {amount(total)} in all."
+    front = f"{amount_down(low)} of {amount(total)} in all ({percent_down(low / total) if low else '0.0 %'})"
+    if low == high:
+        return f"Not every demand fits: these paths carry {front}, and no routing carries more: {OPTIMUM}."
+    if high >= total:
+        return f"Not decided whether every demand fits: these paths carry {front}."
+    most = f"{amount_up(high)} ({percent_up(high / total)})"
+    return f"Not every demand fits: these paths carry {front}, and no routing carries more than {most}."
 
 
 def growth(figures: Figures) -> str:
@@ -68,14 +92,23 @@ def growth(figures: Figures) -> str:
     if not shares or figures.upper is None:
         return ""
     ordered = sorted(shares.items(), key=lambda pair: -pair[1])
-    count, together = 0, Fraction(0)
-    while together < Fraction(9, 10):
-        together += ordered[count][1]
-        count += 1
     first, share = ordered[0]
+    count, together = _most_of(list(shares.values()))
     weight = f"{counted(count, 'link makes', 'links make')} up {percent(together)} of the bound"
-    most = percent_up(figures.upper * (1 + share))
-    return f"{weight}. With twice the capacity on {name(first)} alone, no routing would carry more than {most} of every demand."
+    higher = figures.upper * (1 + share)
+    most = f"{amount_up(min(higher, figures.total))} in all" if figures.is_total else f"{percent_up(higher)} of every demand"
+    routing = "no routing within the hop limits" if figures.keeps_limits else "no routing"
+    return f"{weight}. With twice the capacity on {name(first)} alone, {routing} would carry more than {most}."
+
+
+def _most_of(shares: list[Fraction]) -> tuple[int, Fraction]:
+    """How many of the greatest shares make up nine tenths of all of them, and what these make up."""
+    count, together = 0, Fraction(0)
+    ordered, enough = sorted(shares, reverse=True), sum(shares, Fraction(0)) * Fraction(9, 10)
+    while together < enough:
+        together += ordered[count]
+        count += 1
+    return count, together
 
 
 def peak(figures: Figures) -> str:

@@ -16,8 +16,8 @@ def _tenths(tenths: int) -> str:
 
 
 def percent(value: Fraction) -> str:
-    """The nearest tenth of a percent."""
-    return _tenths((value * 1000 + Fraction(1, 2)).__floor__()) + " %"
+    """The nearest tenth of a percent; with more digits where that would hide on which side of 100 % it lies."""
+    return _at_whole(value) or _tenths((value * 1000 + Fraction(1, 2)).__floor__()) + " %"
 
 
 def percent_down(value: Fraction) -> str:
@@ -26,8 +26,8 @@ def percent_down(value: Fraction) -> str:
 
 
 def percent_up(value: Fraction) -> str:
-    """A share in percent, rounded up to a tenth."""
-    return _tenths((value * 1000).__ceil__()) + " %"
+    """A share in percent, rounded up to a tenth; what is less than 100 % is never shown as 100 %."""
+    return (_at_whole(value) if value < 1 else "") or _tenths((value * 1000).__ceil__()) + " %"
 
 
 def _small(value: Fraction) -> str:
@@ -38,6 +38,19 @@ def _small(value: Fraction) -> str:
     while value * 10 ** (places + 2) < 10:
         places += 1
     return f"0.{(value * 10 ** (places + 2)).__floor__():0{places}d} %"
+
+
+def _at_whole(value: Fraction) -> str:
+    """A share that is 100 % by its nearest tenth, or by the next one, and is not, with the digits that show it, rounded away from 1."""
+    off = abs(value - 1)
+    if not 0 < off * 1000 < 1:
+        return ""
+    places = 2
+    while off * 10 ** (places + 2) < 1:
+        places += 1
+    above, below = (off * 10 ** (places + 2)).__ceil__(), (off * 10 ** (places + 2)).__floor__()
+    digits = 100 * 10**places + above if value > 1 else 100 * 10**places - below
+    return f"{digits // 10**places:,}.{digits % 10**places:0{places}d} %"
 
 
 def joined(text: str) -> str:
@@ -51,6 +64,22 @@ def amount(value: Fraction) -> str:
     text = f"{thousandths // 1000:,}"
     rest = f"{thousandths % 1000:03d}".rstrip("0")
     return f"{text}.{rest}" if rest else text
+
+
+def amount_down(value: Fraction) -> str:
+    """An amount with at most six decimals, rounded down."""
+    return _millionths((value * 10**6).__floor__())
+
+
+def amount_up(value: Fraction) -> str:
+    """An amount with at most six decimals, rounded up."""
+    return _millionths((value * 10**6).__ceil__())
+
+
+def _millionths(number: int) -> str:
+    """A number of millionths, with commas between thousands."""
+    rest = f"{number % 10**6:06d}".rstrip("0")
+    return f"{number // 10**6:,}.{rest}" if rest else f"{number // 10**6:,}"
 
 
 def decimal(value: Fraction, places: int = 6) -> str:

@@ -3,96 +3,190 @@
 from __future__ import annotations
 
 import argparse
-import re
-import sys
+import tempfile
+from collections.abc import Callable, Iterable
 from dataclasses import dataclass
 from pathlib import Path
 
 from mcf import Program, TextError, judge_of, load_text, scale
-from mcf.judged import Judged, NotValid, judge_file
-from mcf.convert.files import contents
-from mcf.convert.model import Notes, Refused
-from mcf.convert.native import read_network
+from mcf.judged import Judged, NotValid, judge
+from mcf.matrices import answers, is_batch, matrices, unit_of, with_demands
+from mcf.output import contents, write
+from mcf.scaled import ScaledNetwork
 
 from .figures import Figures
-from .page import report_page, sides_of
+from .page import batch_page, report_page, sides_of
 from .sentences import verdict
-from .tables import links_table, paths_table
+from .summary import Summary, batch_sentence
+from .tables import batch_table, links_table, paths_table
 
 
 @dataclass(frozen=True)
-class Files:
-    """What a report is on."""
+class Source:
+    """A text and the name of the file that it comes from."""
 
-    net: str
-    certificate: str
-    second: str | None
-    net2: str | None
+    name: str
+    text: str
 
 
-def judged(program: Program, net: str, certificate: str) -> tuple[Figures, str]:
-    """The figures of a certificate or routing that `mcf check` finds valid, and what it said."""
-    figures, judgement = judged_figures(program, net, certificate)
-    return figures, judgement.line
+@dataclass(frozen=True)
+class Shown:
+    """What is shown of a network: figures whose text the proved check called valid in this run, what it said, and the network's unit."""
+
+    figures: Figures
+    said: str
+    unit: str
+
+
+class Reader:
+    """Reads files, each once, so what was judged is what is shown, also where a file changes meanwhile or can be read only once."""
+
+    def __init__(self, program: Program) -> None:
+        """The program judges, and reads networks."""
+        self._program = program
+        self._read: dict[str, Source] = {}
+        self._networks: dict[tuple[str, str, str], ScaledNetwork] = {}
+
+    def source(self, name: str) -> Source:
+        """A file by its name; `-` is standard input."""
+        if name not in self._read:
+            self._read[name] = Source("standard input" if name == "-" else name, contents(name).decode("latin-1"))
+        return self._read[name]
+
+    def shown(self, net: Source, certificate: Source) -> Shown:
+        """The figures of a certificate or routing that is valid or feasible; TextError, with its cause, where it is not."""
+        with tempfile.TemporaryDirectory(prefix="mcf-report-") as room:
+            file = Path(room, "net")
+            file.write_bytes(net.text.encode("latin-1"))
+            try:
+                found = judge(self._program, file, certificate.text)
+                text = found.content
+                scaled = self._scaled(file, net, text.links, text.modules)
+            except NotValid as why:
+                raise TextError(f"{certificate.name} on {net.name}: {why}") from None
+            except TextError as why:
+                raise TextError(f"{net.name}: {why}") from None
+        figures = Figures(scaled, text)
+        _require_same(figures, found)
+        return Shown(figures, f"mcf {judge_of(certificate.text)}: {found.line}", unit_of(net.text))
+
+    def _scaled(self, file: Path, net: Source, links: str, modules: str) -> ScaledNetwork:
+        """The network of a text that was accepted, under options."""
+        key = net.text, links, modules
+        if key not in self._networks:
+            self._networks[key] = scale(self._program.network(file), links, modules)
+        return self._networks[key]
+
+
+def _require_same(figures: Figures, found: Judged) -> None:
+    """The fractions of the figures are those of the program's line."""
+    low, high = figures.lower, figures.upper
+    units = 10**figures.scaled.decimals if figures.is_total else 1
+    bounds = found.range if figures.is_certificate else None
+    if low * units != found.lower or (bounds is not None and (high is None or high * units != bounds.upper)):
+        raise TextError(f"internal error: the figures are not those that the check tells: {found.line}")
 
 
 def judged_figures(program: Program, net: str, certificate: str) -> tuple[Figures, Judged]:
     """The figures of a certificate or routing that `mcf check` finds valid, and the judgement."""
+    text = load_text(certificate)
     try:
-        found = judge_file(program, net, certificate, "check")
+        found = judge(program, net, text, "check")
     except NotValid as why:
-        raise TextError(f"{certificate} on {net}: {why}{_other_kind(certificate) if ' K1 ' in why.said else ''}") from None
-    text = found.content
-    return Figures(scale(program.network(net), text.links, text.modules), text), found
+        kind = judge_of(text)
+        other = f"; it is one for mcf {kind}, and only those of mcf solve and routings are taken" if kind != "check" else ""
+        raise TextError(f"{certificate} on {net}: {why}{other}") from None
+    return Figures(scale(program.network(net), found.content.links, found.content.modules), found.content), found
 
 
-def _other_kind(certificate: str) -> str:
-    """What a file is that is a certificate of another kind."""
-    judge = judge_of(load_text(certificate))
-    return "" if judge == "check" else f"; it is one for mcf {judge}, and only those of mcf solve and routings are shown"
+def write_report(program: Program, words: argparse.Namespace, title: str, say: Callable[[str], None]) -> None:
+    """Writes the page and the tables that are asked for, and says the sentences."""
+    reader = Reader(program)
+    net, first = reader.source(words.net), reader.source(words.certificate)
+    listed = _listed(reader.source(words.list)) if words.list else None
+    if is_batch(first.text) and words.matrix is None:
+        _write_batch(reader, net, first, listed, words, title, say)
+        return
+    if words.matrix is not None and not is_batch(first.text):
+        raise TextError(f"--matrix names a matrix of what batch wrote, and {first.name} is a single answer")
+    other = reader.source(words.net2) if words.net2 else net
+    pairs = [(net, first)] + ([(other, reader.source(words.second))] if words.second else [])
+    both = [reader.shown(*_of_matrix(pair, listed, words.matrix)) for pair in pairs]
+    _write_sides(_beside(both), words, title, say)
 
 
-def write_report(program: Program, files: Files, title: str, words: argparse.Namespace) -> None:
-    """Writes the page and the tables that are asked for."""
-    first = judged(program, files.net, files.certificate)
-    second = judged(program, files.net2 or files.net, files.second) if files.second else None
-    both = _beside(first, second) if second else [first]
-    if words.html:
-        units = [unit_of_file(files.net), unit_of_file(files.net2 or files.net)]
-        sides = sides_of([(figures, f"mcf check: {said}", unit) for (figures, said), unit in zip(both, units)], words.rows)
-        write(words.html, report_page(title, sides), "utf-8")
-    if words.csv:
-        write(words.csv, links_table([one[0] for one in both]))
-    if words.paths:
-        write(words.paths, paths_table(both[-1][0]))
-    if "-" not in (words.html, words.csv, words.paths):
-        for front, (figures, _) in zip(("Before: ", "After: ") if second else ("",), both):
-            print(front + verdict(figures))
+def _listed(source: Source) -> dict[str, str]:
+    """The matrices of a list."""
+    try:
+        return matrices(source.text)
+    except TextError as why:
+        raise TextError(f"{source.name}: {why}") from None
 
 
-def _beside(first: tuple[Figures, str], second: tuple[Figures, str]) -> list[tuple[Figures, str]]:
+def _of_matrix(pair: tuple[Source, Source], listed: dict[str, str] | None, name: str | None) -> tuple[Source, Source]:
+    """A network and an answer; of what batch wrote, those of the matrix that is named."""
+    net, answer = pair
+    if not is_batch(answer.text):
+        return pair
+    if name is None:
+        raise TextError(f"{answer.name}: is of batch, which has an answer for each matrix: --matrix NAME takes one")
+    return matrix_of(net, answer, listed, name)
+
+
+def matrix_of(net: Source, batch: Source, listed: dict[str, str] | None, name: str) -> tuple[Source, Source]:
+    """The network with a matrix's demands, and the certificate that batch wrote for it."""
+    if listed is None:
+        raise TextError(f"{batch.name}: is of batch; --list LIST names the list of matrices that it was made of")
+    key = name.encode("utf-8", "surrogateescape").decode("latin-1")
+    found = answers(batch.text)
+    if key not in listed or key not in found:
+        raise TextError(f"there is no matrix {name} in {batch.name if key in listed else 'the list'}")
+    return Source(f"{net.name} with matrix {name}", with_demands(net.text, listed[key])), Source(batch.name, found[key])
+
+
+def _beside(both: list[Shown]) -> list[Shown]:
     """Both, where a routing takes over the bound of the other one if that is a certificate of the same network."""
-    return [(first[0].beside(second[0]), first[1]), (second[0].beside(first[0]), second[1])]
+    if len(both) < 2:
+        return both
+    first, second = both
+    if first.figures.is_total != second.figures.is_total:
+        raise TextError("a certificate of a total carries demands in parts of their own, so it can stand beside another one of a total alone")
+    return [
+        Shown(first.figures.beside(second.figures), first.said, first.unit),
+        Shown(second.figures.beside(first.figures), second.said, second.unit),
+    ]
 
 
-def unit_of_file(net: str) -> str:
-    """The unit that a network file's META names, as people write it; nothing where it names none."""
-    try:
-        unit = read_network(net, contents(net), Notes(quiet=True)).meta.get("unit", "")
-    except Refused:
-        return ""
-    rate = re.fullmatch(r"([KMGT]?)BITPERSEC", unit)
-    return f"{rate[1].replace('K', 'k')}bit/s" if rate else unit
+def _write_sides(both: list[Shown], words: argparse.Namespace, title: str, say: Callable[[str], None]) -> None:
+    """The files on one certificate or on two."""
+    if words.html:
+        sides = sides_of([(one.figures, one.said, one.unit) for one in both], words.rows)
+        write(words.html, report_page(title, sides).encode("utf-8", "replace"))
+    if words.csv:
+        write(words.csv, links_table([one.figures for one in both]).encode("latin-1"))
+    if words.paths:
+        write(words.paths, paths_table(both[-1].figures).encode("latin-1"))
+    for front, one in zip(("Before: ", "After: ") if len(both) > 1 else ("",), both):
+        say(front + verdict(one.figures))
 
 
-def write(file: str, text: str, encoding: str = "latin-1") -> None:
-    """Writes a text; `-` is standard output."""
-    data = text.encode(encoding, "replace")
-    try:
-        if file == "-":
-            sys.stdout.buffer.write(data)
-            sys.stdout.buffer.flush()
-        else:
-            Path(file).write_bytes(data)
-    except OSError as error:
-        raise TextError(f"{file}: {error.strerror}") from error
+def _write_batch(reader: Reader, net: Source, batch: Source, listed: dict[str, str] | None, words: argparse.Namespace, title: str,
+                 say: Callable[[str], None]) -> None:  # fmt: skip
+    """The files on all matrices that batch answered."""
+    if words.second or words.paths:
+        raise TextError(f"{batch.name}: is of batch, and {'--paths' if words.paths else 'a second file'} takes --matrix NAME")
+    rows = summaries(reader, net, batch, listed)
+    without = [name for name in listed or () if name not in {row.matrix for row in rows}]
+    sentence = batch_sentence(rows, without)
+    if words.html:
+        write(words.html, batch_page(title, rows, sentence, unit_of(net.text)).encode("utf-8", "replace"))
+    if words.csv:
+        write(words.csv, batch_table(rows).encode("latin-1"))
+    say(sentence)
+
+
+def summaries(reader: Reader, net: Source, batch: Source, listed: dict[str, str] | None) -> list[Summary]:
+    """What the certificate of each matrix says, in their order."""
+    names: Iterable[str] = answers(batch.text)
+    shown = [(name, reader.shown(*matrix_of(net, batch, listed, name.encode("latin-1").decode("utf-8", "surrogateescape")))) for name in names]
+    return [Summary(name, one.figures, one.said) for name, one in shown]

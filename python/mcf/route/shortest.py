@@ -53,7 +53,7 @@ class Ways:
     def next_arcs(self, node: int, distances: Sequence[int | None]) -> list[Arc]:
         """The arcs that begin a shortest path from a node to the target of the distances."""
         here = distances[node]
-        return [arc for arc in self.out[node] if (rest := distances[arc.to]) is not None and arc.length + rest == here]
+        return [arc for arc in self.out[node] if (left := distances[arc.to]) is not None and arc.length + left == here]
 
     def shortest(self, source: int, target: int, distances: Sequence[int | None]) -> Walk:
         """A shortest path: at each node the first of the cells that begin one."""
