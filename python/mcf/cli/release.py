@@ -1,7 +1,8 @@
 """Makes of the program that was built what others install without a toolchain, each with its checksum:
 
   archive   mcf-VERSION-x86_64-linux.tar.gz: the program with help and hints, documents and examples
-  wheel     mcf_certified_flow-VERSION-….whl: the program as mcf, the tools and the Python package, for pip
+  wheel     mcf_certified_flow-VERSION-py3-none-manylinux_X_Y_x86_64.whl: the program as mcf, the tools and the Python package, for pip
+  deb       mcf_VERSION_amd64.deb: all that for Debian, which installs what the tools stand on
 """
 
 from __future__ import annotations
@@ -16,6 +17,7 @@ from mcf.arguments import Arguments
 from mcf.output import main_of, write
 from mcf.release.archive import built_program, try_archive, version_of
 from mcf.release.archive import archive as pack
+from mcf.release.deb import deb
 from mcf.release.elf import is_program
 from mcf.release.missing import MissingPackages
 from mcf.release.sources import commit_seconds
@@ -23,7 +25,7 @@ from mcf.release.staged import Release
 from mcf.release.wheel import wheel
 
 ROOT = Path(__file__).resolve().parents[3]
-KINDS = ("archive", "wheel")
+KINDS = ("archive", "wheel", "deb")
 EXAMPLES = """
 examples:
   tools/release
@@ -78,7 +80,7 @@ def released() -> int:
     if others:
         parser.error(f"{others[0]} is not made: the kinds are {', '.join(KINDS)}")
     release = release_of(words.mcf)
-    makers = {"archive": archive, "wheel": wheel}
+    makers = {"archive": archive, "wheel": wheel, "deb": deb}
     status = 0
     for kind in [kind for kind in KINDS if kind in (words.kinds or KINDS)]:
         try:

@@ -16,11 +16,11 @@ from mcf import Program, TextError
 from mcf.program import is_old
 from mcf.version import commit_of
 
+from .pages import titled
 from .sources import sources
 
 # whole folders, and files by name or pattern, that are shipped as they stand
 SHIPPED = ("VERSION", "LICENSE-APACHE", "LICENSE-MIT", "docs", "examples", "python/mcf/*.py", "python/mcf/hints", "tools/mcf_texts")
-TITLE = '.TH MCF 1 "2026" "mcf"'
 
 
 def version_of(root: Path) -> str:
@@ -45,16 +45,9 @@ def files_of(root: Path, program: Path) -> dict[str, tuple[int, bytes]]:
              "README.md": (0o644, (root / "python/mcf/release/README.md").read_bytes())}
     files |= {name: (0o644, file.read_bytes()) for name, file in sources(root, *SHIPPED).items()}
     files["python/mcf/COMMIT"] = (0o644, f"{commit_of(root)}\n".encode())
-    files["docs/mcf.1"] = (0o644, _titled(files["docs/mcf.1"][1].decode(), version_of(root)))
+    files["docs/mcf.1"] = (0o644, titled(files["docs/mcf.1"][1].decode(), version_of(root)).encode())
     sums = "".join(f"{hashlib.sha256(files[name][1]).hexdigest()}  {name}\n" for name in sorted(files))
     return {**files, "SHA256SUMS": (0o644, sums.encode())}
-
-
-def _titled(page: str, version: str) -> bytes:
-    """The man page with the version in its title."""
-    if not page.startswith(TITLE):
-        raise TextError(f"docs/mcf.1 does not begin with {TITLE}")
-    return (TITLE[:-1] + f' {version}"' + page[len(TITLE):]).encode()
 
 
 def archive(root: Path, program: Path, seconds: int) -> tuple[str, bytes]:

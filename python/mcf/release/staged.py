@@ -2,6 +2,7 @@
 
 from __future__ import annotations
 
+import os
 from dataclasses import dataclass
 from pathlib import Path
 
@@ -44,3 +45,14 @@ def place(file: Path, data: bytes, mode: int = 0o644) -> None:
             folder.chmod(0o755)
     file.write_bytes(data)
     file.chmod(mode)
+
+
+def environment(release: Release) -> dict[str, str]:
+    """What a build may see of the caller's environment: nothing that could change its bytes."""
+    kept = {name: os.environ[name] for name in ("PATH", "HOME", "TMPDIR") if name in os.environ}
+    return {**kept, "LC_ALL": "C.UTF-8", "TZ": "UTC", "SOURCE_DATE_EPOCH": str(release.seconds), "PYTHONDONTWRITEBYTECODE": "1"}
+
+
+def last_line(text: str) -> str:
+    """The last line that is not empty."""
+    return ([line for line in text.splitlines() if line.strip()] or [""])[-1].strip()
