@@ -7,7 +7,6 @@ import shutil
 import subprocess
 import sys
 import zipfile
-from collections.abc import Iterator
 from dataclasses import dataclass
 from io import BytesIO
 from pathlib import Path
@@ -16,14 +15,16 @@ import pytest
 
 from mcf import Program
 from mcf.release.elf import glibc
+from mcf.release.pages import scripts
 from mcf.release.staged import Release
 from mcf.version import commit_of
 
-pytest.importorskip("hatchling", reason="python3-hatchling is missing: tools/setup --tests")
+for module, package in (("hatchling", "python3-hatchling"), ("shtab", "python3-shtab"), ("build_manpages", "python3-argparse-manpage")):
+    pytest.importorskip(module, reason=f"{package} is missing: tools/setup --tests")
 from mcf.release.wheel import wheel  # noqa: E402
 
 STANDS_IN = Path("/bin/true")
-TOOLS = ("certify", "convert", "report", "route", "survey")
+TOOLS = tuple(scripts(Path(__file__).resolve().parents[2]))
 EPOCH = 1_700_000_000
 
 
@@ -33,6 +34,7 @@ class Installed:
 
     python: Path
     room: Path
+    version: str
 
     def run(self, name: str, *words: str) -> subprocess.CompletedProcess[str]:
         """Runs a script of the environment."""
@@ -53,7 +55,7 @@ def made(root: Path, program: Program) -> tuple[str, bytes]:
 
 
 @pytest.fixture(scope="module")
-def installed(made: tuple[str, bytes], root: Path, tmp_path_factory: pytest.TempPathFactory) -> Iterator[Installed]:
+def installed(made: tuple[str, bytes], root: Path, tmp_path_factory: pytest.TempPathFactory) -> Installed:
     """The wheel in a fresh virtual environment, installed without any index."""
     room = tmp_path_factory.mktemp("wheel")
     python = room / "venv/bin/python"
@@ -63,7 +65,9 @@ def installed(made: tuple[str, bytes], root: Path, tmp_path_factory: pytest.Temp
     subprocess.run(words, check=True, cwd=room)
     for name in ("triangle.net", "triangle.cert", "polska.net", "polska.cert"):
         shutil.copy(root / "examples" / name, room)
-    yield Installed(python, room)
+    with zipfile.ZipFile(BytesIO(made[1])) as zipped:
+        version, commit = (zipped.read(f"mcf/{name}").decode().strip() for name in ("VERSION", "COMMIT"))
+    return Installed(python, room, f"{version} ({commit})")
 
 
 def test_the_wheel_has_the_program_and_the_package(root: Path) -> None:
@@ -75,10 +79,10 @@ def test_the_wheel_has_the_program_and_the_package(root: Path) -> None:
         assert zipped.read(f"mcf_certified_flow-{version}.data/scripts/mcf") == STANDS_IN.read_bytes()
         assert zipped.read("mcf/VERSION").decode() == f"{version}\n"
         assert zipped.read("mcf/COMMIT").decode() == f"{commit_of(root)}\n"
-        scripts = zipped.read(f"mcf_certified_flow-{version}.dist-info/entry_points.txt").decode()
+        entries = zipped.read(f"mcf_certified_flow-{version}.dist-info/entry_points.txt").decode()
         assert "Root-Is-Purelib: false" in zipped.read(f"mcf_certified_flow-{version}.dist-info/WHEEL").decode()
     assert files[f"mcf_certified_flow-{version}.data/scripts/mcf"].external_attr >> 16 & 0o777 == 0o755
-    assert [line.partition(" ")[0] for line in scripts.splitlines()[1:]] == [f"mcf-{tool}" for tool in TOOLS]
+    assert tuple(line.partition(" ")[0] for line in entries.splitlines()[1:]) == TOOLS and "mcf-report" in TOOLS
     for file in ("mcf/__init__.py", "mcf/py.typed", "mcf/report/templates/report.html", "mcf/hints/help/solve.txt"):
         assert file in files
     licences = {Path(file).name for file in files if "/licenses/" in file}
@@ -121,35 +125,34 @@ def test_the_wheel_solves_and_checks(installed: Installed, program: Program, roo
 
 def test_the_wheel_reports(installed: Installed) -> None:
     said = installed.said("mcf-report", "polska.net", "polska.cert", "--html", "polska.html", "--csv", "polska.csv")
-    assert said.startswith("Every demand fits") or said == ""
+    assert said.startswith("Not every demand fits: ") and said.count("\n") == 1
     assert (installed.room / "polska.html").read_text().startswith("<!DOCTYPE html>")
     assert len((installed.room / "polska.csv").read_text().splitlines()) == 19
 
 
 def test_the_wheel_certifies(installed: Installed) -> None:
-    installed.said("mcf-certify", "triangle.net", "--output", "best.cert")
+    (installed.room / "best.cert").write_text(installed.said("mcf-certify", "triangle.net"))
     assert installed.said("mcf", "check", "triangle.net", "best.cert").startswith("valid closed undirected largest ")
 
 
 def test_an_exact_survey_finds_certify_without_the_repository(installed: Installed) -> None:
     ran = installed.run("mcf-survey", "triangle.net", "triangle.cert", "--failures", "--exact", "--quiet")
-    assert (ran.returncode, ran.stderr) in ((0, ""), (1, "")), ran.stderr
-    assert ran.stdout.startswith("If one link fails") or ran.stdout
+    assert (ran.returncode, ran.stderr) in ((0, ""), (1, "")) and ran.stdout.count("\n") == 1
 
 
-def test_the_package_of_the_wheel_finds_its_program(installed: Installed, root: Path) -> None:
+def test_the_package_of_the_wheel_finds_its_program(installed: Installed) -> None:
     code = "import mcf, sys; from mcf.version import told; print(mcf.find_program().path, told(), mcf.__file__, sep='\\n')"
     path, told, file = installed.said("python", "-I", "-c", code).splitlines()
     assert path == str(installed.python.parent / "mcf")
-    assert told == f"{(root / 'VERSION').read_text().strip()} ({commit_of(root)})"
+    assert told == installed.version
     assert file.startswith(str(installed.room))
 
 
 @pytest.mark.parametrize("tool", TOOLS)
-def test_each_tool_of_the_wheel_tells_its_version(installed: Installed, root: Path, tool: str) -> None:
-    version = f"mcf {(root / 'VERSION').read_text().strip()} ({commit_of(root)})\n"
-    assert installed.said(f"mcf-{tool}", "--version") == version
-    assert installed.said(f"mcf-{tool}", "--help").startswith("usage: ")
+def test_each_tool_of_the_wheel_tells_its_version(installed: Installed, tool: str) -> None:
+    assert installed.said(tool, "--version") == f"mcf {installed.version}\n"
+    assert installed.said(tool, "--help").startswith("usage: ")
+    assert (installed.python.parents[1] / f"share/man/man1/{tool}.1").is_file()
 
 
 def test_a_source_distribution_builds_the_wheel_for_every_system(root: Path, tmp_path: Path) -> None:

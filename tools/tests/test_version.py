@@ -5,6 +5,7 @@ from __future__ import annotations
 import re
 import shutil
 import subprocess
+import tomllib
 from pathlib import Path
 
 import pytest
@@ -65,3 +66,14 @@ def test_each_tool_tells_version_and_commit_without_any_package(root: Path, tool
     ran = subprocess.run(words, capture_output=True, text=True, check=False)
     assert (ran.returncode, ran.stderr) == (0, "")
     assert ran.stdout == f"mcf {(root / 'VERSION').read_text().strip()} ({commit_of(root)})\n"
+
+
+def test_the_citation_has_the_version(root: Path) -> None:
+    yaml = pytest.importorskip("yaml", reason="python3-yaml is missing: tools/setup --tests")
+    text = (root / "CITATION.cff").read_text()
+    cited = yaml.safe_load(text)
+    assert cited["version"] == (root / "VERSION").read_text().strip() and cited["cff-version"] == "1.2.0"
+    assert {"message", "title", "authors", "license", "date-released"} <= set(cited)
+    assert re.fullmatch(r"20[0-9]{2}-[01][0-9]-[0-3][0-9]", cited["date-released"])
+    project = tomllib.loads((root / "python/pyproject.toml").read_text())["project"]
+    assert " OR ".join(cited["license"]) == project["license"]

@@ -6,15 +6,16 @@ import re
 import subprocess
 import tempfile
 import time
+import tomllib
 from pathlib import Path
 
 from mcf.errors import TextError
 
+from .archive import version_of
 from .missing import require
 from .pages import scripts, shared_files
 from .sources import sources
 from .staged import Release, environment, last_line, place, staged
-from .archive import version_of
 
 # what is for the repository alone
 _LEFT_OUT = ("build/", "release/", "cli/release.py")
@@ -71,11 +72,12 @@ def debian_version(version: str) -> str:
 
 
 def depends(root: Path) -> list[str]:
-    """The packages that tools/setup installs, but for those of its tests."""
+    """The packages that tools/setup installs, but for that of tests, and Python as the project wants it."""
     listed = re.search(r'^packages="([^"]*)"', (root / "tools/setup").read_text("utf-8"), re.M)
     if listed is None:
         raise TextError("tools/setup has no list of packages")
-    return sorted(set(listed[1].split()) - {_TESTS})
+    least = tomllib.loads((root / "python/pyproject.toml").read_text("utf-8"))["project"]["requires-python"].removeprefix(">=")
+    return [f"python3 (>= {least})", *sorted(set(listed[1].split()) - {"python3", _TESTS})]
 
 
 def _debian(release: Release) -> dict[str, str]:

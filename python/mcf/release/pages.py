@@ -43,7 +43,7 @@ def program_parser() -> argparse.ArgumentParser:
     parser = argparse.ArgumentParser(prog="mcf", add_help=False)
     commands = parser.add_subparsers(dest="command", metavar="COMMAND")
     for name, command in COMMANDS.items():
-        words = commands.add_parser(name, add_help=False)
+        words = commands.add_parser(name, add_help=False, help=command.taken)
         for place in command.words:
             words.add_argument(place, metavar=place)
         for place in command.spare:
@@ -63,7 +63,7 @@ def shared_files(root: Path, seconds: int, zsh: str) -> dict[str, str]:
     files["man/man1/mcf.1"] = titled((root / "docs/mcf.1").read_text("utf-8"), version())
     for name, parser in {"mcf": program_parser(), **tools}.items():
         _prepare(parser, shtab.FILE, shtab.DIRECTORY)
-        files[f"bash-completion/completions/{name}"] = shtab.complete(parser, "bash")
+        files[f"bash-completion/completions/{name}"] = _with_all_choices(shtab.complete(parser, "bash"))
         files[f"zsh/{zsh}/_{name}"] = shtab.complete(parser, "zsh")
     return files
 
@@ -118,6 +118,12 @@ def _paragraph(text: str) -> str:
     shown = lines if is_table else [" ".join(lines)]
     body = "".join(f"\\&{line}\n" if line[:1] in (".", "'") else f"{line}\n" for line in shown)
     return f".PP\n.nf\n{body}.fi\n" if is_table else f".PP\n{body}"
+
+
+def _with_all_choices(completion: str) -> str:
+    """A completion for bash with all choices of a word in place of the first, which is all that this version of shtab takes."""
+    every = completion.replace('_choices_var="${current_action}_choices"', '_choices_var="${current_action}_choices[@]"')
+    return every.replace('"${!current_action_choices_var}"', """"$(printf '%s\\n' "${!current_action_choices_var}")\"""")
 
 
 def _prepare(parser: argparse.ArgumentParser, file: dict[str, str], folder: dict[str, str]) -> None:
