@@ -4,12 +4,10 @@ from __future__ import annotations
 
 import argparse
 from collections.abc import Sequence
-from pathlib import Path
 from typing import Any, NoReturn
 
+from . import version
 from .errors import TextError
-
-VERSION = Path(__file__).resolve().parents[2] / "VERSION"
 
 
 class Arguments(argparse.ArgumentParser):
@@ -20,7 +18,7 @@ class Arguments(argparse.ArgumentParser):
         super().__init__(prog=prog, description=description, epilog=examples, formatter_class=form, allow_abbrev=False)
         self.register("action", None, _Once)
         self.register("action", "store", _Once)
-        self.add_argument("--version", action="version", version=f"mcf {_version()}", help="the version, and nothing else")
+        self.add_argument("--version", action=_Version, help="the version and the commit that it was built of, and nothing else")
 
     def error(self, message: str) -> NoReturn:
         """Ends with one line."""
@@ -41,6 +39,11 @@ class _Once(argparse.Action):
         setattr(namespace, self.dest, values)
 
 
-def _version() -> str:
-    """What the file VERSION has."""
-    return VERSION.read_text("utf-8").strip() if VERSION.is_file() else "of no version"
+class _Version(argparse._VersionAction):
+    """Tells the version and the commit, which is asked for only then."""
+
+    def __call__(
+        self, parser: argparse.ArgumentParser, namespace: argparse.Namespace, values: str | Sequence[Any] | None, option: str | None = None
+    ) -> None:
+        print(f"mcf {version.told()}")
+        parser.exit()

@@ -19,7 +19,7 @@ from .errors import TextError
 from .hints.hint import explained
 from .network import Network, read_network
 
-ROOT = Path(__file__).resolve().parents[2]
+PACKAGES, ROOT = Path(__file__).resolve().parents[1:3]
 BUILD = "./mcf there builds it, which takes from 20 minutes to an hour since all is proved first; or name one by --mcf, or by MCF"
 
 TINY = ("?SNDlib native format; type: network; version: 1.0\nNODES (\n  A\n  B\n)\nLINKS (\n  L ( A B ) 1 0 0 0 ( )\n)\n"
@@ -101,10 +101,10 @@ def find_program(path: str | None = None) -> Program:
 
 
 def built_program(root: Path) -> str:
-    """The path of the program that was built in a repository, or lies in a release or beside this Python's scripts, or else is on the path."""
+    """The path of the program that was built in a repository, or lies in a release, or was installed with the package, or is on the path."""
     if not (root / "crates").is_dir():
-        there = (root / "program/mcf", Path(sysconfig.get_path("scripts"), "mcf"))
-        found = next((str(file) for file in there if file.is_file()), shutil.which("mcf"))
+        there = root / "program/mcf"
+        found = str(there) if there.is_file() else installed_program(PACKAGES) or shutil.which("mcf")
         if found is None:
             raise TextError("there is no program mcf here or on the path: name one by --mcf, or by MCF in the environment")
         return found
@@ -113,6 +113,16 @@ def built_program(root: Path) -> str:
     if fresh is None:
         raise TextError(f"the program in {root} {'is older than its sources' if built else 'was not built yet'}: {BUILD}")
     return str(fresh)
+
+
+def installed_program(packages: Path) -> str | None:
+    """The program among the scripts that pip or Debian installs with the packages of a folder."""
+    for scheme in sysconfig.get_scheme_names():
+        places = sysconfig.get_paths(scheme)
+        program = Path(places["scripts"], "mcf")
+        if packages == Path(places["platlib"]).resolve() and program.is_file():
+            return str(program)
+    return None
 
 
 def is_old(program: Path, crates: Path) -> bool:

@@ -3,7 +3,9 @@
 from __future__ import annotations
 
 import os
+import shutil
 import signal
+import subprocess
 import sys
 from pathlib import Path
 
@@ -43,3 +45,16 @@ def program() -> Program:
     if not os.path.isfile(path):
         pytest.skip("mcf was not built, and MCF names none")
     return find_program(path)
+
+
+@pytest.fixture
+def small_repository(root: Path, tmp_path: Path) -> Path:
+    """A git repository with what releases are made of, and without crates, documents and tests."""
+    top = tmp_path / "repository"
+    shutil.copytree(root / "python", top / "python", ignore=shutil.ignore_patterns("__pycache__", ".*"))
+    for name in ("VERSION", "LICENSE-APACHE", "LICENSE-MIT"):
+        shutil.copy(root / name, top)
+    who = ["-c", "user.name=A", "-c", "user.email=a@b", "-c", "commit.gpgsign=false"]
+    for words in (["init", "-q"], ["add", "."], [*who, "commit", "-q", "-m", "all"]):
+        subprocess.run(["git", "-C", str(top), *words], check=True)
+    return top

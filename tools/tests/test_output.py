@@ -15,6 +15,7 @@ import pytest
 
 from mcf.errors import TextError
 from mcf.output import one_line, require_output, write, writing
+from mcf.version import commit_of
 
 ROOT = Path(__file__).resolve().parents[2]
 FRONT = f"""
@@ -256,5 +257,5 @@ def test_right_words_and_the_version() -> None:
     done = tool(ARGUMENTS.replace("WORDS", "['x', '--unit', 'a', 'y', '--more', '1', '--more', '2']"))
     assert done.stdout == b"Namespace(unit='a', more=['1', '2'], files=['x', 'y'])\n" and not done.stderr
     done = tool(ARGUMENTS.replace("WORDS", "['--version']"))
-    assert (done.returncode, done.stdout.decode()) == (0, f"mcf {(ROOT / 'VERSION').read_text()}")
+    assert (done.returncode, done.stdout.decode()) == (0, f"mcf {(ROOT / 'VERSION').read_text().strip()} ({commit_of(ROOT)})\n")
     assert tool(ARGUMENTS.replace("WORDS", "['--help']")).returncode == 0

@@ -14,7 +14,10 @@ from pathlib import Path
 import pytest
 
 from mcf import Program, TextError
-from mcf.release.archive import archive, built_program, files_of, is_for_this_kind, try_archive, version_of
+from mcf.release.archive import archive, built_program, files_of, try_archive, version_of
+from mcf.release.elf import glibc, is_program, libraries, symbol_versions
+from mcf.release.staged import Release
+from mcf.version import commit_of
 
 STANDS_IN = Path("/bin/true")
 
@@ -33,7 +36,7 @@ def test_archive_has_what_a_receiver_needs(root: Path, tmp_path: Path) -> None:
     assert top.name == name == f"mcf-{version_of(root)}-x86_64-linux"
     for file in ("mcf", "program/mcf", "docs/mcf.1", "docs/guide.md", "docs/formats.md", "LICENSE-APACHE", "LICENSE-MIT", "README.md",
                  "VERSION", "SHA256SUMS", "python/mcf/hints/starter.sh", "python/mcf/hints/help/solve.txt",
-                 "python/mcf/hints/__main__.py", "python/mcf/__init__.py", "python/mcf/network.py", "python/mcf/graph.py",
+                 "python/mcf/hints/__main__.py", "python/mcf/__init__.py", "python/mcf/network.py", "python/mcf/graph.py", "python/mcf/COMMIT",
                  "tools/mcf_texts/__init__.py", "tools/mcf_texts/graph.py", "examples/polska.net", "examples/polska.cert"):
         assert (top / file).is_file(), file
     assert (top / "program/mcf").read_bytes() == STANDS_IN.read_bytes()
@@ -70,7 +73,7 @@ def test_version_stands_in_one_file(root: Path) -> None:
 
 def test_starter_of_the_release_has_help_and_no_build(root: Path, tmp_path: Path) -> None:
     top = unpacked(archive(root, STANDS_IN, 0)[1], tmp_path)
-    assert Program(str(top / "mcf")).ask("--version") == f"mcf {version_of(root)}\n"
+    assert Program(str(top / "mcf")).ask("--version") == f"mcf {version_of(root)} ({commit_of(root)})\n"
     assert Program(str(top / "mcf")).ask("help", "check").startswith("usage: mcf check")
     assert Program(str(top / "mcf")).run("solve").status == 0
 
@@ -100,15 +103,15 @@ def test_a_program_older_than_a_source_is_not_shipped(tmp_path: Path) -> None:
 
 
 def test_kind_of_program() -> None:
-    assert is_for_this_kind(STANDS_IN) == (os.uname().machine == "x86_64")
-    assert not is_for_this_kind(Path(__file__))
+    assert is_program(STANDS_IN) == (os.uname().machine == "x86_64")
+    assert not is_program(Path(__file__))
 
 
 def test_an_archive_that_does_not_work_is_not_kept(root: Path, tmp_path: Path) -> None:
     name, data = archive(root, STANDS_IN, 0)
     with pytest.raises(TextError, match="mcf check, mcf solve$"):
         try_archive(name, data, version_of(root))
-    words = [str(root / "tools/release"), "--mcf", str(STANDS_IN), "--to", str(tmp_path / "dist")]
+    words = [str(root / "tools/release"), "archive", "--mcf", str(STANDS_IN), "--to", str(tmp_path / "dist")]
     ran = subprocess.run(words, capture_output=True, text=True)
     assert (ran.returncode, ran.stdout) == (2, "") and ran.stderr.count("\n") == 1
     assert not (tmp_path / "dist").exists()
@@ -122,7 +125,7 @@ def test_errors_are_one_line(root: Path, words: list[str]) -> None:
 
 def test_release_of_the_program_works_where_it_is_unpacked(program: Program, root: Path, tmp_path: Path) -> None:
     to = tmp_path / "dist"
-    ran = subprocess.run([str(root / "tools/release"), "--mcf", program.path, "--to", str(to)], capture_output=True, text=True)
+    ran = subprocess.run([str(root / "tools/release"), "archive", "--mcf", program.path, "--to", str(to)], capture_output=True, text=True)
     assert (ran.returncode, ran.stderr) == (0, "")
     file = Path(ran.stdout.rstrip("\n"))
     assert subprocess.run(["sha256sum", "--quiet", "-c", f"{file.name}.sha256"], cwd=to).returncode == 0

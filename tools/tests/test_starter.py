@@ -13,6 +13,7 @@ from pathlib import Path
 import pytest
 
 from mcf import Program
+from mcf.version import commit_of
 
 RUN = '#!/bin/sh\nhere={root}\n. "$here/python/mcf/hints/starter.sh"\nanswer_help "$@"\nprogram={program}\nrun_program "$@"\n'
 HINTS = {"0": {"MCF_HINTS": "0"}, "1": {"MCF_HINTS": "1"}}
@@ -64,9 +65,9 @@ def test_help_is_the_page(starter, root: Path, words: list[str], page: str) -> N
     assert ran.stdout == (root / f"python/mcf/hints/help/{page}.txt").read_bytes()
 
 
-def test_version_is_that_of_the_one_file(starter, root: Path) -> None:
+def test_version_is_that_of_the_one_file_with_the_commit(starter, root: Path) -> None:
     ran = run([starter("#!/bin/sh\nexit 9\n"), "--version"], "0")
-    assert (ran.returncode, ran.stdout.decode()) == (0, f"mcf {(root / 'VERSION').read_text().strip()}\n")
+    assert (ran.returncode, ran.stdout.decode()) == (0, f"mcf {(root / 'VERSION').read_text().strip()} ({commit_of(root)})\n")
 
 
 @pytest.mark.parametrize("words", [

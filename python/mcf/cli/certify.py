@@ -21,7 +21,6 @@ Examples:
 
 from __future__ import annotations
 
-import argparse
 import sys
 from typing import TYPE_CHECKING, NoReturn
 
@@ -37,8 +36,8 @@ if TYPE_CHECKING:
 COMMANDS = ("solve", "hops", "throughput")
 
 
-def words() -> argparse.Namespace:
-    """The words of the command line."""
+def options() -> Arguments:
+    """The grammar of the words."""
     parser = Arguments("certify", __doc__)
     parser.add_argument("net", metavar="NET", help="a network file")
     parser.add_argument("--kind", choices=COMMANDS, default="solve", help="the command whose kind of certificate is made (solve)")
@@ -49,7 +48,7 @@ def words() -> argparse.Namespace:
     parser.add_argument("--from", dest="start", metavar="CERT", help="a certificate, of any kind, or routing whose paths are begun from")
     parser.add_argument("--output", metavar="FILE", help="write there, and only once the certificate is valid")
     parser.add_argument("--mcf", metavar="PATH", help="the program mcf (the environment's MCF, else mcf of this repository)")
-    return parser.parse_args()
+    return parser
 
 
 def main() -> NoReturn:
@@ -59,7 +58,7 @@ def main() -> NoReturn:
 
 def certified() -> int:
     """The status of the words that the process has."""
-    given = words()
+    given = options().parse_args()
     output = given.output or "-"
     require_output(output, [given.net, *filter(None, [given.start])])
     with needed():

@@ -1,61 +1,100 @@
-"""Makes dist/mcf-VERSION-x86_64-linux.tar.gz, for those who want no toolchain, and its checksum."""
+"""Makes of the program that was built what others install without a toolchain, each with its checksum:
+
+  archive   mcf-VERSION-x86_64-linux.tar.gz: the program with help and hints, documents and examples
+  wheel     mcf_certified_flow-VERSION-py3-none-manylinux_X_Y_x86_64.whl: the program as mcf, the tools and the Python package, for pip
+  deb       mcf_VERSION_amd64.deb: all that for Debian, which installs what the tools stand on
+"""
 
 from __future__ import annotations
 
-import argparse
 import hashlib
-import os
-import subprocess
 import sys
 from pathlib import Path
+from typing import NoReturn
 
 from mcf import TextError
-from mcf.release.archive import archive, built_program, is_for_this_kind, try_archive, version_of
+from mcf.arguments import Arguments
+from mcf.output import main_of, write
+from mcf.release.archive import built_program, try_archive, version_of
+from mcf.release.archive import archive as pack
+from mcf.release.deb import deb
+from mcf.release.elf import is_program
+from mcf.release.missing import MissingPackages
+from mcf.release.sources import commit_seconds
+from mcf.release.staged import Release
+from mcf.release.wheel import wheel
 
 ROOT = Path(__file__).resolve().parents[3]
+KINDS = ("archive", "wheel", "deb")
+EXAMPLES = """
+examples:
+  tools/release
+  tools/release wheel --to /tmp/dist
+  tools/release archive --mcf /somewhere/mcf
+
+The program has to be built (./mcf once). The archive is unpacked and tried before anything is kept. The same files and the same last
+commit give the same bytes; SOURCE_DATE_EPOCH stands for the time of the commit. Of the sources those are taken that git knows.
+
+status: 0 all is made; 1 something is not, for which a package of Debian is missing; 2 nothing is made
+"""
 
 
-def time_of(root: Path) -> int:
-    """The time that all files get: that of SOURCE_DATE_EPOCH, else that of the last commit."""
-    given = os.environ.get("SOURCE_DATE_EPOCH")
-    if given is None:
-        ran = subprocess.run(["git", "-C", str(root), "log", "-1", "--format=%ct"], capture_output=True, text=True, check=False)
-        given = ran.stdout.strip()
-    if not given.isdecimal():
-        raise TextError("no git repository tells a time: set SOURCE_DATE_EPOCH to seconds since 1970")
-    return int(given)
-
-
-def make(program: Path | None, folder: Path) -> Path:
-    """Writes the archive and its checksum."""
-    found = program or built_program(ROOT)
-    if not found.is_file() or not is_for_this_kind(found):
-        raise TextError(f"{found} is no program for Linux on x86-64")
-    name, data = archive(ROOT, found, time_of(ROOT))
-    try_archive(name, data, version_of(ROOT))
-    file = folder / f"{name}.tar.gz"
-    folder.mkdir(parents=True, exist_ok=True)
-    file.write_bytes(data)
-    (folder / f"{file.name}.sha256").write_text(f"{hashlib.sha256(data).hexdigest()}  {file.name}\n")
-    return file
-
-
-def main() -> int:
-    """The words of the command line, and the file's name on standard output."""
-    parser = argparse.ArgumentParser(description=__doc__, formatter_class=argparse.RawDescriptionHelpFormatter,
-                                     epilog="examples:\n  tools/release\n  tools/release --mcf /somewhere/mcf --to /tmp/dist\n\n"
-                                            "The program has to be built (./mcf once). The archive is unpacked and tried before it\n"
-                                            "is kept. The same files give the same bytes.")
+def options() -> Arguments:
+    """The grammar of the words."""
+    parser = Arguments("release", __doc__, EXAMPLES)
+    parser.add_argument("kinds", nargs="*", metavar="KIND", help=f"what is made: {', '.join(KINDS)} [all]")
     parser.add_argument("--mcf", metavar="PATH", type=Path, help="the program to ship, in place of the one that was built here")
-    parser.add_argument("--to", metavar="FOLDER", type=Path, default=ROOT / "dist", help="where the archive goes [dist]")
+    parser.add_argument("--to", metavar="FOLDER", type=Path, default=ROOT / "dist", help="where the files go [dist]")
+    return parser
+
+
+def archive(release: Release) -> tuple[str, bytes]:
+    """The name and the bytes of the archive."""
+    name, data = pack(release.root, release.program, release.seconds)
+    return f"{name}.tar.gz", data
+
+
+def release_of(program: Path | None) -> Release:
+    """What is released: the program given or built here, which works in an archive."""
+    found = program or built_program(ROOT)
+    if not found.is_file() or not is_program(found):
+        raise TextError(f"{found} is no program for Linux on x86-64")
+    release = Release(ROOT, found, commit_seconds(ROOT))
+    try_archive(*pack(ROOT, found, release.seconds), version_of(ROOT))
+    return release
+
+
+def keep(folder: Path, name: str, data: bytes) -> Path:
+    """Writes a file and its checksum."""
+    folder.mkdir(parents=True, exist_ok=True)
+    write(str(folder / name), data)
+    write(str(folder / f"{name}.sha256"), f"{hashlib.sha256(data).hexdigest()}  {name}\n".encode())
+    return folder / name
+
+
+def released() -> int:
+    """The status of the words that the process has; the names of the files are told on standard output."""
+    parser = options()
     words = parser.parse_args()
-    try:
-        print(make(words.mcf, words.to))
-    except (TextError, OSError) as error:
-        print(f"tools/release: {error}", file=sys.stderr)
-        return 2
-    return 0
+    others = [kind for kind in words.kinds if kind not in KINDS]
+    if others:
+        parser.error(f"{others[0]} is not made: the kinds are {', '.join(KINDS)}")
+    release = release_of(words.mcf)
+    makers = {"archive": archive, "wheel": wheel, "deb": deb}
+    status = 0
+    for kind in [kind for kind in KINDS if kind in (words.kinds or KINDS)]:
+        try:
+            print(keep(words.to, *makers[kind](release)), flush=True)
+        except MissingPackages as why:
+            print(f"tools/release: no {kind}: {why}", file=sys.stderr)
+            status = 1
+    return status
+
+
+def main() -> NoReturn:
+    """One run, which ends the process."""
+    main_of(released, "tools/release")
 
 
 if __name__ == "__main__":
-    sys.exit(main())
+    main()

@@ -30,8 +30,8 @@ from mcf.output import main_of, require_output, write
 from mcf.route.lengths import COSTS, LENGTHS, METHODS
 
 
-def words() -> argparse.Namespace:
-    """The words of the command line."""
+def options() -> Arguments:
+    """The grammar of the words."""
     parser = Arguments("route", __doc__)
     parser.add_argument("net", metavar="NET", help="a network file")
     parser.add_argument("--by", choices=METHODS, required=True, help="the method")
@@ -44,6 +44,12 @@ def words() -> argparse.Namespace:
     parser.add_argument("--no-best", action="store_true", help="do not look for the best routing, to say how far below it this one is")
     parser.add_argument("--output", metavar="FILE", help="write there, and only once the routing is feasible")
     parser.add_argument("--mcf", metavar="PATH", help="the program mcf (the environment's MCF, else mcf of this repository)")
+    return parser
+
+
+def words() -> argparse.Namespace:
+    """The words of the command line."""
+    parser = options()
     given = parser.parse_args()
     if not 1 <= given.paths <= 1000:
         parser.error("--paths is from 1 to 1000")

@@ -9,6 +9,7 @@ from pathlib import Path
 from typing import TYPE_CHECKING, NoReturn
 
 from mcf import TextError, find_program, fraction_of
+from mcf.arguments import Arguments
 from mcf.needs import needed
 from mcf.output import main_of, require_output, write
 from mcf.ranges import status
@@ -42,11 +43,9 @@ status: 0 all demands fit after each change; 1 after some they do not, or it is 
 """
 
 
-def options() -> argparse.ArgumentParser:
+def options() -> Arguments:
     """The grammar of the words."""
-    parser = argparse.ArgumentParser(
-        prog="survey", description=__doc__, epilog=EXAMPLES, formatter_class=argparse.RawDescriptionHelpFormatter
-    )
+    parser = Arguments("survey", __doc__, EXAMPLES)
     parser.add_argument("net", metavar="NET", help="the network")
     parser.add_argument("certificate", metavar="CERT", help="a certificate of it")
     parser.add_argument("--failures", action="store_true", help="each single link closed")

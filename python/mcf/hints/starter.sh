@@ -1,11 +1,23 @@
 # What both starters share, that of the repository and that of a release. To be read by sh with `here` set to the folder that has
 # python/, docs/ and VERSION.
 
+# Tells the version, and the commit that it was built of, which is in a file of a release, and asked of git in a checkout.
+tell_version() {
+    commit=
+    if [ -f "$here/python/mcf/COMMIT" ]; then
+        commit=$(cat "$here/python/mcf/COMMIT")
+    elif [ -e "$here/.git" ]; then
+        commit=$(env -u GIT_DIR -u GIT_WORK_TREE -u GIT_INDEX_FILE \
+            git --no-optional-locks -C "$here" describe --always --dirty --abbrev=8 '--exclude=*' 2>/dev/null)
+    fi
+    printf '%s %s (%s)\n' "${name:-mcf}" "$(cat "$here/VERSION")" "${commit:-unknown}"
+}
+
 # Answers the words for help and version, which the program itself does not know, and ends; returns where the words are others.
 answer_help() {
     case $#/${1-} in
         1/--version)
-            printf '%s %s\n' "${name:-mcf}" "$(cat "$here/VERSION")"
+            tell_version
             exit
             ;;
         1/--help | 1/-h | 1/help) page=mcf ;;

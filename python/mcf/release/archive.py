@@ -14,10 +14,13 @@ from typing import IO, cast
 
 from mcf import Program, TextError
 from mcf.program import is_old
+from mcf.version import commit_of
+
+from .pages import titled
+from .sources import sources
 
 # whole folders, and files by name or pattern, that are shipped as they stand
 SHIPPED = ("VERSION", "LICENSE-APACHE", "LICENSE-MIT", "docs", "examples", "python/mcf/*.py", "python/mcf/hints", "tools/mcf_texts")
-TITLE = '.TH MCF 1 "2026" "mcf"'
 
 
 def version_of(root: Path) -> str:
@@ -36,32 +39,15 @@ def built_program(root: Path) -> Path:
     raise TextError("the program is missing or older than its sources: run ./mcf once, or name one by --mcf")
 
 
-def is_for_this_kind(program: Path) -> bool:
-    """Whether a file is a program for Linux on x86-64: its ELF header says 64 bits, low byte first, machine 62."""
-    with open(program, "rb") as file:
-        front = file.read(20)
-    return front[:6] == b"\x7fELF\x02\x01" and front[18:20] == b"\x3e\x00"
-
-
 def files_of(root: Path, program: Path) -> dict[str, tuple[int, bytes]]:
     """Each file of the archive by its name there, with its mode."""
     files = {"mcf": (0o755, (root / "python/mcf/release/starter.sh").read_bytes()), "program/mcf": (0o755, program.read_bytes()),
              "README.md": (0o644, (root / "python/mcf/release/README.md").read_bytes())}
-    for name in SHIPPED:
-        found = sorted((root / name).rglob("*")) if (root / name).is_dir() else sorted(root.glob(name))
-        for file in found:
-            if file.is_file() and "__pycache__" not in file.parts:
-                files[str(file.relative_to(root))] = (0o644, file.read_bytes())
-    files["docs/mcf.1"] = (0o644, _titled(files["docs/mcf.1"][1].decode(), version_of(root)))
+    files |= {name: (0o644, file.read_bytes()) for name, file in sources(root, *SHIPPED).items()}
+    files["python/mcf/COMMIT"] = (0o644, f"{commit_of(root)}\n".encode())
+    files["docs/mcf.1"] = (0o644, titled(files["docs/mcf.1"][1].decode(), version_of(root)).encode())
     sums = "".join(f"{hashlib.sha256(files[name][1]).hexdigest()}  {name}\n" for name in sorted(files))
     return {**files, "SHA256SUMS": (0o644, sums.encode())}
-
-
-def _titled(page: str, version: str) -> bytes:
-    """The man page with the version in its title."""
-    if not page.startswith(TITLE):
-        raise TextError(f"docs/mcf.1 does not begin with {TITLE}")
-    return (TITLE[:-1] + f' {version}"' + page[len(TITLE):]).encode()
 
 
 def archive(root: Path, program: Path, seconds: int) -> tuple[str, bytes]:
@@ -88,7 +74,7 @@ def try_archive(name: str, data: bytes, version: str) -> None:
         net, certificate = str(top / "examples/polska.net"), str(top / "examples/polska.cert")
         answers = {
             "checksums": sums.returncode == 0,
-            "mcf --version": starter.ask("--version") == f"mcf {version}\n",
+            "mcf --version": starter.ask("--version").startswith(f"mcf {version} ("),
             "mcf --help": starter.ask("--help").startswith("mcf - "),
             "mcf check": starter.check(net, certificate).text.startswith("valid closed undirected largest "),
             "mcf solve": starter.solve(net, "--workers", "1", seconds=60) == Path(certificate).read_text(),

@@ -2,8 +2,10 @@
 
 from __future__ import annotations
 
+import os
 import re
 import subprocess
+import sys
 import tempfile
 import time
 from collections.abc import Iterable, Iterator
@@ -235,9 +237,11 @@ def _modes(ground: Ground) -> tuple[str, ...]:
 
 
 def _certified(ground: Ground, net: Path, *words: str) -> str:
-    """The certificate of `tools/certify`, for the changed network."""
-    command = [str(Path(__file__).parents[3] / "tools/certify"), str(net), *words, "--mcf", ground.program.path]
-    done = run(command, errors=subprocess.PIPE)
+    """The certificate of certify, for the changed network."""
+    # (as a module of this package, wherever that is; -P: not one of the folder that the user is in)
+    command = [sys.executable, "-P", "-B", "-m", "mcf.cli.certify", str(net), *words, "--mcf", ground.program.path]
+    places = [str(Path(__file__).resolve().parents[2]), *filter(None, [os.environ.get("PYTHONPATH")])]
+    done = run(command, errors=subprocess.PIPE, environment={**os.environ, "PYTHONPATH": os.pathsep.join(places)})
     if done.returncode not in (0, 1):
         lines = done.stderr.decode("utf-8", "replace").splitlines()
         raise TextError(lines[-1] if lines else f"certify ended with status {done.returncode}")
