@@ -10,7 +10,7 @@ In a notebook:
     certificate.plot()                            # the map
     certificate.save("polska.cert")               # for `mcf check`, by somebody else
 
-Each answer is a certificate that the proved program called valid before it is handed out; one of a file is not judged until
+Each certificate is handed out once the proved check has called it valid; one that was read from a file says that it is not judged until
 `network.check(certificate)`. What else there is:
 
     help(mcf.Network)       made, changed and asked: solve, hops, throughput, certify, route, batch, sweep, sweepsolve, whatif, tighten

@@ -12,12 +12,11 @@ from typing import TYPE_CHECKING, Any, TypeVar
 
 from . import certificate as core
 from .answers import Answer, Batch, Bounds, Certificate, Routing, Sweep, WhatIf, answer_of
-from .commands import Judgement, ask, judgement_of, option_words, sentence_of
-from .errors import Invalid, McfError, NoProgram, TextError
+from .commands import Judgement, ask, judgement_of, option_words, program_path, sentence_of
+from .errors import Invalid, McfError, TextError
 from .given import decimal_word, name_of, number_of, word_of
 from .limits import DEFAULT_PHASES, MAX_DEMANDS, MAX_MATRICES, MAX_WORK
 from .needs import needed
-from .program import find_program
 from .running import run_tool
 from .scaled import scale
 
@@ -110,11 +109,7 @@ def routed(network: Network, options: Options, timeout: float | None) -> Routing
 
 def _by_tool(tool: str, words: list[str], network: Network, timeout: float | None) -> tuple[bytes, tuple[str, ...]]:
     """What a tool wrote of a network, and what it said beside; McfError with its line where it has no answer."""
-    try:
-        program = find_program().path
-    except TextError as error:
-        raise NoProgram(str(error)) from None
-    ended, paths = run_tool(tool, [*words, "--mcf", program], [network.data], timeout)
+    ended, paths = run_tool(tool, [*words, "--mcf", program_path()], [network.data], timeout)
     if ended.status not in (0, 1) or not ended.out:
         raise McfError((ended.trouble or f"{tool} ended with status {ended.status}").replace(paths[0], "the network"))
     lines = ended.err.decode("utf-8", "replace").splitlines()

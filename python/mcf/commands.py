@@ -90,17 +90,23 @@ def ask(command: str, texts: Mapping[str, bytes], options: Sequence[str] = (), t
 
     Statuses 0 and 1 are answers. Usage, Refused, Invalid, ReadFault, WriteFault, NoMemory, NoProgram and Timeout otherwise.
     """
-    try:
-        path = find_program().path
-    except TextError as error:
-        raise NoProgram(str(error)) from None
-    require_program(path)
+    path = program_path()
     with in_memory(list(texts.values())) as files:
         words = [command, *options, "--", *(f"/proc/self/fd/{number}" for number in files)]
         ended = run([path, *words], files, timeout, name=f"mcf {command}")
     require_status(ended, path)
     _require_answer(command, ended, path, words, texts)
     return ended
+
+
+def program_path() -> str:
+    """The path of the program mcf; NoProgram where there is none, or another one."""
+    try:
+        path = find_program().path
+    except TextError as error:
+        raise NoProgram(str(error)) from None
+    require_program(path)
+    return path
 
 
 def _require_answer(command: str, ended: Ended, path: str, words: list[str], texts: Mapping[str, bytes]) -> None:

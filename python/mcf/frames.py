@@ -220,8 +220,8 @@ class Names:
         return word
 
 
-def rows_of_graph(graph: networkx.Graph, capacity: str) -> tuple[list[Node], list[Link], pandas.DataFrame]:
-    """The nodes and links of a graph, and what else its edges have, a row for each link."""
+def nodes_of_graph(graph: networkx.Graph) -> list[Node]:
+    """The nodes of a graph, named by `str`; ValueError where two become one."""
     nodes: list[Node] = []
     seen: dict[str, object] = {}
     for node, data in graph.nodes(data=True):
@@ -230,6 +230,11 @@ def rows_of_graph(graph: networkx.Graph, capacity: str) -> tuple[list[Node], lis
             raise ValueError(f"nodes {seen[word]!r} and {node!r} have one name, {name_of(word)!r}")
         seen[word] = node
         nodes.append(Node(word, _place_of(data, f"node {node!r}")))
+    return nodes
+
+
+def links_of_graph(graph: networkx.Graph, capacity: str) -> tuple[list[Link], pandas.DataFrame]:
+    """The links of a graph, and what else its edges have, a row for each link."""
     links, rest, names = [], [], Names()
     for source, target, data in graph.edges(data=True):
         what = f"edge {source!r}, {target!r}"
@@ -238,8 +243,8 @@ def rows_of_graph(graph: networkx.Graph, capacity: str) -> tuple[list[Node], lis
         ends = word_of(source, what), word_of(target, what)
         size = decimal_word(number_of(data[capacity], f"{what}, {capacity}"))
         links.append(Link(names.own(data.get("id"), *ends, what), *ends, size))
-        rest.append({name: value for name, value in data.items() if name not in ("id", capacity, *_OWN["links"])})
-    return nodes, links, pandas.DataFrame(rest, index=range(len(links)))
+        rest.append({name: value for name, value in data.items() if name not in (capacity, *_OWN["links"])})
+    return links, pandas.DataFrame(rest, index=range(len(links)))
 
 
 def _place_of(data: Mapping[str, Any], what: str) -> tuple[str, str] | None:

@@ -109,7 +109,8 @@ class Network:
         ValueError, which names the node or edge, as in `from_frames`, and where two nodes become one as strings.
         """
         from . import frames
-        nodes, links, rest = frames.rows_of_graph(graph, capacity)
+        nodes = frames.nodes_of_graph(graph)
+        links, rest = frames.links_of_graph(graph, capacity)
         wanted, beside = _demands(demands)
         return cls(_joined(nodes, links, wanted), _mode(graph.is_directed()), _beside=Beside(None, rest, beside))
 

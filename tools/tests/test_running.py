@@ -9,6 +9,7 @@ import sys
 import time
 from collections.abc import Callable
 from concurrent.futures import ThreadPoolExecutor
+from fractions import Fraction
 from pathlib import Path
 
 import pytest
@@ -106,7 +107,7 @@ def test_twenty_solves_at_once(program: Program) -> None:
     def fraction(amount: int) -> tuple[object, object]:
         """What one network carries."""
         certificate = Network.from_rows(network.rows).with_demands({("A", "B"): amount}).solve(gap=0.01)
-        return certificate.lower <= 10 / amount <= certificate.upper * 1.000001, certificate.judged
+        return certificate.lower <= Fraction(10, amount) <= certificate.upper, certificate.judged
     network = Network.from_frames({"source": ["A"], "target": ["B"], "capacity": [10]}, {("A", "B"): 1})
     files = len(os.listdir("/proc/self/fd"))
     with ThreadPoolExecutor(20) as pool:
@@ -146,7 +147,7 @@ def test_another_program_is_none(monkeypatch: pytest.MonkeyPatch, path: str, sai
     monkeypatch.setenv("MCF", path)
     network = Network.from_frames({"source": ["A"], "target": ["B"], "capacity": [10]}, {("A", "B"): 1})
     for ask in (network.solve, network.certify, network.route):
-        with pytest.raises(mcf.NoProgram, match=said) if ask == network.solve else pytest.raises(mcf.McfError):
+        with pytest.raises(mcf.NoProgram, match=said):
             ask()
 
 
