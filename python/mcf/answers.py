@@ -234,7 +234,8 @@ class Answer:
             "modules": self.rows.modules, "phases": self.phases, "lower": _json(self.lower), "upper": _json(self.upper),
             "gap": _json(self.gap), "notes": list(self.notes)}
         if tables:
-            said |= {"link_table": _records(self._links(False)), "demand_table": _records(self._demands()), "paths": _records(self._paths())}
+            said |= {"link_table": _records(self._links(False)), "demand_table": _records(self._demands()),
+                     "paths": _records(self._paths())}
         return json.dumps(said, indent=indent)
 
     @property
