@@ -289,7 +289,7 @@ class Network:
     def sweep(self, certificate: Certificate, *, timeout: float | None = None) -> Sweep:
         """What a certificate is still worth without each single link: both bounds for each, without solving again.
 
-        Lower is what is left if the paths over the link are given up; a better routing may be found by `sweepsolve`.
+        The paths stay as they are, so lower is 0 where one goes over the link; `sweepsolve` finds others. Upper holds for all routings.
         """
         return asking.swept(self, certificate, timeout)
 
