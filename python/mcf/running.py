@@ -91,13 +91,13 @@ def _start(words: Sequence[str], descriptors: Sequence[int], environment: dict[s
     """The child, whose group has its own number."""
     try:
         # (the starter's hints are for a person who called it)
-        return subprocess.Popen([*_tied(gently), *words], stdin=subprocess.DEVNULL, stdout=subprocess.PIPE, stderr=subprocess.PIPE,
+        return subprocess.Popen([*tied(gently), *words], stdin=subprocess.DEVNULL, stdout=subprocess.PIPE, stderr=subprocess.PIPE,
                                 pass_fds=descriptors, process_group=0, env={**os.environ, **(environment or {}), "MCF_HINTS": "0"})
     except OSError as error:
         raise NoProgram(f"{words[0]}: {error.strerror}") from None
 
 
-def _tied(gently: bool) -> list[str]:
+def tied(gently: bool = False) -> list[str]:
     """The words in front of a program that is to end with this process; none where the system has no setpriv."""
     setpriv = _setpriv()
     return [setpriv, "--pdeathsig", "TERM" if gently else "KILL", "/bin/sh", "-c", _UNLESS_ORPHANED, str(os.getpid())] if setpriv else []
