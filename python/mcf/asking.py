@@ -103,7 +103,7 @@ def certified(network: Network, kind: str, options: Options, progress: bool, tim
 def routed(network: Network, options: Options, timeout: float | None) -> Routing:
     """The judged routing of the tool route."""
     given = {name: str(value) for name, value in _options(network, options).items() if value is not None}
-    words = ["{0}", *(word for name, value in given.items() for word in (f"--{name}", value))]
+    words = ["{0}", "--no-best", *(word for name, value in given.items() for word in (f"--{name}", value))]
     return _judged(_of_kind(Routing, network, *_by_tool("route", words, network, timeout)), timeout)
 
 
