@@ -9,7 +9,7 @@ from pathlib import Path
 
 sys.path.insert(0, str(Path(__file__).resolve().parents[1] / "python"))
 
-from mcf import Network  # noqa: E402
+from mcf.network import Network  # noqa: E402
 
 
 def with_few_more(network: Network, more: int) -> Network:

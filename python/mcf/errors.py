@@ -1,5 +1,77 @@
-"""The one error of the package."""
+"""The errors of the package: what a text may have wrong, and how a run of the program may end without an answer.
+
+`TextError` is a `ValueError`: a text, a name or a number is not what was expected. All others are an `McfError`. The message of each
+is one line for people.
+"""
+
+from __future__ import annotations
 
 
 class TextError(ValueError):
     """A text, a name or a program that is not what was expected; the message is one line for the user."""
+
+
+class McfError(Exception):
+    """A run that gave no answer; above all errors of runs."""
+
+
+class NoProgram(McfError):
+    """There is no program at that path, or it may not be run, or it does not answer as mcf does."""
+
+
+class Usage(McfError):
+    """Status 2: an option has a value that the program does not take. The message names the first one and what it may be."""
+
+
+class Refused(McfError):
+    """Status 3: a text is refused for its first fault, or more work is asked for than is taken.
+
+    kind: `N1` to `N11`, `K1` to `K6`, `S1` to `S6`, `M1` to `M8` or `TooLong`, as docs/formats.md lists them; `work`; or `convert`, if a
+        file of another format could not be made a network.
+    file: which text: `net`, `cert`, `cert2`, `script`, `list` or `work`; the path, if a file was read.
+    line: the line of that text, from 1; None where the kind has none.
+    sentence: what the kind means and what mostly causes it.
+    said: the program's own line.
+    """
+
+    def __init__(self, kind: str, file: str, line: int | None, sentence: str, said: str) -> None:
+        """All that is known of the refusal."""
+        super().__init__(kind, file, line, sentence, said)
+        self.kind, self.file, self.line, self.sentence, self.said = kind, file, line, sentence, said
+
+    def __str__(self) -> str:
+        """The program's line, and the sentence."""
+        return f"{self.said}: {self.sentence}" if self.said else self.sentence
+
+
+class Invalid(McfError):
+    """A certificate or routing that the proved check calls invalid, where a valid one is needed.
+
+    condition: the first condition that fails, `C1` to `C10`.
+    said: the program's own line.
+    """
+
+    def __init__(self, condition: str, sentence: str, said: str) -> None:
+        """The condition, what it means, and the program's line."""
+        super().__init__(condition, sentence, said)
+        self.condition, self.sentence, self.said = condition, sentence, said
+
+    def __str__(self) -> str:
+        """The program's line, and the sentence."""
+        return f"{self.said}: {self.sentence}"
+
+
+class ReadFault(McfError):
+    """Status 4: a file could not be read."""
+
+
+class WriteFault(McfError):
+    """Status 5: the program could not write its answer."""
+
+
+class NoMemory(McfError):
+    """Status 6: the program ran out of memory."""
+
+
+class Timeout(McfError, TimeoutError):
+    """The time of `timeout=` was over; the program was ended, and nothing of it is left."""

@@ -9,8 +9,8 @@ from importlib.util import find_spec
 from .errors import TextError
 
 PACKAGES = {
-    "defusedxml": "python3-defusedxml", "jinja2": "python3-jinja2", "networkx": "python3-networkx", "numpy": "python3-numpy",
-    "scipy": "python3-scipy", "tqdm": "python3-tqdm",
+    "defusedxml": "python3-defusedxml", "jinja2": "python3-jinja2", "matplotlib": "python3-matplotlib", "networkx": "python3-networkx",
+    "numpy": "python3-numpy", "pandas": "python3-pandas", "scipy": "python3-scipy", "tqdm": "python3-tqdm",
 }
 
 

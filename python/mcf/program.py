@@ -2,6 +2,7 @@
 
 from __future__ import annotations
 
+import errno
 import os
 import shutil
 import signal
@@ -46,6 +47,8 @@ class Program:
 
     def run(self, *words: str, seconds: float | None = None) -> Answer:
         """Runs a command; TextError where the program cannot be started or takes longer than so many seconds."""
+        if not os.access(self.path, os.X_OK):
+            raise TextError(f"{self.path}: {os.strerror(errno.EACCES if os.path.exists(self.path) else errno.ENOENT)}")
         try:
             # (the starter's hints are for a person who called it, and so is the hour in which it builds the program)
             done = children.run([self.path, *words], seconds, environment={**os.environ, "MCF_HINTS": "0", "MCF_BUILD": "0"})

@@ -8,7 +8,9 @@ from dataclasses import replace
 from fractions import Fraction
 from pathlib import Path
 
-from mcf import Certificate, Network, Program, Routing, ScaledNetwork
+from mcf import Program, ScaledNetwork
+from mcf.certificate import Certificate, Routing
+from mcf.network import Network
 from mcf.lp.kinds import SOLVE, Kind
 from mcf.lp.run import Begun, Request
 from mcf.lp.start import Source

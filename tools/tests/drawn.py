@@ -9,7 +9,8 @@ import numpy as np
 from hypothesis import strategies as st
 from scipy.optimize import linprog
 
-from mcf import Demand, Link, Network, Node, ScaledNetwork, scale
+from mcf import Demand, Link, Node, ScaledNetwork, scale
+from mcf.network import Network
 
 CAPACITIES = ("2", "3", "5", "1", "7", "4", "0.5", "6", "1", "2", "3", "0")
 AMOUNTS = ("1", "2", "0.5", "3")

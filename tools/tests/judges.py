@@ -6,8 +6,8 @@ from collections import Counter
 from fractions import Fraction
 from typing import Callable
 
-from mcf import (Certificate, HopCertificate, ScaledNetwork, TextError, TotalCertificate, cells_of_path, lengths, loads, lower,
-                 nodes_of_walk, rounded_down, rounded_up, upper)
+from mcf import ScaledNetwork, TextError, cells_of_path, lengths, loads, lower, nodes_of_walk, rounded_down, rounded_up, upper
+from mcf.certificate import Certificate, HopCertificate, TotalCertificate
 
 
 def judged(scaled: ScaledNetwork, certificate: Certificate) -> str:

@@ -6,7 +6,8 @@ import random
 from fractions import Fraction
 
 from arc_program import arc_program, by_highs
-from mcf import Demand, Link, Module, Network, Node, ScaledNetwork
+from mcf import Demand, Link, Module, Node, ScaledNetwork
+from mcf.network import Network
 
 _CAPACITIES = (["1", "2", "3", "10"], ["0", "5", "7.5", ".25"], ["8796093", "1", "3"], ["0.000001", "1", "12.5"], ["155", "622", "2480"])
 _AMOUNTS = (["1", "2", "5"], ["0.5", "1.25", "3"], ["0", "1", "1000"], ["0.000004", "2"], ["7", "11", "13"])

@@ -6,7 +6,9 @@ import os
 import pty
 import shutil
 import subprocess
+import sys
 import threading
+import time
 from pathlib import Path
 
 import pytest
@@ -37,8 +39,7 @@ def clone(tmp_path: Path, root: Path, monkeypatch: pytest.MonkeyPatch) -> Path:
     """A repository of two small crates with the starter, and an rt on the path that makes a program of one line."""
     top = tmp_path / "clone"
     shutil.copytree(root / "python", top / "python", ignore=shutil.ignore_patterns("__pycache__"))
-    for name in ("mcf", "mcf-wide"):
-        shutil.copy(root / name, top / name)
+    shutil.copy(root / "mcf", top / "mcf")
     shutil.copy(root / "VERSION", top / "VERSION")
     (top / "crates.txt").write_text("# two, and one that no program needs\nmcf_limits:\nmcf: mcf_limits clap\ncases: mcf_limits\n")
     for name in ("mcf_limits", "wide_limits", "mcf", "cases"):
@@ -71,8 +72,8 @@ def calls(clone: Path) -> list[str]:
 
 def set_time(file: Path, seconds: float) -> None:
     """Gives a file a time, in seconds from now."""
-    time = file.stat().st_mtime + seconds
-    os.utime(file, (time, time))
+    new = time.time() + seconds
+    os.utime(file, (new, new))
 
 
 def test_first_run_builds_and_says_so(clone: Path) -> None:
@@ -155,23 +156,63 @@ def test_a_build_that_fails_leaves_no_older_program(clone: Path, monkeypatch: py
     assert list((clone.parent / "tmp").iterdir()) == []
 
 
+def as_nobody(clone: Path, *words: str) -> tuple[int, str, str]:
+    """A run of a user who may read the clone alone."""
+    front = ["setpriv", "--reuid=65534", "--regid=65534", "--clear-groups"] if os.geteuid() == 0 else []
+    for folder in (clone, *clone.parents):
+        if folder.is_relative_to("/tmp/") or folder.name.startswith("pytest"):
+            folder.chmod(folder.stat().st_mode | 0o055)
+    ran = subprocess.run([*front, str(clone / "mcf"), *words], capture_output=True, text=True, cwd="/")
+    return ran.returncode, ran.stdout, ran.stderr
+
+
+def test_no_proof_is_begun_for_a_user_who_cannot_keep_it(clone: Path, monkeypatch: pytest.MonkeyPatch) -> None:
+    run(clone)
+    assert as_nobody(clone, "x") == (0, "built x\n", "")
+    set_time(clone / "crates/mcf/src/lib.rt", 10)
+    folder = clone / "crates/mcf/out"
+    folder.chmod(0o555)
+    status, out, err = as_nobody(clone, "x")
+    assert (status, out) == (7, "") and err == f"mcf: the program is older than its sources, and this user cannot put another one into {folder}\n"
+    shutil.rmtree(clone / ".built")
+    folder.chmod(0o755)
+    shutil.rmtree(folder)
+    folder.parent.chmod(0o555)
+    assert as_nobody(clone, "x") == (7, "", f"mcf: the program was not built yet, and this user cannot put another one into {folder}\n")
+    folder.parent.chmod(0o755)
+    assert len(calls(clone)) == 1
+
+
+def test_no_proof_is_begun_where_a_folder_is_in_the_way(clone: Path) -> None:
+    (clone / "crates/mcf/out/mcf").mkdir(parents=True)
+    set_time(clone / "crates/mcf/src/lib.rt", 10)
+    status, out, err = run(clone, "x")
+    assert (status, out) == (7, "") and err.count("\n") == 1 and "cannot put another one into" in err and calls(clone) == []
+
+
+def test_a_tool_never_builds(clone: Path, monkeypatch: pytest.MonkeyPatch) -> None:
+    words = [sys.executable, "-c", f"import sys; sys.path.insert(0, {str(clone / 'python')!r})\n"
+             "from mcf import TextError, find_program\ntry:\n    print(find_program().run('x').text or find_program().run('x'))\n"
+             "except TextError as why:\n    print(why)\n"]
+    monkeypatch.delenv("MCF", raising=False)
+    done = lambda: subprocess.run(words, capture_output=True, text=True).stdout  # noqa: E731
+    assert done().startswith(f"the program in {clone} was not built yet: ./mcf there builds it, which takes from 20 minutes to an hour")
+    assert calls(clone) == []
+    monkeypatch.setenv("MCF", str(clone / "mcf"))
+    assert done() == "Answer(status=7, text='')\n" and calls(clone) == []
+    monkeypatch.delenv("MCF")
+    run(clone)
+    assert done() == "built x\n\n"
+    (clone / "crates/mcf/out").rename(clone / "crates/mcf/aside")
+    assert done() == "built x\n\n"
+    set_time(clone / "crates/mcf/src/lib.rt", 10)
+    assert done().startswith(f"the program in {clone} is older than its sources: ") and len(calls(clone)) == 1
+
+
 def test_without_the_toolchain_one_line_says_so(clone: Path, monkeypatch: pytest.MonkeyPatch) -> None:
     monkeypatch.setenv("PATH", "/usr/bin:/bin")
     status, out, err = run(clone)
     assert (status, out) == (7, "") and err.count("\n") == 1 and "rt is not on the path" in err
-
-
-def test_the_wide_program_is_built_of_the_same_crates_beside_the_other(clone: Path) -> None:
-    run(clone, "solve", "x")
-    wide = subprocess.run([str(clone / "mcf-wide"), "solve", "y"], capture_output=True, text=True, cwd=clone.parent)
-    assert (wide.returncode, wide.stdout) == (0, "built solve y\n")
-    assert wide.stderr.startswith("mcf-wide: building the program; ")
-    assert calls(clone) == ["ci: mcf_limits:mcf: mcf_limits clap, mcf mcf_limits"] * 2
-    again = [subprocess.run([str(clone / name), "z"], capture_output=True, text=True) for name in ("mcf", "mcf-wide")]
-    assert [(one.returncode, one.stdout, one.stderr) for one in again] == [(0, "built z\n", "")] * 2
-    assert len(calls(clone)) == 2
-    version = subprocess.run([str(clone / "mcf-wide"), "--version"], capture_output=True, text=True)
-    assert version.stdout == f"mcf-wide {(clone / 'VERSION').read_text()}"
 
 
 def test_a_link_to_the_starter_serves(clone: Path) -> None:

@@ -23,8 +23,9 @@ from mcf.lp.run import certify
 from mcf.lp.search import AllPaths
 from mcf.lp.start import simple
 from certified import asked, bounds, command, unlimited
-from mcf import (Certificate, Demand, Link, Network, Node, Program, TextError, load_text, read_certificate, save_text, scale,
-                 write_certificate, write_network)
+from mcf import Demand, Link, Node, Program, TextError, load_text, read_certificate, save_text, scale, write_certificate, write_network
+from mcf.certificate import Certificate
+from mcf.network import Network
 from mcf.route.run import Question, route
 from networks import arc_optimum, near, odd_network
 

@@ -22,9 +22,10 @@ from mcf.lp.search import WithinLimits
 from mcf.lp.total_rounding import TotalRounding
 from judges import judged
 from limits import with_few_more
-from mcf import (LINK_MODES, Certificate, Demand, HopCertificate, Link, Network, Node, Program, Routing, TextError,
-                 TotalCertificate, load_text, lower, nodes_of_walk, read_any, read_certificate, save_text, scale,
-                 write_certificate, write_network, write_routing)
+from mcf import (LINK_MODES, Demand, Link, Node, Program, TextError, load_text, lower, nodes_of_walk, read_any, read_certificate,
+                 save_text, scale, write_certificate, write_network, write_routing)
+from mcf.certificate import Certificate, HopCertificate, Routing, TotalCertificate
+from mcf.network import Network
 from networks import odd_network
 
 OTHERS = (HOPS, THROUGHPUT)

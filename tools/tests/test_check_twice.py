@@ -2,16 +2,20 @@
 
 from __future__ import annotations
 
+import os
 import re
+import signal
 import subprocess
 import sys
+import time
 from collections import Counter
 from pathlib import Path
+from typing import Any
 
 import pytest
 
 from damage import damaged
-from mcf import Program, load_text, save_text
+from mcf import Program, judge_of, limits, load_text, save_text
 
 NET = """?SNDlib native format; type: network; version: 1.0
 META ( a ( b ) )
@@ -81,10 +85,10 @@ def in_form_1(text: str) -> str:
 
 
 def judged(program: Program, root: Path, room: Path, net: Path, text: str) -> tuple[str, str]:
-    """What both say of a text."""
+    """What both say of a text, the program by the command of its kind."""
     cert = room / "cert"
     save_text(cert, text)
-    return program.check(net, cert).text, twice(root, net, cert)
+    return program.check(net, cert, command=judge_of(text)).text, twice(root, net, cert)
 
 
 def test_whole_texts_are_judged_alike(program: Program, root: Path, bases: list[tuple[Path, str]], tmp_path: Path) -> None:
@@ -166,9 +170,141 @@ def test_form_2_is_judged(root: Path, tmp_path: Path) -> None:
         assert twice(root, net, cert) == line
 
 
+LIMITED = """?SNDlib native format; type: network; version: 1.0
+NODES (
+  A
+  B
+  C
+  D
+)
+LINKS (
+  AB ( A B ) 3 0 0 0 ( )
+  BC ( B C ) 4 0 0 0 ( )
+  CD ( C D ) 5 0 0 0 ( )
+  DA ( D A ) 2 0 0 0 ( )
+  BD ( B D ) 0 0 0 0 ( 1 1 )
+  CC ( C C ) 1 0 0 0 ( )
+)
+DEMANDS (
+  one ( A C ) 1 3 2
+  two ( A C ) 1 2 UNLIMITED
+  three ( B A ) 0.5 3 1.99
+  four ( D B ) 1 2 7
+)
+"""
+
+
+@pytest.fixture(scope="module")
+def others(program: Program, root: Path, tmp_path_factory: pytest.TempPathFactory) -> list[tuple[Path, str]]:
+    """Networks with certificates with hop limits, and of totals, of all three modes; some are cuts, some open."""
+    room = tmp_path_factory.mktemp("others")
+    limited, cut = room / "limited.net", room / "cut.net"
+    save_text(limited, LIMITED)
+    save_text(cut, LIMITED.replace("AB ( A B ) 3", "AB ( A B ) 0"))
+    found = [(root / "examples/detours.net", load_text(root / "examples/detours.hops")),
+             (root / "examples/in-a-row.net", load_text(root / "examples/in-a-row.throughput"))]
+    for command in ("hops", "throughput"):
+        for net, options in ((limited, ("--gap", "0.2")), (limited, ("--links", "bidirected", "--modules", "none")),
+                             (limited, ("--links", "directed", "--phases", "3", "--gap", "0")), (cut, ("--links", "bidirected"))):
+            found.append((net, program.solve(net, *options, command=command)))
+    return found
+
+
+def test_whole_texts_of_the_other_kinds_are_judged_alike(program: Program, root: Path, others: list[tuple[Path, str]], tmp_path: Path) -> None:
+    for net, text in others:
+        first, second = judged(program, root, tmp_path, net, text)
+        assert first == second and first.startswith("valid ")
+
+
+def names_of(root: Path) -> dict[str, Any]:
+    """The names of the second checker, read in this process, whose signals stay as they were."""
+    names: dict[str, Any] = {"__name__": "check_twice"}
+    before = {number: signal.getsignal(number) for number in (signal.SIGINT, signal.SIGTERM, signal.SIGHUP)}
+    exec(compile(load_text(root / "tools/check_twice"), "check_twice", "exec"), names)
+    for number, handler in before.items():
+        signal.signal(number, handler)
+    return names
+
+
+def test_damaged_texts_of_the_other_kinds_are_judged_alike(program: Program, root: Path, others: list[tuple[Path, str]], tmp_path: Path) -> None:
+    judge, cert = names_of(root)["judge"], tmp_path / "cert"
+    seen: Counter[str] = Counter()
+    texts: set[str] = set()
+    seed = 0
+    while len(texts) < 260:
+        net, text = others[seed % len(others)]
+        changed = damaged(text, seed)
+        seed += 1
+        if changed in texts or changed == text:
+            continue
+        texts.add(changed)
+        save_text(cert, changed)
+        first, second = program.check(net, cert, command=judge_of(changed)).text, f"{judge(load_text(net), changed)[0]}\n"
+        assert alike(first, second), f"seed {seed - 1}: mcf says {first.strip()}, check_twice {second.strip()}"
+        words = first.split()
+        seen[words[1] if words[0] == "invalid" else words[0]] += 1
+    assert set(seen) >= {"valid", "refused", "C1", "C2", "C3", "C5", "C6", "C7", "C9", "C10"}, seen
+    assert seen["refused"] < 190, "most of the damages would be those of form"
+
+
+@pytest.mark.parametrize("old,new", [
+    ("potential A 0", "potential A 9"), ("threshold ", "threshold 1"), ("threshold ", "threshold x"), ("threshold ", "threshold 0\nthreshold "),
+    ("phases ", "phases 7"), ("mcf-throughput 1", "mcf-throughput 2"), ("mcf-throughput 1", "mcf-certificate 2"),
+])
+def test_totals_line_by_line(program: Program, root: Path, others: list[tuple[Path, str]], tmp_path: Path, old: str, new: str) -> None:
+    for net, text in others:
+        if judge_of(text) == "checkthroughput":
+            first, second = judged(program, root, tmp_path, net, text.replace(old, new, 1))
+            assert alike(first, second), f"mcf says {first.strip()}, check_twice {second.strip()}"
+
+
+def test_an_excess_may_be_more_than_the_threshold(program: Program, root: Path, tmp_path: Path) -> None:
+    net = tmp_path / "net"
+    save_text(net, "?SNDlib native format; type: network; version: 1.0\nNODES (\nA\nB\n)\nLINKS (\nL ( A B ) 4 0 0 0 ( )\n)\n"
+              "DEMANDS (\nD ( A B ) 1 3 UNLIMITED\n)\n")
+    text = ("mcf-throughput 1\nverdict open\nlinks directed\nmodules largest\nnet nodes 2 cells 1 commodities 1 decimals 0 skipped 0 left 0 hops 0\n"
+            "gap 0.050000\nphases 1\nscale 1 1\nlower 3/1 3.000000\nupper 22/4 5.500000\nthreshold 4\npath D 3 +L\nlength +L 1\n"
+            "potential A 2 0\nend\n")
+    assert judged(program, root, tmp_path, net, text) == ("valid open directed largest lower 3/1 3.000000 upper 22/4 5.500000\n",) * 2
+    assert judged(program, root, tmp_path, net, text.replace("22/4 5.500000", "16/4 4.000000")) == ("invalid C9\n",) * 2
+
+
+@pytest.mark.parametrize("longest,changed", [
+    ("1.99", "1"), ("1.99", "0.5"), ("1.99", "1e0"), ("1.99", "64.99"), ("1.99", "65"), ("1.99", "1e99"), ("1.99", "9" * 255), ("1.99", "UNLIMITED"),
+    ("1 2 7", "1 2 2"), ("1 3 2", "1 3 1"), ("1 3 2", "1 3 x"), ("0.5 3 1.99", "0 3 65"),
+])
+def test_hop_limits_are_read_alike(program: Program, root: Path, tmp_path: Path, longest: str, changed: str) -> None:
+    net = tmp_path / "net"
+    assert longest in LIMITED
+    save_text(net, LIMITED)
+    text = program.solve(net, command="hops")
+    save_text(net, LIMITED.replace(longest, changed, 1))
+    first, second = judged(program, root, tmp_path, net, text)
+    assert alike(first, second), f"mcf says {first.strip()}, check_twice {second.strip()}"
+    long = tmp_path / "long"
+    save_text(long, LIMITED.replace(")\nLINKS", "".join(f"  N{at}\n" for at in range(80)) + ")\nLINKS").replace(longest, changed, 1))
+    answer = program.run("hops", str(long))
+    if answer.status in (0, 1):
+        first, second = judged(program, root, tmp_path, long, answer.text)
+        assert first == second and first.startswith("valid ")
+
+
+def test_its_limits_are_those_of_the_program(root: Path) -> None:
+    scope = names_of(root)
+    sections, most = scope["SECTIONS"], scope["MOST"]
+    assert sections == {"NODES": limits.MAX_NODES, "LINKS": limits.MAX_LINKS, "DEMANDS": limits.MAX_DEMANDS}
+    assert [scope[name] for name in ("NET_BYTES", "CERT_BYTES", "UNITS", "TOTAL", "HOPS")] == [
+        limits.MAX_NET_BYTES, limits.MAX_CERT_BYTES, limits.MAX_UNITS, limits.MAX_TOTAL, limits.MAX_HOPS]
+    assert f"len(token) <= {limits.MAX_WORD_BYTES}" in load_text(root / "tools/check_twice")
+    assert f"2 <= len(row) <= {2 + limits.MAX_PATH_CELLS}" in load_text(root / "tools/check_twice")
+    assert [most[name] for name in ("gap", "phases", "room", "load", "threshold")] == [
+        limits.MAX_GAP, limits.MAX_PHASES, limits.MAX_UNITS, limits.MAX_LENGTH, limits.MAX_LENGTH]
+
+
 def test_it_stands_alone_and_is_short(root: Path) -> None:
     source = load_text(root / "tools/check_twice")
-    assert source.count("\n") < 200
+    # (three kinds of certificates, and its own ends)
+    assert source.count("\n") < 340
     imported = set(re.findall(r"^\s*(?:from|import) (\w+)", source, re.M))
     assert imported <= sys.stdlib_module_names and "sys.path" not in source
 
@@ -176,3 +312,67 @@ def test_it_stands_alone_and_is_short(root: Path) -> None:
 def test_missing_file_is_one_line(root: Path) -> None:
     done = subprocess.run([str(root / "tools/check_twice"), "/nonexistent/net", "/nonexistent/cert"], capture_output=True, text=True, check=False)
     assert (done.returncode, done.stdout, done.stderr.count("\n")) == (2, "", 1)
+
+
+TRIANGLE = "examples/triangle.net", "examples/triangle.cert"
+
+
+def ended(root: Path, *words: str, shell: str = "", given: bytes = b"", **environment: str) -> tuple[int, bytes, bytes]:
+    """Status and both outputs, by a shell that may redirect them."""
+    done = subprocess.run(["bash", "-c", f'"$0" "$@" {shell}', str(root / "tools/check_twice"), *words], cwd=root, input=given, capture_output=True,
+                          env={**os.environ, **environment}, check=False)
+    return done.returncode, done.stdout, done.stderr
+
+
+@pytest.mark.parametrize("words,shell,said", [
+    (TRIANGLE, ">/dev/full", "standard output: No space left on device"), (TRIANGLE, ">&-", "standard output: Bad file descriptor"),
+    (("--help",), ">/dev/full", "standard output: No space left on device"), (("-", TRIANGLE[1]), "<&-", "standard input: Bad file descriptor"),
+    (("examples", TRIANGLE[1]), "", "examples: Is a directory"), (("no\nwhere", "x"), "", "no\\nwhere: No such file or directory"),
+    (("-", "-"), "", "standard input is one file alone (check_twice --help has the words)"), (("x",), "", "the following arguments are required"),
+    ((*TRIANGLE, "z"), "", "unrecognized arguments: z"), (("--quie", *TRIANGLE), "", "unrecognized arguments: --quie"),
+    (TRIANGLE, "> >(exec <&- >&-; exit 0)", ""),
+])
+def test_each_trouble_is_one_line(root: Path, words: tuple[str, ...], shell: str, said: str) -> None:
+    status, out, told = ended(root, *words, shell=shell)
+    if said:
+        assert (status, out, told.count(b"\n")) == (2, b"", 1) and told.decode().startswith(f"check_twice: {said}")
+    else:
+        assert told in (b"", b"check_twice: standard output: Broken pipe\n")
+
+
+def test_standard_input_quiet_and_the_forms(root: Path) -> None:
+    line = ended(root, *TRIANGLE)[1]
+    assert ended(root, TRIANGLE[0], "-", given=(root / TRIANGLE[1]).read_bytes()) == (0, line, b"")
+    assert ended(root, *TRIANGLE, "--quiet") == (0, b"", b"")
+    assert ended(root, TRIANGLE[0], TRIANGLE[0], "--quiet") == (3, b"", b"")
+    assert b"mcf-hops 1" in ended(root, "--version")[1]
+    assert ended(root, *TRIANGLE, LC_ALL="POSIX", PYTHONUTF8="0", HOME="/nonexistent") == (0, line, b"")
+
+
+@pytest.mark.parametrize("number", [signal.SIGINT, signal.SIGTERM, signal.SIGHUP])
+def test_a_signal_is_one_line(root: Path, number: signal.Signals) -> None:
+    run = subprocess.Popen([str(root / "tools/check_twice"), str(root / TRIANGLE[0]), "-"], stdin=subprocess.PIPE, stderr=subprocess.PIPE,
+                           preexec_fn=lambda: [signal.signal(one, signal.SIG_DFL) for one in (signal.SIGINT, signal.SIGHUP)])
+    while not _heeds_signals(run.pid):
+        time.sleep(0.01)
+    run.send_signal(number)
+    _, told = run.communicate(timeout=60)
+    assert (run.returncode, told) == (130, b"check_twice: interrupted\n")
+
+
+def _heeds_signals(pid: int) -> bool:
+    """Whether a process has set what it does at SIGTERM."""
+    found = re.search(r"^SigCgt:\s*(\w+)$", Path(f"/proc/{pid}/status").read_text(), re.M)
+    return found is not None and bool(int(found[1], 16) & 1 << signal.SIGTERM - 1)
+
+
+@pytest.mark.parametrize("word", ["phases 48", "scale 10", "path A_to_B 368", "length =AB ", "lower 480"])
+def test_numbers_of_five_thousand_digits_are_refused(root: Path, tmp_path: Path, word: str) -> None:
+    text = load_text(root / TRIANGLE[1])
+    assert word in text
+    save_text(tmp_path / "cert", text.replace(word, word + "9" * 5000, 1))
+    assert twice(root, root / TRIANGLE[0], tmp_path / "cert") == "refused cert\n"
+    net = load_text(root / TRIANGLE[0])
+    assert " 10 " in net
+    save_text(tmp_path / "net", net.replace(" 10 ", " 1" + "0" * 5000 + " ", 1))
+    assert twice(root, tmp_path / "net", root / TRIANGLE[1]) == "refused net\n"

@@ -7,7 +7,8 @@ from pathlib import Path
 
 import pytest
 
-from mcf import Certificate, HopCertificate, Program, Routing, TextError, TotalCertificate, load_text
+from mcf import Program, TextError, load_text
+from mcf.certificate import Certificate, HopCertificate, Routing, TotalCertificate
 from mcf.judged import Judged, NotValid, judge, judge_file
 from mcf.ranges import Range
 
@@ -43,7 +44,7 @@ def test_a_routing_has_no_upper_end(program: Program, root: Path) -> None:
 
 def test_what_is_not_valid_is_not_spoken_of(program: Program, root: Path) -> None:
     text = load_text(root / "examples/triangle.cert")
-    with pytest.raises(NotValid, match="mcf check says: invalid C2$") as told:
+    with pytest.raises(NotValid, match="mcf check says: invalid C2: the weights of a demand do not sum ") as told:
         judge(program, root / "examples/triangle.net", text.replace("368", "369"))
     assert told.value.said == "invalid C2"
     with pytest.raises(NotValid, match="refused cert"):

@@ -7,11 +7,12 @@ from pathlib import Path
 
 import pytest
 
-from mcf import (Demand, HopCertificate, Layer, Link, Module, Network, Node, Program, TextError, TotalCertificate, cells_of_path,
-                 decimal_of, excess, find_program, fraction_of, judge_of, load_text, loads, lower, millionths_of, nodes_of_walk,
-                 read_any, read_certificate, read_hops, read_network, read_routing, read_throughput, rounded_down, rounded_up,
-                 routed, scale, shares_of_bound, true_gap, upper, utilisation, volume, weighted_distance, whole_of,
-                 write_certificate, write_network, write_routing)
+from mcf import (Demand, Layer, Link, Module, Node, Program, TextError, cells_of_path, decimal_of, excess, find_program, fraction_of,
+                 judge_of, load_text, loads, lower, millionths_of, nodes_of_walk, read_any, read_certificate, read_hops, read_network,
+                 read_routing, read_throughput, rounded_down, rounded_up, routed, scale, shares_of_bound, true_gap, upper, utilisation,
+                 volume, weighted_distance, whole_of, write_certificate, write_network, write_routing)
+from mcf.certificate import HopCertificate, TotalCertificate
+from mcf.network import Network
 from mcf.graph import graph_of
 
 HEAD = "?SNDlib native format; type: network; version: 1.0\n"

@@ -17,7 +17,12 @@ from mcf.cli import certify
 from mcf.needs import PACKAGES, needed
 
 TOOLS = ("certify", "convert", "release", "report", "route", "survey")
-CORE = ("certificate", "errors", "network", "numbers", "program", "scaled", "values")
+OLD = ("certificate", "errors", "network", "numbers", "program", "scaled", "values")
+CORE = (*OLD, "commands", "given", "limits", "running")
+API = ("answers", "asking", "frames", "networks", "plots", "reading")
+# names that mcf has of the API now, and mcf_texts of the core; errors that the old name never had
+MOVED = ("Certificate", "HopCertificate", "Network", "Routing", "TotalCertificate")
+NEW_ERRORS = ("Invalid", "McfError", "NoMemory", "NoProgram", "ReadFault", "Refused", "Timeout", "Usage", "WriteFault")
 LAUNCHER = """#!/usr/bin/python3 -B
 import sys
 from pathlib import Path
@@ -74,9 +79,12 @@ def test_the_old_name_has_the_same_names_and_modules(root: Path) -> None:
 import mcf_texts
 from mcf_texts import *
 import mcf
-assert mcf_texts.__all__ == mcf.__all__
-assert all(globals()[name] is getattr(mcf_texts, name) is getattr(mcf, name) for name in mcf.__all__)
-for name in {CORE!r}:
+modules = [__import__("mcf." + name, fromlist=["x"]) for name in {OLD!r}]
+for name in mcf_texts.__all__:
+    assert globals()[name] is getattr(mcf_texts, name) and any(getattr(module, name, None) is globals()[name] for module in modules)
+core = [name for name, module in mcf._HOME.items() if module in {OLD!r} and name not in {NEW_ERRORS!r}]
+assert set(mcf_texts.__all__) == {{*core, *{MOVED!r}}} and not {{"pandas", "numpy", "mcf.networks"}} & set(sys.modules)
+for name in {OLD!r}:
     module = __import__("mcf_texts." + name, fromlist=["x"])
     assert module is sys.modules["mcf." + name] is getattr(mcf_texts, name)
 print("same")
@@ -144,6 +152,14 @@ def test_types_are_right(root: Path, tmp_path: Path) -> None:
         pytest.skip("mypy is missing: tools/setup --tests")
     words = ["--strict", "--cache-dir", str(tmp_path), "-p", "mcf"]
     done = subprocess.run([sys.executable, "-m", "mypy", *words], cwd=root / "python", capture_output=True, text=True, check=False)
+    assert done.returncode == 0, done.stdout + done.stderr
+
+
+def test_types_of_the_api_are_right(root: Path, tmp_path: Path) -> None:
+    if importlib.util.find_spec("mypy") is None:
+        pytest.skip("mypy is missing: tools/setup --tests")
+    words = ["--follow-imports", "silent", "--cache-dir", str(tmp_path), *(word for name in API for word in ("-m", f"mcf.{name}"))]
+    done = subprocess.run([sys.executable, "-m", "mypy", "--strict", *words], cwd=root / "python", capture_output=True, text=True, check=False)
     assert done.returncode == 0, done.stdout + done.stderr
 
 

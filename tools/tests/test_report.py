@@ -13,19 +13,9 @@ from pathlib import Path
 import pytest
 
 import browser
-from mcf import (
-    Certificate,
-    Length,
-    Network,
-    Path as Route,
-    Potential,
-    Program,
-    load_text,
-    read_any,
-    read_certificate,
-    read_network,
-    scale,
-)
+from mcf import Length, Path as Route, Potential, Program, load_text, read_any, read_certificate, read_network, scale
+from mcf.certificate import Certificate
+from mcf.network import Network
 from mcf.report import drawing, layout, page, sentences, shown, tables
 from mcf.report.figures import Figures
 
@@ -498,9 +488,12 @@ def test_what_is_not_valid_is_not_shown(tmp_path: Path, program: Program):
     assert bad != text
     (tmp_path / "bad.cert").write_text(bad)
     _, said = report(EXAMPLES / "polska.net", tmp_path / "bad.cert", "--csv", "-", program=program, status=2)
-    assert said == f"report: {tmp_path / 'bad.cert'} on {EXAMPLES / 'polska.net'}: mcf check says: invalid C2\n"
+    assert said == (
+        f"report: {tmp_path / 'bad.cert'} on {EXAMPLES / 'polska.net'}: mcf check says: invalid C2: the weights of a demand do not sum to "
+        "phases times its amount, mostly since the network's file was changed after the certificate was made: make a new one\n"
+    )
     _, said = report(EXAMPLES / "triangle.net", EXAMPLES / "polska.cert", "--csv", "-", program=program, status=2)
-    assert said.endswith("refused cert K6 line 5\n")
+    assert "mcf check says: refused cert K6 line 5: the certificate's counts are not those of this network; " in said
 
 
 def test_a_routing_and_a_certificate_side_by_side(tmp_path: Path, program: Program):
@@ -511,9 +504,12 @@ def test_a_routing_and_a_certificate_side_by_side(tmp_path: Path, program: Progr
     assert "Links before and after" in text and "<h3>Before</h3>" in text and "<h3>After</h3>" in text
 
 
-def test_certificates_of_other_kinds_are_one_line(program: Program):
+def test_certificates_of_other_kinds_are_judged_by_their_check(tmp_path: Path, program: Program):
     for net, certificate, judge in (("detours", "detours.hops", "checkhops"), ("in-a-row", "in-a-row.throughput", "checkthroughput")):
-        words = [str(REPORT), str(EXAMPLES / f"{net}.net"), str(EXAMPLES / certificate), "--csv", "-", "--mcf", program.path]
-        done = subprocess.run(words, capture_output=True, text=True, check=False)
-        assert done.returncode == 2 and done.stdout == ""
-        assert done.stderr.count("\n") == 1 and f"it is one for mcf {judge}, and only those of mcf solve" in done.stderr
+        words = EXAMPLES / f"{net}.net", EXAMPLES / certificate
+        report(*words, "--html", tmp_path / "x.html", program=program)
+        assert f"mcf {judge}: valid closed " in (tmp_path / "x.html").read_text("utf-8")
+        bad = tmp_path / "bad"
+        bad.write_text(words[1].read_text().replace("phases ", "phases 1", 1).replace("length ", "length =A 1\nlength ", 1))
+        _, said = report(words[0], bad, "--csv", "-", program=program, status=2)
+        assert said.count("\n") == 1 and f"mcf {judge} says: refused cert K3" in said

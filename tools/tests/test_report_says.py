@@ -24,7 +24,8 @@ pytest.importorskip("hypothesis", reason="python3-hypothesis is missing: tools/s
 from hypothesis import given  # noqa: E402
 from hypothesis import strategies as st  # noqa: E402
 
-from mcf import Network, Node, Program, TextError, load_text, read_any, read_network, scale  # noqa: E402
+from mcf import Node, Program, TextError, load_text, read_any, read_network, scale  # noqa: E402
+from mcf.network import Network  # noqa: E402
 from mcf.matrices import answers, matrices, unit_of, with_demands  # noqa: E402
 from mcf.report import drawing, layout, page, sentences, shown, tables  # noqa: E402
 from mcf.report.figures import Figures  # noqa: E402
@@ -240,7 +241,10 @@ def networks(draw: st.DrawFn) -> tuple[str, str]:
     lines += [f"path {key} {draw(number)} " + " ".join(draw(st.lists(st.sampled_from(cells), min_size=1, max_size=4))) for key, *_ in demands]
     if not kind.startswith("mcf-routing"):
         lines += [f"length {cell} {draw(number)}" for cell in cells]
-        lines += [f"potential {name} " + " ".join(str(draw(st.integers(0, 9))) for _ in NAMES) for name in dict.fromkeys(d[1] for d in demands)]
+        # (a bound that is none has nothing above 0 below its line; of a total, a difference may be below 0)
+        own, other = (st.integers(0, 9), st.integers(0, 9)) if kind.startswith("mcf-throughput") else (st.just(0), st.integers(1, 9))
+        sources = dict.fromkeys(demand[1] for demand in demands)
+        lines += [f"potential {name} " + " ".join(str(draw(own if node == name else other)) for node in NAMES) for name in sources]
     return net, "\n".join([kind, *lines, "end", ""])
 
 

@@ -10,7 +10,8 @@ from pathlib import Path
 import networkx
 import pytest
 
-from mcf import (Demand, Link, Network, Node, Program, TextError, lower, read_routing, save_text, scale, write_network)
+from mcf import Demand, Link, Node, Program, TextError, lower, read_routing, save_text, scale, write_network
+from mcf.network import Network
 from networks import odd_network
 from mcf.route.lengths import METHODS, whole_lengths
 from mcf.route.run import Question, route

@@ -17,7 +17,8 @@ from hypothesis import given, settings  # noqa: E402
 from hypothesis import strategies as st  # noqa: E402
 
 from drawn import small_networks  # noqa: E402
-from mcf import Demand, Link, Network, Node, Program, ScaledNetwork, TextError, save_text, scale, write_network  # noqa: E402
+from mcf import Demand, Link, Node, Program, ScaledNetwork, TextError, save_text, scale, write_network  # noqa: E402
+from mcf.network import Network  # noqa: E402
 from mcf.ranges import Range  # noqa: E402
 from mcf.route.lengths import whole_lengths  # noqa: E402
 from mcf.route.run import Question, route  # noqa: E402

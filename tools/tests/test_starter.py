@@ -91,7 +91,21 @@ def test_status_and_output_stay(starter, status: int) -> None:
     assert plain.returncode == hinted.returncode == status
     assert plain.stdout == hinted.stdout and plain.stdout.count(b"|") == 6
     assert plain.stderr == b""
-    assert (hinted.stderr != b"") == (status == 2)
+    # (one of the words is not UTF-8, which is why the program has status 7)
+    assert (hinted.stderr != b"") == (status in (2, 5, 7)) and hinted.stderr.count(b"\n") <= 1
+
+
+@pytest.mark.parametrize("status, words, said", [
+    (5, ["gen"], "write fault: standard output took no more, mostly since the disk is full or a reader went away"),
+    (5, ["nothing"], "write fault: "), (7, ["solve", "\udcff.net"], "no words: `<ff>.net` is not UTF-8, as each word has to be: rename the file"),
+    (7, ["solve", "x.net"], None), (6, ["solve", "x.net"], None),
+    (2, ["solve", "x", "--help"], "usage: `--help` is no option of solve: help on it is ./mcf help solve"),
+    (2, ["--help", "solve"], "usage: `--help` is no command: help on one is ./mcf help solve"),
+])
+def test_hints_on_help_on_full_disks_and_on_words_that_are_no_text(starter, status: int, words: list[str], said: str | None) -> None:
+    ran = run([starter(f"#!/bin/sh\nexit {status}\n"), *words], "1")
+    assert ran.returncode == status and ran.stdout == b""
+    assert ran.stderr.decode().startswith(f"hint: {said}") and ran.stderr.count(b"\n") == 1 if said else ran.stderr == b""
 
 
 @pytest.mark.parametrize("hints", HINTS)

@@ -21,7 +21,9 @@ from hypothesis import given, settings  # noqa: E402
 from hypothesis import strategies as st  # noqa: E402
 
 from drawn import greatest, small_networks, with_capacity  # noqa: E402
-from mcf import Demand, Link, Network, Node, Program, Routing, save_text, scale, write_network  # noqa: E402
+from mcf import Demand, Link, Node, Program, save_text, scale, write_network  # noqa: E402
+from mcf.certificate import Routing  # noqa: E402
+from mcf.network import Network  # noqa: E402
 from mcf.cli import survey as tool  # noqa: E402
 from mcf.ranges import Range  # noqa: E402
 from mcf.report.figures import Figures  # noqa: E402

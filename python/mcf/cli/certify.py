@@ -25,7 +25,8 @@ import sys
 from typing import TYPE_CHECKING, NoReturn
 
 from mcf import LINK_MODES, MODULES, find_program
-from mcf.arguments import Arguments, millionths, seconds
+from mcf.arguments import Arguments
+from mcf.asked import millionths, seconds
 from mcf.needs import needed
 from mcf.output import main_of, require_output, write
 

@@ -93,7 +93,13 @@ def _require_files(words: argparse.Namespace) -> None:
 def _say(words: argparse.Namespace) -> Callable[[str], None]:
     """Where sentences go: nowhere, if standard output has a file, or nothing is to be said."""
     taken = words.quiet or any(name in STANDARD for name in (words.html, words.csv, words.paths))
-    return (lambda text: None) if taken else print
+
+    def say(text: str) -> None:
+        """Prints a sentence."""
+        if not taken:
+            print(text)
+
+    return say
 
 
 def main() -> NoReturn:

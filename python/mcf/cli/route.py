@@ -23,7 +23,8 @@ import sys
 from typing import NoReturn
 
 from mcf import LINK_MODES, MODULES, find_program
-from mcf.arguments import Arguments, seconds
+from mcf.arguments import Arguments
+from mcf.asked import seconds
 from mcf.needs import needed
 from mcf.output import main_of, require_output, write
 from mcf.route.lengths import COSTS, LENGTHS, METHODS

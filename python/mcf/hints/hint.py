@@ -9,6 +9,7 @@ from .table import TABLE, Row
 from .told import line_of
 from .words import Misfit, Request, read, shown
 
+UNKNOWN = "docs/formats.md tells what is refused so, under this kind"
 USAGE = "the words are not in the grammar: compare them with ./mcf help COMMAND"
 UNWRITTEN = ("standard output took no more, mostly since the disk is full or a reader went away: what was written is cut off, "
              "and no answer")
@@ -62,13 +63,12 @@ def _is_text(word: str) -> bool:
 
 def _row_of(line: str, request: Request) -> Row | None:
     """The row of the table for a line."""
-    kind = _kind_of_certificate(line, request)
-    return next((row for row in TABLE if row.line.fullmatch(line) and row.of in ("", kind, request.command)), None)
+    return _row(line, _kind_of_certificate(line, request), request.command)
 
 
 def _kind_of_certificate(line: str, request: Request) -> str:
     """What the second file is, or the third where the line is on that."""
-    return _kind(request.words.get("CERT2" if line.startswith("refused cert2 ") else "CERT", ""))
+    return _kind(front_of(request.words.get("CERT2" if line.startswith("refused cert2 ") else "CERT", ""), 16))
 
 
 def _of_line(line: str, program: str, request: Request) -> str:
@@ -77,15 +77,27 @@ def _of_line(line: str, program: str, request: Request) -> str:
         return _told(line, f"{shown(request.words['NET'])} {kind_of(front_of(request.words['NET']))}", 1)
     row = _row_of(line, request)
     if row is None:
-        return _told(line, "docs/formats.md tells what is refused so, under this kind", WRONG)
+        return _told(line, UNKNOWN, WRONG)
     is_overfull = line == "invalid C3" and _kind_of_certificate(line, request) == "routing"
     found = _fullest(program, request) if is_overfull else None
     return _told(line, found or row.sentence, row.part)
 
 
-def _kind(path: str) -> str:
+def sentence_of(line: str, command: str, certificate: bytes, network: bytes) -> str:
+    """The sentence on a line of a command, for texts that begin with these bytes."""
+    if line == "refused net N1 line 1":
+        return f"the network {kind_of(network)}"
+    row = _row(line, _kind(certificate), command)
+    return UNKNOWN if row is None else row.sentence
+
+
+def _row(line: str, kind: str, command: str) -> Row | None:
+    """The row of the table for a line, of a command and with a second file of a kind."""
+    return next((row for row in TABLE if row.line.fullmatch(line) and row.of in ("", kind, command)), None)
+
+
+def _kind(front: bytes) -> str:
     """What a second file is by its first word: a routing, a certificate with hop limits or of a total, or else a certificate."""
-    front = front_of(path, 16)
     return next((kind for word, kind in _KINDS if front.startswith(word)), "certificate")
 
 

@@ -5,8 +5,8 @@ from __future__ import annotations
 import re
 from dataclasses import dataclass
 
-from mcf.limits import (MAX_CERT_BYTES, MAX_DEMANDS, MAX_HOPS, MAX_LINKS, MAX_MATRICES, MAX_NET_BYTES, MAX_NODES, MAX_PATH_CELLS,
-                        MAX_SCRIPT_BYTES, MAX_TOTAL, MAX_UNITS, MAX_WORD_BYTES, MAX_WORK)
+from ..limits import (MAX_DEMANDS, MAX_HOPS, MAX_LINKS, MAX_MATRICES, MAX_NET_BYTES, MAX_NODES, MAX_PATH_CELLS, MAX_TOTAL, MAX_UNITS,
+                      MAX_WORD_BYTES, MAX_WORK)
 
 
 @dataclass(frozen=True)
@@ -28,9 +28,9 @@ def _row(line: str, sentence: str, part: int = 10, of: str = "") -> Row:
     return Row(re.compile(line.replace(" line N", " line [0-9]+").replace(" W", " [0-9]+")), sentence, part, of)
 
 
+_UNITS, _TOTAL, _WORK = f"2^{MAX_UNITS.bit_length() - 1}", f"2^{MAX_TOTAL.bit_length() - 1}", f"{MAX_WORK:,}"
 _OTHER = "mostly since the network's file was changed after the certificate was made: make a new one"
 _EDITED = "mostly in a file that was edited by hand or cut off"
-UNIT_BITS, TOTAL_BITS = MAX_UNITS.bit_length() - 1, MAX_TOTAL.bit_length() - 1
 _GREATER = " (if the work limit leaves few phases, a greater --step closes sooner)"
 
 TABLE = (
@@ -39,7 +39,8 @@ TABLE = (
          "the text cannot go on as this line does; mostly the line before lacks its `( )` of modules, the sections stand in "
          "another order, or the file is cut off"),
     _row("refused net N4 line N",
-         f"there are more than {MAX_NODES:,} nodes, {MAX_LINKS:,} links or {MAX_DEMANDS:,} demands, mostly since demands of the same ends are not merged"),
+         f"there are more than {MAX_NODES} nodes, {MAX_LINKS:,} links or {MAX_DEMANDS:,} demands, mostly since demands of the "
+         "same ends are not merged"),
     _row("refused net N5 line N",
          "an id stands twice among the nodes, the links or the demands, mostly in a row that was copied; the line is that of "
          "the second"),
@@ -50,22 +51,22 @@ TABLE = (
     _row("refused net N8 line N",
          "a number is finer than a millionth, mostly one that was computed: round it, or write the file in a smaller unit"),
     _row("refused net N9 line N",
-         f"a number is over 2^{UNIT_BITS} units or all amounts together over 2^{TOTAL_BITS}, mostly of bits in place of Gbit, or of large numbers "
+         f"a number is over {_UNITS} units or all amounts together over {_TOTAL}, mostly of bits in place of Gbit, or of large numbers "
          "with many decimals: write the file in a greater unit, or round"),
     _row("refused net N10 line N",
          "no demand is left, since each has amount 0 or ends in its own node, mostly in a file that has links alone"),
     _row("refused net N11 line N",
-         f"the longest path of a demand limits its paths to more than {MAX_HOPS} links: write {MAX_HOPS} or less, or UNLIMITED; a number that is not less "
-         "than the nodes less one is no limit", 8),
+         f"the longest path of a demand limits its paths to more than {MAX_HOPS} links: write {MAX_HOPS} or less, or UNLIMITED; a number "
+         "that is not less than the nodes less one is no limit", 8),
     _row("refused net TooLong", f"the network file is over {MAX_NET_BYTES >> 20} MiB, mostly by sections that are skipped anyway: take them out"),
     _row("refused work W",
-         f"links times demands times phases are over {MAX_WORK:,}, so --phases has to be less, or left out; if it is, the network is "
+         f"links times demands times phases are over {_WORK}, so --phases has to be less, or left out; if it is, the network is "
          "too large to be solved once for each link, and sweep tells what a certificate is worth without each", 4, "sweepsolve"),
     _row("refused work W",
-         f"demands of all matrices times phases are over {MAX_WORK:,}, so --phases has to be less, or left out, or the list cut into several", 7,
+         f"demands of all matrices times phases are over {_WORK}, so --phases has to be less, or left out, or the list cut into several", 7,
          "batch"),
     _row("refused work W",
-         f"demands times phases are over {MAX_WORK:,}, so with so many demands --phases has to be less, or left out", 5),
+         f"demands times phases are over {_WORK}, so with so many demands --phases has to be less, or left out", 5),
     _row("refused cert K1 line 1",
          "this is no certificate with hop limits: mostly one of solve, which check judges, one of a total, which checkthroughput judges, "
          "or line ends as on Windows, which sed 's/\\r$//' mends", 8, "checkhops"),
@@ -104,16 +105,16 @@ TABLE = (
          "the certificate's counts are not those of this network; mostly it is another network, or rows or sections were added "
          "or taken away"),
     _row("refused cert2? TooLong",
-         f"the certificate is over {MAX_CERT_BYTES >> 30} GiB, mostly of very many phases: ask for a greater gap, or for fewer phases"),
+         "the certificate is over 1 GiB, mostly of very many phases: ask for a greater gap, or for fewer phases"),
     _row("refused script S1 line N",
          "a command has to stand there: set, add, sub, close or show, with a link and a number; mostly a word is missing"),
     _row("refused script S2 line N", "the network has no such link, mostly by a misspelt id, or with a sign, which scripts do not take"),
     _row("refused script S3 line N", "a word that has to be a number is none, as +20% or 0,5"),
     _row("refused script S4 line N",
          "a number has more decimals than the certificate's line 5 tells, mostly one that was computed: round it"),
-    _row("refused script S5 line N", f"a capacity is over 2^{UNIT_BITS} units, mostly by a number in a smaller unit than the network's"),
+    _row("refused script S5 line N", f"a capacity is over {_UNITS} units, mostly by a number in a smaller unit than the network's"),
     _row("refused script S6 line N", "sub takes more than the link has at that point, mostly after an earlier edit of it"),
-    _row("refused script TooLong", f"the script is over {MAX_SCRIPT_BYTES >> 20} MiB: cut it in two"),
+    _row("refused script TooLong", "the script is over 1 MiB: cut it in two"),
     _row("invalid C1",
          "a path is no walk from its demand's source to its target, mostly by links out of order, or against their way where "
          "links are directed or a cell goes one way", 3, "routing"),
@@ -155,7 +156,7 @@ TABLE = (
     _row("refused list M5 line N", "a word that has to be a number is none, mostly by a sign, a decimal comma or a unit behind it"),
     _row("refused list M6 line N", "a number is finer than a millionth, mostly one that was computed: round it, as tools/convert --round does"),
     _row("refused list M7 line N",
-         f"a number is over 2^{UNIT_BITS} units or all amounts of a matrix together over 2^{TOTAL_BITS}; each matrix has its own decimals, and with many of them "
+         f"a number is over {_UNITS} units or all amounts of a matrix together over {_TOTAL}; each matrix has its own decimals, and with many of them "
          "the capacities of the network count more units: round, or write all in a greater unit"),
     _row("refused list M8 line N", "no demand of the matrix is left, since each has amount 0 or ends in its own node; the line is that of its name"),
     _row("refused list TooLong", "the list is over its limit of bytes: cut it into several"),

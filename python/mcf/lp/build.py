@@ -7,8 +7,8 @@ from fractions import Fraction
 
 import numpy as np
 
-from mcf import (Certificate, HopCertificate, Layer, Length, Path, Potential, ScaledNetwork, TotalCertificate, rounded_down,
-                 rounded_up)
+from mcf import Layer, Length, Path, Potential, ScaledNetwork, rounded_down, rounded_up
+from mcf.certificate import Certificate, HopCertificate, TotalCertificate
 
 from ..ranges import Range, most_gain
 from .arrays import Array

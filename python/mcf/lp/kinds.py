@@ -8,7 +8,8 @@ from typing import Callable, Protocol
 
 from scipy.sparse import csc_matrix
 
-from mcf import Certificate, HopCertificate, ScaledNetwork, TotalCertificate, read_certificate, read_hops, read_throughput
+from mcf import ScaledNetwork, read_certificate, read_hops, read_throughput
+from mcf.certificate import Certificate, HopCertificate, TotalCertificate
 
 from .arrays import Array
 from .path_lp import FractionProgram, PathProgram

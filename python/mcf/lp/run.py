@@ -9,7 +9,8 @@ from fractions import Fraction
 import numpy as np
 from tqdm import tqdm
 
-from mcf import Certificate, Program, Routing, ScaledNetwork, TextError, decimal_of, write_certificate
+from mcf import Program, ScaledNetwork, TextError, decimal_of, write_certificate
+from mcf.certificate import Certificate, Routing
 
 from ..judged import Judged, judge
 from .build import DEFAULT_GAP, certificate_of, gap_in, in_form, with_gap

@@ -9,8 +9,8 @@ from pathlib import Path as File
 
 import numpy as np
 
-from mcf import (Certificate, Program, Routing, ScaledNetwork, TextError, cells_of_path, judge_of, load_text, nodes_of_walk,
-                 read_any, scale)
+from mcf import Program, ScaledNetwork, TextError, cells_of_path, judge_of, load_text, nodes_of_walk, read_any, scale
+from mcf.certificate import Certificate, Routing
 
 from ..limits import DEFAULT_PHASES, DEFAULT_STEP, MAX_STEP, MAX_WORK
 from .arrays import Array

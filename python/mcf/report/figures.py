@@ -7,8 +7,8 @@ from dataclasses import dataclass, replace
 from fractions import Fraction
 from functools import cached_property
 
-from mcf import (Certificate, HopCertificate, Routing, ScaledNetwork, TextError, TotalCertificate, cells_of_path, excess, loads, lower,
-                 shares_of_bound, upper, volume)
+from mcf import ScaledNetwork, TextError, cells_of_path, excess, loads, lower, shares_of_bound, upper, volume
+from mcf.certificate import Certificate, HopCertificate, Routing, TotalCertificate
 
 
 @dataclass(frozen=True)

@@ -111,7 +111,7 @@ def _between(graph: Any, known: Places) -> Places:
 def _among_neighbours(graph: Any, known: Places) -> Places:
     """The known places, and of each other node the mean of its neighbours' places, near the middle where it has none."""
     loose = [number for number in graph if number not in known]
-    middle = tuple(sum(place[axis] for place in known.values()) / len(known) for axis in (0, 1))
+    middle = (sum(x for x, _ in known.values()) / len(known), sum(y for _, y in known.values()) / len(known))
     places = dict(known)
     for at, number in enumerate(loose):
         around = [known[other] for other in graph[number] if other in known] or [middle]

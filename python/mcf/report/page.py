@@ -60,7 +60,8 @@ class Side:
     @property
     def tone(self) -> str:
         """The colour of the sentence."""
-        low, high, all_of_it = self.figures.lower, self.figures.upper, self.figures.total if self.figures.is_total else 1
+        low, high = self.figures.lower, self.figures.upper
+        all_of_it = Fraction(self.figures.total if self.figures.is_total else 1)
         return "good" if low >= all_of_it else "open" if high is None or high >= all_of_it else "bad"
 
     @property

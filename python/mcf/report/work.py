@@ -8,10 +8,10 @@ from collections.abc import Callable, Iterable
 from dataclasses import dataclass
 from pathlib import Path
 
-from mcf import Program, TextError, judge_of, load_text, scale
+from mcf import Program, TextError, judge_of, load_text, output, scale
 from mcf.judged import Judged, NotValid, judge
 from mcf.matrices import answers, is_batch, matrices, unit_of, with_demands
-from mcf.output import contents, write
+from mcf.output import contents
 from mcf.scaled import ScaledNetwork
 
 from .figures import Figures
@@ -161,11 +161,11 @@ def _write_sides(both: list[Shown], words: argparse.Namespace, title: str, say: 
     """The files on one certificate or on two."""
     if words.html:
         sides = sides_of([(one.figures, one.said, one.unit) for one in both], words.rows)
-        write(words.html, report_page(title, sides).encode("utf-8", "replace"))
+        write(words.html, report_page(title, sides), "utf-8")
     if words.csv:
-        write(words.csv, links_table([one.figures for one in both]).encode("latin-1"))
+        write(words.csv, links_table([one.figures for one in both]))
     if words.paths:
-        write(words.paths, paths_table(both[-1].figures).encode("latin-1"))
+        write(words.paths, paths_table(both[-1].figures))
     for front, one in zip(("Before: ", "After: ") if len(both) > 1 else ("",), both):
         say(front + verdict(one.figures))
 
@@ -179,9 +179,9 @@ def _write_batch(reader: Reader, net: Source, batch: Source, listed: dict[str, s
     without = [name for name in listed or () if name not in {row.matrix for row in rows}]
     sentence = batch_sentence(rows, without)
     if words.html:
-        write(words.html, batch_page(title, rows, sentence, unit_of(net.text)).encode("utf-8", "replace"))
+        write(words.html, batch_page(title, rows, sentence, unit_of(net.text)), "utf-8")
     if words.csv:
-        write(words.csv, batch_table(rows).encode("latin-1"))
+        write(words.csv, batch_table(rows))
     say(sentence)
 
 
@@ -190,3 +190,8 @@ def summaries(reader: Reader, net: Source, batch: Source, listed: dict[str, str]
     names: Iterable[str] = answers(batch.text)
     shown = [(name, reader.shown(*matrix_of(net, batch, listed, name.encode("latin-1").decode("utf-8", "surrogateescape")))) for name in names]
     return [Summary(name, one.figures, one.said) for name, one in shown]
+
+
+def write(file: str, text: str, encoding: str = "latin-1") -> None:
+    """Writes a text whole, or leaves what was there; `-` is standard output."""
+    output.write(file, text.encode(encoding, "replace"))

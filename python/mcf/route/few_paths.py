@@ -13,7 +13,7 @@ from mcf import ScaledNetwork, TextError
 from mcf.lp.arrays import Array
 from mcf.lp.build import shares_of_demands
 from mcf.lp.clp import load_clp
-from mcf.lp.path_lp import FractionProgram
+from mcf.lp.path_lp import FractionProgram, Stop
 from mcf.lp.pool import Pool
 from mcf.lp.prices import Bounds
 from mcf.lp.problem import Arcs, Pairs, pairs_of
@@ -34,7 +34,8 @@ def split_over_few(scaled: ScaledNetwork, ways: Ways, count: int, deadline: floa
     program = FractionProgram(library, pairs, AllPaths(pairs, Arcs(scaled)), np.array(capacities, np.float64), pool)
     optimum = program.optimise(deadline, lambda found: None, grow=False)
     if not optimum.proved:
-        notes.append("the time was too short for the best split over these paths")
+        why = "the time was too short for" if optimum.stop is Stop.SECONDS else "the linear program did not come to"
+        notes.append(f"{why} the best split over these paths")
     matrix = pool.cells_by_walks(len(capacities))
     amounts = [int(amount) for amount in pairs.amount]
     aim = _aim(amounts, capacities, matrix.T.tocsr(), np.array(pool.pair), optimum.last_prices, optimum.carried)

@@ -9,7 +9,8 @@ from fractions import Fraction
 
 from tqdm import tqdm
 
-from mcf import Path, Program, Routing, ScaledNetwork, TextError, loads, scale, write_routing
+from mcf import Path, Program, ScaledNetwork, TextError, loads, scale, write_routing
+from mcf.certificate import Routing
 from mcf.lp.rounding import fullest
 from mcf.lp.run import Request, certify
 

@@ -17,7 +17,8 @@ from pathlib import Path
 
 from tqdm import tqdm
 
-from mcf import Link, Network, Program, TextError, save_text, write_network
+from mcf import Link, Program, TextError, save_text, write_network
+from mcf.network import Network
 
 from ..children import end_all, run
 from ..judged import Judged, judge

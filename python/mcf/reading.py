@@ -1,0 +1,75 @@
+"""Networks of files: of network files by the proved program, and of other formats by the converter."""
+
+from __future__ import annotations
+
+import io
+from dataclasses import replace
+from typing import Any
+
+from .commands import ask
+from .convert import files, native
+from .convert.model import Notes
+from .convert.model import Refused as NoNetwork
+from .convert.work import Task, convert
+from .errors import ReadFault, Refused
+from .given import number_of
+from .network import read_network
+from .networks import Network
+from .output import one_line
+from .running import in_memory
+
+# options of `mcf.read`, and their names in the converter's task
+_OPTIONS = {"capacity": "capacity", "capacity_default": "missing", "unit": "unit", "from_unit": "from_unit", "round": "decimals",
+            "merge": "merge", "gravity": "gravity", "scale": "scale"}
+_ONE_WAY = "links are one way"
+
+
+def read_files(paths: list[str], options: dict[str, Any]) -> Network:
+    """The network of files."""
+    unknown = next((name for name in options if name not in _OPTIONS), None)
+    if unknown is not None:
+        raise ValueError(f"there is no option {unknown!r}; there are {', '.join(_OPTIONS)}")
+    data = _contents(paths[0])
+    if len(paths) == 1 and not options and data.startswith(files.NATIVE):
+        return _of_text(data, paths[0])
+    converted, notes = _converted(paths, options)
+    mode = "directed" if any(_ONE_WAY in note for note in notes) else "undirected"
+    network = _of_text(converted, paths[0])
+    return replace(network, notes=notes, mode=mode if network.mode == "undirected" else network.mode)
+
+
+def _contents(path: str) -> bytes:
+    """The bytes of a file."""
+    try:
+        with open(path, "rb") as file:
+            return file.read()
+    except OSError as error:
+        raise ReadFault(f"{path}: {error.strerror}") from None
+
+
+def _of_text(data: bytes, path: str) -> Network:
+    """The network of a network text, whose rows the proved program reads."""
+    try:
+        rows = read_network(ask("print", {"net": data}).text)
+    except Refused as refused:
+        raise Refused(refused.kind, path, refused.line, refused.sentence, f"{path}: {refused.said}") from None
+    return Network(rows, _mode(path, data), (), data)
+
+
+def _mode(path: str, data: bytes) -> str:
+    """How links are read, as the section META says."""
+    said = native.read_network(path, data, Notes(io.StringIO())).meta.get("links", "")
+    return said if said in ("directed", "bidirected") else "undirected"
+
+
+def _converted(paths: list[str], options: dict[str, Any]) -> tuple[bytes, tuple[str, ...]]:
+    """The network text of files of any format, and what the converter says of it."""
+    said = io.StringIO()
+    asked = {_OPTIONS[name]: number_of(value, name) if name in ("gravity", "scale") else value for name, value in options.items()}
+    with in_memory([b""]) as (number,):
+        target = f"/proc/self/fd/{number}"
+        try:
+            convert(Task(paths, target, written="net", **asked), Notes(said))
+        except NoNetwork as refused:
+            raise Refused("convert", paths[0], None, one_line(str(refused)), "") from None
+        return _contents(target), tuple(said.getvalue().splitlines())

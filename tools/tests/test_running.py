@@ -1,0 +1,203 @@
+"""How the API runs the program: side by side, ended where the caller ends, and errors for whatever stands in its place."""
+
+from __future__ import annotations
+
+import os
+import signal
+import subprocess
+import sys
+import time
+from collections.abc import Callable
+from concurrent.futures import ThreadPoolExecutor
+from fractions import Fraction
+from pathlib import Path
+
+import pytest
+
+import mcf
+from mcf import Network, Program
+from mcf.running import in_memory, run, run_tool
+
+LONG = """
+import sys
+sys.path.insert(0, {python!r})
+import mcf
+network = mcf.read({net!r})
+print("ready", flush=True)
+try:
+    {call}
+except KeyboardInterrupt:
+    print("interrupted", flush=True)
+"""
+CALLS = {"solve": "network.solve(gap=0, phases=1000, step=1, workers=1)", "certify": "network.certify(gap=0, seconds=500, progress=False)"}
+
+
+@pytest.fixture(autouse=True)
+def found(monkeypatch: pytest.MonkeyPatch, request: pytest.FixtureRequest) -> None:
+    """The program of the tests, where one is built."""
+    if "program" in request.fixturenames:
+        monkeypatch.setenv("MCF", request.getfixturevalue("program").path)
+
+
+def until(holds: Callable[[], object], seconds: float = 120.0) -> object:
+    """What a call gives once it is true."""
+    deadline = time.monotonic() + seconds
+    while not (value := holds()):
+        assert time.monotonic() < deadline
+        time.sleep(0.01)
+    return value
+
+
+def below(parent: int) -> set[int]:
+    """The children of a process, and theirs, that are no zombies."""
+    rows = {}
+    for folder in Path("/proc").glob("[0-9]*"):
+        try:
+            rows[int(folder.name)] = (folder / "stat").read_text().rpartition(")")[2].split()[:2]
+        except OSError:
+            continue
+    found, fresh = set(), {parent}
+    while fresh:
+        fresh = {number for number, (state, above) in rows.items() if int(above) in fresh and state not in "ZX"} - found
+        found |= fresh
+    return found
+
+
+def runs(number: int, program: Program) -> bool:
+    """Whether a process runs the program."""
+    try:
+        return os.readlink(f"/proc/{number}/exe") == os.path.realpath(program.path)
+    except OSError:
+        return False
+
+
+def begun(root: Path, tmp_path: Path, program: Program, call: str) -> tuple[subprocess.Popen[str], set[int]]:
+    """A Python that waits for the program, and what runs below it by then."""
+    code = LONG.format(python=str(root / "python"), net=str(root / "examples/ta2.net"), call=CALLS[call])
+    python = subprocess.Popen([sys.executable, "-B", "-c", code], stdout=subprocess.PIPE, text=True,
+                              env={**os.environ, "MCF": program.path, "TMPDIR": str(tmp_path)})
+    assert python.stdout is not None and python.stdout.readline() == "ready\n"
+    until(lambda: any(runs(number, program) for number in below(python.pid)))
+    return python, below(python.pid)
+
+
+@pytest.mark.parametrize("call", CALLS)
+@pytest.mark.parametrize("by", [signal.SIGKILL, signal.SIGINT, signal.SIGTERM])
+def test_the_program_ends_with_its_caller_and_nothing_is_left(root: Path, tmp_path: Path, program: Program, call: str, by: signal.Signals) -> None:
+    python, children = begun(root, tmp_path, program, call)
+    python.send_signal(by)
+    out, _ = python.communicate()
+    assert out == ("interrupted\n" if by == signal.SIGINT else "")
+    until(lambda: not any(Path(f"/proc/{number}").exists() and runs(number, program) for number in children))
+    until(lambda: not list(tmp_path.iterdir()))
+
+
+def test_a_timeout_ends_the_program(root: Path, program: Program, tmp_path: Path, monkeypatch: pytest.MonkeyPatch) -> None:
+    monkeypatch.setenv("TMPDIR", str(tmp_path))
+    network, before = mcf.read(root / "examples/ta2.net"), below(os.getpid())
+    with pytest.raises(mcf.Timeout, match="was not done in 0.2 seconds"):
+        network.solve(gap=0, phases=1000, step=1, timeout=0.2)
+    with pytest.raises(TimeoutError):
+        network.certify(gap=0, timeout=1, progress=False)
+    until(lambda: below(os.getpid()) <= before)
+    assert not list(tmp_path.iterdir())
+
+
+def test_twenty_solves_at_once(program: Program) -> None:
+    def fraction(amount: int) -> tuple[object, object]:
+        """What one network carries."""
+        certificate = Network.from_rows(network.rows).with_demands({("A", "B"): amount}).solve(gap=0.01)
+        return certificate.lower <= Fraction(10, amount) <= certificate.upper, certificate.judged
+    network = Network.from_frames({"source": ["A"], "target": ["B"], "capacity": [10]}, {("A", "B"): 1})
+    files = len(os.listdir("/proc/self/fd"))
+    with ThreadPoolExecutor(20) as pool:
+        found = list(pool.map(fraction, range(1, 61)))
+    assert all(fits and judged for fits, judged in found) and len(os.listdir("/proc/self/fd")) <= files
+
+
+def test_an_interrupt_of_a_thread_pool_leaves_nothing(root: Path, tmp_path: Path, program: Program) -> None:
+    code = (f"import sys; sys.path.insert(0, {str(root / 'python')!r}); import mcf\nfrom concurrent.futures import ThreadPoolExecutor\n"
+            f"network = mcf.read({str(root / 'examples/ta2.net')!r})\nprint('ready', flush=True)\n"
+            f"list(ThreadPoolExecutor(4).map(lambda at: {CALLS['solve']}, range(4)))\n")
+    python = subprocess.Popen([sys.executable, "-B", "-c", code], stdout=subprocess.PIPE, env={**os.environ, "TMPDIR": str(tmp_path)})
+    until(lambda: sum(runs(number, program) for number in below(python.pid)) == 4)
+    children = below(python.pid)
+    python.kill()
+    python.communicate()
+    until(lambda: not any(runs(number, program) for number in children))
+    assert not list(tmp_path.iterdir())
+
+
+# -- what stands in the program's place
+
+
+def script(tmp_path: Path, text: str, mode: int = 0o755) -> str:
+    """A program of a test."""
+    file = tmp_path / "program"
+    file.write_text(text)
+    file.chmod(mode)
+    return str(file)
+
+
+@pytest.mark.parametrize("path, said", [
+    ("/nonexistent/mcf", "no such program"), ("/", "no such program"), ("/etc/passwd", "no program that may be run"),
+    ("/bin/true", "another program"), ("/bin/false", "another program"), ("/bin/cat", "another program"), ("/usr/bin/yes", "another program"),
+    ("/bin/echo", "another program"), (sys.executable, "another program")])
+def test_another_program_is_none(monkeypatch: pytest.MonkeyPatch, path: str, said: str) -> None:
+    monkeypatch.setenv("MCF", path)
+    network = Network.from_frames({"source": ["A"], "target": ["B"], "capacity": [10]}, {("A", "B"): 1})
+    for ask in (network.solve, network.certify, network.route):
+        with pytest.raises(mcf.NoProgram, match=said):
+            ask()
+
+
+@pytest.mark.parametrize("answer, error, said", [
+    ("echo usage; exit 2", mcf.Usage, "the words are not in the grammar"), ("echo read fault; exit 4", mcf.ReadFault, "could not be read"),
+    ("exit 5", mcf.WriteFault, "could not be written"), ("echo memory; exit 6", mcf.NoMemory, "out of memory"),
+    ("echo refused net N5 line 3; exit 3", mcf.Refused, "an id stands twice"), ("kill -9 $$", mcf.McfError, "was ended by SIGKILL"),
+    ("echo mcf-certificate 2", mcf.TextError, "line 2"), ("echo hello", mcf.NoProgram, "another program"), ("exit 0", mcf.NoProgram, "another program"),
+    ("exit 9", mcf.NoProgram, "status 9"), ("echo mcf-certificate 2; exit 3", mcf.NoProgram, "another program"), ("sleep 100", mcf.Timeout, "not done")])
+def test_each_end_is_an_error_of_its_own(tmp_path: Path, monkeypatch: pytest.MonkeyPatch, answer: str, error: type[Exception], said: str) -> None:
+    monkeypatch.setenv("MCF", script(tmp_path, f"#!/bin/sh\n[ $# = 0 ] && echo usage && exit 2\n{answer}\n"))
+    network = Network.from_frames({"source": ["A"], "target": ["B"], "capacity": [10]}, {("A", "B"): 1})
+    with pytest.raises(error, match=said) as caught:
+        network.solve(timeout=20 if answer != "sleep 100" else 0.5)
+    assert "\n" not in str(caught.value)
+
+
+def test_a_certificate_that_is_not_valid_is_not_handed_out(tmp_path: Path, monkeypatch: pytest.MonkeyPatch, root: Path, program: Program) -> None:
+    (tmp_path / "wrong").write_text((root / "examples/triangle.cert").read_text().replace("scale 10 ", "scale 11 "))
+    monkeypatch.setenv("MCF", script(tmp_path, f"#!/bin/sh\n[ \"$1\" = solve ] && exec cat {tmp_path}/wrong\nexec {program.path} \"$@\"\n"))
+    with pytest.raises(mcf.Invalid, match="invalid C3"):
+        mcf.solve(root / "examples/triangle.net")
+
+
+# -- the way itself
+
+
+def test_texts_in_memory_are_read_by_their_descriptors() -> None:
+    with in_memory([b"one", b"", b"x" * 300_000]) as files:
+        sizes = [len(run(["/bin/cat", f"/proc/self/fd/{number}"], files).out) for number in files]
+    assert sizes == [3, 0, 300_000]
+    assert run(["/bin/sh", "-c", "ls /proc/self/fd | wc -l"]).line == "4"
+
+
+def test_what_ended_is_told() -> None:
+    assert run(["/bin/sh", "-c", "echo a; echo b; echo c >&2; exit 3"]) == type(run(["/bin/true"]))(3, b"a\nb\n", b"c\n")
+    assert run(["/bin/sh", "-c", "kill -15 $$"]).status == -15
+    with pytest.raises(mcf.Timeout):
+        run(["/bin/sh", "-c", "sleep 100 & sleep 100"], timeout=0.2)
+
+
+def test_where_there_is_no_setpriv_a_program_runs_all_the_same(monkeypatch: pytest.MonkeyPatch) -> None:
+    monkeypatch.setattr("mcf.running._setpriv", lambda: None)
+    assert run(["/bin/echo", "yes"]).line == "yes"
+    with pytest.raises(mcf.NoProgram, match="No such file"):
+        run(["/nonexistent"])
+
+
+def test_a_tool_runs_in_a_python_of_its_own(program: Program, root: Path, tmp_path: Path, monkeypatch: pytest.MonkeyPatch) -> None:
+    monkeypatch.chdir(tmp_path)
+    (tmp_path / "numpy.py").write_text("raise SystemExit('the wrong numpy')")
+    ended, _ = run_tool("certify", ["{0}", "--mcf", program.path], [(root / "examples/triangle.net").read_bytes()], None)
+    assert ended.status == 0 and ended.line == "mcf-certificate 2" and [file.name for file in tmp_path.iterdir()] == ["numpy.py"]
