@@ -106,12 +106,7 @@ def test_each_tool_of_the_package_tells_its_version(fresh: Root) -> None:
     assert {fresh.said(tool, "--version") for tool in TOOLS} == {f"mcf {version} ({commit})\n"}
 
 
-def test_the_same_files_give_the_same_bytes(small_repository: Path, root: Path) -> None:
-    for name in ("docs", "examples", "tools"):
-        (small_repository / name).mkdir()
-    for name in ("docs/mcf.1", "docs/guide.md", "docs/formats.md", "examples/triangle.net", "tools/setup"):
-        shutil.copy(root / name, small_repository / name)
-    subprocess.run(["git", "-C", str(small_repository), "add", "."], check=True)
+def test_the_same_files_give_the_same_bytes(small_repository: Path) -> None:
     release = Release(small_repository, STANDS_IN, EPOCH)
     name, data = deb(release)
     (small_repository / "python/mcf/__pycache__").mkdir()
