@@ -123,7 +123,7 @@ class Answer:
         load: what flows over the link if the paths carry each demand once; with `at_lower`, if they carry the lower fraction of it, so
         that everything fits; of a total, what is carried; in the network's unit. utilisation: load over capacity, 1 where the link is
         full; missing where it has no capacity. share_of_bound: the part of the upper bound that is due to the link; 0 where more capacity
-        there alone would not change the bound (no such column for a routing). Of bidirected links each way is a row.
+        there leaves this bound as it is (no such column for a routing). Of bidirected links each way is a row.
         """
         return _frame(self._links(at_lower), exact)
 
@@ -136,7 +136,7 @@ class Answer:
         return _frame(self._demands(), exact)
 
     def bottleneck(self, *, exact: bool = False) -> pandas.DataFrame:
-        """The links of the link table with a share of the bound, the greatest first: where capacity is missing."""
+        """The links of the link table with a share of the bound, the greatest first: those that hold the answer back."""
         columns = self._links(False)
         shares: list[Fraction] = columns.get("share_of_bound", [])
         order = sorted((at for at, share in enumerate(shares) if share), key=lambda at: -shares[at])
@@ -234,7 +234,8 @@ class Answer:
             "modules": self.rows.modules, "phases": self.phases, "lower": _json(self.lower), "upper": _json(self.upper),
             "gap": _json(self.gap), "notes": list(self.notes)}
         if tables:
-            said |= {"link_table": _records(self._links(False)), "demand_table": _records(self._demands()), "paths": _records(self._paths())}
+            said |= {"link_table": _records(self._links(False)), "demand_table": _records(self._demands()),
+                     "paths": _records(self._paths())}
         return json.dumps(said, indent=indent)
 
     @property

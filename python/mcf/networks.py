@@ -208,7 +208,8 @@ class Network:
         demands_at = [at for at, demand in enumerate(rows.demands) if not {demand.source, demand.target} & lost]
         left = Rows(tuple(rows.nodes[at] for at in nodes_at), tuple(rows.links[at] for at in links_at),
                     tuple(rows.demands[at] for at in demands_at))
-        kept = (rest if rest is None else rest.iloc[at].reset_index(drop=True) for rest, at in zip(self._beside, (nodes_at, links_at, demands_at)))
+        places = (nodes_at, links_at, demands_at)
+        kept = (rest if rest is None else rest.iloc[at].reset_index(drop=True) for rest, at in zip(self._beside, places))
         return replace(self, rows=left, _file=None, _beside=Beside(*kept))
 
     def _known(self, names: Iterable[str], words: Iterable[str], what: str) -> set[str]:
@@ -288,7 +289,7 @@ class Network:
     def sweep(self, certificate: Certificate, *, timeout: float | None = None) -> Sweep:
         """What a certificate is still worth without each single link: both bounds for each, without solving again.
 
-        Lower is what is left if the paths over the link are given up; a better routing may be found by `sweepsolve`.
+        The paths stay as they are, so lower is 0 where one goes over the link; `sweepsolve` finds others. Upper holds for all routings.
         """
         return asking.swept(self, certificate, timeout)
 

@@ -57,8 +57,11 @@ def _of_text(data: bytes, path: str) -> Network:
 
 
 def _mode(path: str, data: bytes) -> str:
-    """How links are read, as the section META says."""
-    said = native.read_network(path, data, Notes(io.StringIO())).meta.get("links", "")
+    """How links are read, as the section META of a text says that the program has read."""
+    try:
+        said = native.read_network(path, data, Notes(io.StringIO())).meta.get("links", "")
+    except NoNetwork:
+        return "undirected"
     return said if said in ("directed", "bidirected") else "undirected"
 
 

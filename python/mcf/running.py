@@ -25,7 +25,7 @@ from pathlib import Path
 
 from .errors import McfError, NoProgram, Timeout
 
-_GROUP = '[ "$PPID" = "$0" ] && exec "$@"'
+_UNLESS_ORPHANED = '[ "$PPID" = "$0" ] && exec "$@"'
 _TOOL = """
 import atexit, shutil, sys
 parent, room, tool = sys.argv[1:4]
@@ -36,6 +36,7 @@ from importlib import import_module
 sys.argv[:] = [tool, *sys.argv[4:]]
 main_of(import_module("mcf.cli." + tool).main, tool)
 """
+_BINARY = b"\x7fELF"
 _FRONT = 64
 _KNOWN_SECONDS = 60.0
 
@@ -90,16 +91,16 @@ def _start(words: Sequence[str], descriptors: Sequence[int], environment: dict[s
     """The child, whose group has its own number."""
     try:
         # (the starter's hints are for a person who called it)
-        return subprocess.Popen([*_tied(gently), *words], stdin=subprocess.DEVNULL, stdout=subprocess.PIPE, stderr=subprocess.PIPE,
+        return subprocess.Popen([*tied(gently), *words], stdin=subprocess.DEVNULL, stdout=subprocess.PIPE, stderr=subprocess.PIPE,
                                 pass_fds=descriptors, process_group=0, env={**os.environ, **(environment or {}), "MCF_HINTS": "0"})
     except OSError as error:
         raise NoProgram(f"{words[0]}: {error.strerror}") from None
 
 
-def _tied(gently: bool) -> list[str]:
+def tied(gently: bool = False) -> list[str]:
     """The words in front of a program that is to end with this process; none where the system has no setpriv."""
     setpriv = _setpriv()
-    return [setpriv, "--pdeathsig", "TERM" if gently else "KILL", "/bin/sh", "-c", _GROUP, str(os.getpid())] if setpriv else []
+    return [setpriv, "--pdeathsig", "TERM" if gently else "KILL", "/bin/sh", "-c", _UNLESS_ORPHANED, str(os.getpid())] if setpriv else []
 
 
 @lru_cache(maxsize=1)
@@ -144,18 +145,19 @@ def require_program(path: str) -> None:
             front = file.read(4)
     except OSError as error:
         raise NoProgram(f"{path}: {error.strerror}; MCF in the environment names the program mcf") from None
-    if not os.access(path, os.X_OK) or not (front.startswith(b"#!") or front == b"\x7fELF"):
+    if not os.access(path, os.X_OK) or not (front.startswith(b"#!") or front == _BINARY):
         raise NoProgram(f"{path}: this is no program that may be run; MCF in the environment names the program mcf")
-    _require_answer(path, there.st_ino, there.st_size, there.st_mtime_ns)
+    _require_answer(path, front == _BINARY, there.st_ino, there.st_size, there.st_mtime_ns)
 
 
 @lru_cache(maxsize=64)
-def _require_answer(path: str, *_: int) -> None:
-    """NoProgram unless the program answers no words by `usage` and status 2, as mcf does."""
+def _require_answer(path: str, is_binary: bool, *_: int) -> None:
+    """NoProgram unless the program answers no words by `usage` and status 2, as mcf does; what the file was is there to tell files apart."""
     started = _start([path], (), None, False)
     ending = threading.Timer(_KNOWN_SECONDS, _end_group, (started.pid,))
     try:
-        if front_of_file(path) == b"\x7fELF":
+        # (the starter, a script, may have to build the program first)
+        if is_binary:
             ending.start()
         # (no more than a front is read, since another program may write without end)
         front = started.stdout.read(_FRONT) if started.stdout else b""
@@ -167,12 +169,6 @@ def _require_answer(path: str, *_: int) -> None:
         _end(started)
     if status != 2:
         raise NoProgram(f"{path}: this is another program than mcf, since it does not answer as mcf does")
-
-
-def front_of_file(path: str) -> bytes:
-    """The first four bytes of a file."""
-    with open(path, "rb") as file:
-        return file.read(4)
 
 
 def _end_group(group: int) -> None:

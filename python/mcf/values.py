@@ -87,7 +87,7 @@ def weighted_distance(scaled: ScaledNetwork, certificate: Certificate) -> int:
 def excess(scaled: ScaledNetwork, certificate: TotalCertificate) -> int:
     """Amount times what the threshold has above the potential difference, over all commodities: the rest of what is above in line 10."""
     pairs = zip(scaled.commodities, _distances(scaled, certificate))
-    return sum(commodity.amount * max(0, certificate.threshold - distance) for commodity, distance in pairs)
+    return sum(commodity.amount * max(0, certificate.threshold - max(0, distance)) for commodity, distance in pairs)
 
 
 def _distances(scaled: ScaledNetwork, certificate: Certificate) -> list[int]:

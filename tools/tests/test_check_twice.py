@@ -258,15 +258,15 @@ def test_totals_line_by_line(program: Program, root: Path, others: list[tuple[Pa
             assert alike(first, second), f"mcf says {first.strip()}, check_twice {second.strip()}"
 
 
-def test_an_excess_may_be_more_than_the_threshold(program: Program, root: Path, tmp_path: Path) -> None:
+def test_an_excess_is_at_most_the_threshold(program: Program, root: Path, tmp_path: Path) -> None:
     net = tmp_path / "net"
     save_text(net, "?SNDlib native format; type: network; version: 1.0\nNODES (\nA\nB\n)\nLINKS (\nL ( A B ) 4 0 0 0 ( )\n)\n"
               "DEMANDS (\nD ( A B ) 1 3 UNLIMITED\n)\n")
     text = ("mcf-throughput 1\nverdict open\nlinks directed\nmodules largest\nnet nodes 2 cells 1 commodities 1 decimals 0 skipped 0 left 0 hops 0\n"
-            "gap 0.050000\nphases 1\nscale 1 1\nlower 3/1 3.000000\nupper 22/4 5.500000\nthreshold 4\npath D 3 +L\nlength +L 1\n"
+            "gap 0.050000\nphases 1\nscale 1 1\nlower 3/1 3.000000\nupper 16/4 4.000000\nthreshold 4\npath D 3 +L\nlength +L 1\n"
             "potential A 2 0\nend\n")
-    assert judged(program, root, tmp_path, net, text) == ("valid open directed largest lower 3/1 3.000000 upper 22/4 5.500000\n",) * 2
-    assert judged(program, root, tmp_path, net, text.replace("22/4 5.500000", "16/4 4.000000")) == ("invalid C9\n",) * 2
+    assert judged(program, root, tmp_path, net, text) == ("valid open directed largest lower 3/1 3.000000 upper 16/4 4.000000\n",) * 2
+    assert judged(program, root, tmp_path, net, text.replace("16/4 4.000000", "22/4 5.500000")) == ("invalid C9\n",) * 2
 
 
 @pytest.mark.parametrize("longest,changed", [

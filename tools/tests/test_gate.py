@@ -73,13 +73,13 @@ def test_passed_and_skipped_pass(gate) -> None:
     assert (status, lines[-1]) == (0, "200 passed, 0 failed")
 
 
-def test_without_packages_one_line_says_so_and_the_rest_counts(gate) -> None:
+def test_packages_that_cannot_be_installed_fail_the_gate(gate) -> None:
     status, lines = gate(setup=("tools/setup: run it as root, or install sudo; these are missing: python3-scipy", 2),
                          test=(PYTEST.format("1 failed in 3.21s"), 1))
-    assert (status, lines[-1]) == (0, "130 passed, 0 failed")
+    assert (status, lines[-1]) == (1, "130 passed, 1 failed")
     said = [line for line in lines if line.startswith("tools: ")]
-    assert said == ["tools: not tested, since Debian's packages for them are not installed: tools/setup: run it as root, or install "
-                    "sudo; these are missing: python3-scipy", "tools: 0 passed, 0 failed"]
+    assert said == ["tools: Debian's packages that the tests want are not installed: tools/setup: run it as root, or install sudo; these are "
+                    "missing: python3-scipy", "tools: 0 passed, 1 failed"]
 
 
 @pytest.mark.parametrize("part, last", [("cases", "127 passed, 3 failed"), ("solved", "117 passed, 3 failed")])

@@ -150,15 +150,7 @@ def test_kinds_of_certify_are_those_of_the_linear_program() -> None:
 def test_types_are_right(root: Path, tmp_path: Path) -> None:
     if importlib.util.find_spec("mypy") is None:
         pytest.skip("mypy is missing: tools/setup --tests")
-    words = ["--strict", "--cache-dir", str(tmp_path), "-p", "mcf"]
-    done = subprocess.run([sys.executable, "-m", "mypy", *words], cwd=root / "python", capture_output=True, text=True, check=False)
-    assert done.returncode == 0, done.stdout + done.stderr
-
-
-def test_types_of_the_api_are_right(root: Path, tmp_path: Path) -> None:
-    if importlib.util.find_spec("mypy") is None:
-        pytest.skip("mypy is missing: tools/setup --tests")
-    words = ["--follow-imports", "silent", "--cache-dir", str(tmp_path), *(word for name in API for word in ("-m", f"mcf.{name}"))]
+    words = ["--cache-dir", str(tmp_path), "-p", "mcf"]
     done = subprocess.run([sys.executable, "-m", "mypy", "--strict", *words], cwd=root / "python", capture_output=True, text=True, check=False)
     assert done.returncode == 0, done.stdout + done.stderr
 

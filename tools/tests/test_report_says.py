@@ -289,7 +289,7 @@ class Texts:
         volume = sum(self.room[cell[1:]] * self.unit * length for cell, length in self.lengths.items())
         if self.threshold is None:
             return Fraction(volume)
-        differences = [(size, self.potentials[a][b] - self.potentials[a][a]) for a, b, size in self.demands]
+        differences = [(size, max(self.potentials[a][b] - self.potentials[a][a], 0)) for a, b, size in self.demands]
         return volume + sum(size * self.unit * max(self.threshold - difference, 0) for size, difference in differences)
 
     def row(self, key: str, sign: str) -> list[str]:
