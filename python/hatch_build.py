@@ -27,6 +27,9 @@ class Extras(BuildHookInterface):
     def initialize(self, version: str, build_data: dict[str, Any]) -> None:
         """Adds the files, and says for which systems a wheel with a program is."""
         self.room = tempfile.TemporaryDirectory()
+        if version == "editable":
+            # (the package is then that of the checkout, which has git)
+            return
         commit = Path(self.room.name, "COMMIT")
         commit.write_text(f"{commit_here()}\n")
         commit.chmod(0o644)

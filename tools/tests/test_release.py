@@ -16,7 +16,6 @@ import pytest
 from mcf import Program, TextError
 from mcf.release.archive import archive, built_program, files_of, try_archive, version_of
 from mcf.release.elf import glibc, is_program, libraries, symbol_versions
-from mcf.release.staged import Release
 from mcf.version import commit_of
 
 STANDS_IN = Path("/bin/true")
@@ -115,6 +114,40 @@ def test_an_archive_that_does_not_work_is_not_kept(root: Path, tmp_path: Path) -
     ran = subprocess.run(words, capture_output=True, text=True)
     assert (ran.returncode, ran.stdout) == (2, "") and ran.stderr.count("\n") == 1
     assert not (tmp_path / "dist").exists()
+
+
+def test_the_c_library_is_read_from_the_program(tmp_path: Path) -> None:
+    data = STANDS_IN.read_bytes()
+    told = subprocess.run(["readelf", "--wide", "--dynamic", "--version-info", str(STANDS_IN)], capture_output=True, text=True, check=True).stdout
+    assert libraries(data) == re.findall(r"\(NEEDED\).*\[(.*)\]", told)
+    assert sorted(symbol_versions(data)) == sorted(re.findall(r"Name: (\S+)  Flags", told))
+    versions = [tuple(map(int, one)) for one in re.findall(r"Name: GLIBC_(\d+)\.(\d+)", told)]
+    assert glibc(STANDS_IN) == max(versions)
+    with pytest.raises(TextError, match="is linked with libtinfo"):
+        glibc(Path("/bin/bash"))
+    (tmp_path / "cut").write_bytes(data[:5000])
+    with pytest.raises(TextError, match="damaged|no version"):
+        glibc(tmp_path / "cut")
+
+
+def test_an_unknown_kind_is_refused(root: Path) -> None:
+    ran = subprocess.run([str(root / "tools/release"), "rpm"], capture_output=True, text=True, check=False)
+    assert (ran.returncode, ran.stdout, ran.stderr.count("\n")) == (2, "", 1) and "archive, wheel, deb" in ran.stderr
+
+
+def test_what_cannot_be_made_is_said_in_one_line(program: Program, root: Path, tmp_path: Path) -> None:
+    words = ["/usr/bin/python3", "-I", "-B", "-c", f"""
+import sys
+sys.path.insert(0, {str(root / 'python')!r})
+sys.modules["hatchling"] = None
+from mcf.cli.release import main
+sys.argv = ["release", "archive", "wheel", "--mcf", {program.path!r}, "--to", {str(tmp_path)!r}]
+main()
+"""]
+    ran = subprocess.run(words, capture_output=True, text=True, check=False)
+    version = version_of(root)
+    assert (ran.returncode, ran.stdout) == (1, f"{tmp_path}/mcf-{version}-x86_64-linux.tar.gz\n")
+    assert ran.stderr == "tools/release: no wheel: Debian's packages are missing: python3-hatchling; tools/setup --tests installs them\n"
 
 
 @pytest.mark.parametrize("words", [["--mcf", "/no/where"], ["--mcf", "/etc/passwd"]])

@@ -106,12 +106,38 @@ def test_each_tool_of_the_package_tells_its_version(fresh: Root) -> None:
     assert {fresh.said(tool, "--version") for tool in TOOLS} == {f"mcf {version} ({commit})\n"}
 
 
-def test_the_same_files_give_the_same_bytes(small_repository: Path, root: Path) -> None:
-    for name in ("docs", "examples", "tools"):
-        (small_repository / name).mkdir()
-    for name in ("docs/mcf.1", "docs/guide.md", "docs/formats.md", "examples/triangle.net", "tools/setup"):
-        shutil.copy(root / name, small_repository / name)
-    subprocess.run(["git", "-C", str(small_repository), "add", "."], check=True)
+def test_the_package_is_installed_and_purged_without_a_trace(fresh: Root) -> None:
+    room = fresh.room / "layers"
+    code = """
+set -e
+mkdir -p "$1" && mount -t tmpfs tmpfs "$1" && mkdir "$1/up" "$1/work" "$1/root"
+mount -t overlay overlay -o "lowerdir=/,upperdir=$1/up,workdir=$1/work" "$1/root" && mount -t tmpfs tmpfs "$1/root/tmp"
+mkdir "$1/root/tmp/room" && cp "$2" "$3"/polska.* "$1/root/tmp/room" || exit 77
+exec chroot "$1/root" sh -e -c '
+    cd /tmp/room
+    find /usr /etc /var/lib/dpkg/info -path "*mcf*" | sort >../before
+    dpkg -i ./*.deb >../log 2>&1 || { cat ../log; exit 1; }
+    command -v mcf && command -v mcf-report && mcf check polska.net polska.cert
+    mcf-report polska.net polska.cert --html polska.html && test -s polska.html
+    mcf-certify polska.net --gap 0.05 --seconds 60 | head -n 1
+    test -d /usr/lib/python3/dist-packages/mcf/__pycache__ && dpkg -V mcf
+    dpkg --purge mcf >../log 2>&1 || { cat ../log; exit 1; }
+    find /usr /etc /var/lib/dpkg/info -path "*mcf*" | sort >../after && diff ../before ../after && echo clean'
+"""
+    probe = ["unshare", "-m", "sh", "-c", 'mkdir -p "$1" && mount -t tmpfs tmpfs "$1" && mkdir "$1/u" "$1/w" "$1/m" && mount -t overlay overlay '
+             '-o "lowerdir=/,upperdir=$1/u,workdir=$1/w" "$1/m" && chroot "$1/m" true', "sh", str(room)]
+    if os.geteuid() != 0 or subprocess.run(probe, capture_output=True, check=False).returncode != 0:
+        pytest.skip("layers of a file system, for a root of its own, are for root where the system allows them")
+    words = ["unshare", "-m", "sh", "-c", code, "sh", str(room), str(fresh.file), str(fresh.room)]
+    env = {"PATH": "/usr/sbin:/usr/bin:/sbin:/bin", "DEBIAN_FRONTEND": "noninteractive"}
+    ran = subprocess.run(words, capture_output=True, text=True, env=env, check=False)
+    assert (ran.returncode, ran.stderr) == (0, ""), ran.stdout + ran.stderr
+    lines = ran.stdout.splitlines()
+    assert lines[:2] == ["/usr/bin/mcf", "/usr/bin/mcf-report"] and lines[2].startswith("valid closed ")
+    assert lines[3].startswith("Not every demand fits: ") and lines[4:] == ["mcf-certificate 2", "clean"]
+
+
+def test_the_same_files_give_the_same_bytes(small_repository: Path) -> None:
     release = Release(small_repository, STANDS_IN, EPOCH)
     name, data = deb(release)
     (small_repository / "python/mcf/__pycache__").mkdir()

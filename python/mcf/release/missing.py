@@ -18,7 +18,16 @@ class MissingPackages(TextError):
 
 def require(modules: dict[str, str], commands: dict[str, str] | None = None) -> None:
     """MissingPackages unless a module or command of each package is there."""
-    missing = [package for package, module in modules.items() if find_spec(module) is None]
+    missing = [package for package, module in modules.items() if not _is_there(module)]
     missing += [package for package, command in (commands or {}).items() if shutil.which(command) is None]
     if missing:
         raise MissingPackages(missing)
+
+
+def _is_there(module: str) -> bool:
+    """Whether a module can be imported."""
+    try:
+        return find_spec(module) is not None
+    except ValueError:
+        # (what stands for it in sys.modules is no module)
+        return False
