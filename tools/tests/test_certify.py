@@ -275,7 +275,7 @@ def test_trouble_is_one_line(program: Program, root: Path, words: tuple[str, ...
 def test_what_is_open_says_how_far_it_came_and_why(program: Program, root: Path, tmp_path: Path) -> None:
     """Without --gap a millionth is asked for, and a certificate that is far from it is open, with status 1."""
     net = tmp_path / "net"
-    save_text(net, program.ask("gen", "5", "100", "400", "5000"))
+    save_text(net, program.ask("gen", "5", "512", "4096", "32768"))
     done = command(root, program, str(net), "--seconds", "1")
     assert done.returncode == 1 and done.stdout.startswith("mcf-certificate ") and "\nverdict open\n" in done.stdout
     assert "\ngap 0.000001\n" in done.stdout and done.stderr.count("\n") == 1

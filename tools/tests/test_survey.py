@@ -36,7 +36,7 @@ DOUBLED = {"AB": Fraction(13, 6), "AC": Fraction(11, 6), "BC": Fraction(4, 3)}
 def run(*words: str | Path, program: Program, status: int = 0) -> tuple[str, str]:
     """What a run writes on both outputs."""
     done = subprocess.run(
-        [SURVEY, *map(str, words), "--mcf", program.path, "--jobs", "1"], capture_output=True, text=True, check=False
+        [SURVEY, *map(str, words), "--mcf", program.path, *([] if "--jobs" in words else ["--jobs", "1"])], capture_output=True, text=True, check=False
     )
     assert done.returncode == status, done.stderr
     return done.stdout, done.stderr
@@ -191,7 +191,7 @@ def test_a_routing_and_an_invalid_certificate_are_told(program: Program, tmp_pat
     assert said.splitlines()[-1].endswith("usage")
     (tmp_path / "bad").write_text(load_text(EXAMPLES / "triangle.cert").replace("368", "369"))
     _, said = run(EXAMPLES / "triangle.net", tmp_path / "bad", "--failures", program=program, status=2)
-    assert said.endswith("mcf check says: invalid C2\n")
+    assert "mcf check says: invalid C2: " in said and said.count("\n") == 1
 
 
 def test_exact_surveys_are_certified(program: Program):

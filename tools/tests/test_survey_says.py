@@ -150,7 +150,8 @@ def test_a_solve_that_check_refuses_is_not_believed(program: Program, tmp_path: 
                     f'exec {program.path} "$@"\n')
     fake.chmod(0o755)
     done = run(Program(str(fake)), net, ROOT / "examples/triangle.cert", "--failures")
-    assert (done.returncode, done.stdout) == (2, "") and done.stderr == "survey: mcf check says: invalid C9\n"
+    assert (done.returncode, done.stdout) == (2, "")
+    assert done.stderr.startswith("survey: mcf check says: invalid C9: ") and done.stderr.count("\n") == 1
 
 
 # --- each form of a sentence ------------------------------------------------------------------------------------------------------
@@ -181,7 +182,7 @@ TINY = Network((Node("A"), Node("B")), (Link("L", "A", "B", "1"),), (Demand("D",
     ({"K": ("0", "0.8"), "L": ("0", "2")}, "Which is the worst is not decided: it leaves at most 80.0 % of every demand; "),
     ({"K": ("0", "0.8"), "L": ("0", "2"), "M": ("0", "2"), "N": ("0", "2"), "O": ("0", "2"), "P": ("1", "2")},
      "The worst is one of 5, and not decided between them, which are those of K (A – B), L (A – B), M (A – B) and 2 others: at most 80.0 % of"),
-    ({"K": ("0.9999", "0.99996"), "L": ("1", "2")}, "not all demands fit after 1 of 2 single failures. The worst is that of K (A – B): 99.9 % to 100.0 %"),
+    ({"K": ("0.9999", "0.99996"), "L": ("1", "2")}, "not all demands fit after 1 of 2 single failures. The worst is that of K (A – B): 99.9 % to 99.996 %"),
 ])
 def test_each_form_of_the_worst(ends: dict[str, tuple[str, str]], said: str) -> None:
     assert said in of_ranges("failure", ("2", "2"), **ends)
