@@ -413,12 +413,6 @@ def test_formulas_in_a_network_come_back_from_its_tables(tmp_path: Path) -> None
     assert converted(room, "links.csv", "demands.csv", "nodes.csv").text == text
 
 
-def test_tables_of_reports_have_no_formulas() -> None:
-    from mcf.report.tables import table
-
-    assert table(["link"], [["=1+1"], ["-2.5"], ["'@x"]]) == "link\n'=1+1\n-2.5\n''@x\n"
-
-
 def test_a_name_that_may_be_of_two_nodes_is_refused(tmp_path: Path) -> None:
     edges = '<edge source="a" target="b"><data key="c">1</data></edge>'
     text = graph(edges).replace('<node id="a"/>', '<node id="a"><data key="l">b</data></node>').replace('<key id="x"', '<key id="l" for="node" attr.name="label"/><key id="x"')

@@ -3,6 +3,7 @@
 from __future__ import annotations
 
 import csv
+import dataclasses
 import io
 import subprocess
 from fractions import Fraction
@@ -277,3 +278,11 @@ def test_pages_of_surveys_in_a_browser(tmp_path: Path, width: int):
     assert seen["outside"] == [] and seen["lost"] == [] and seen["wide"] <= width
     assert seen["circles"] == 6 and sum(seen["strokes"].values()) == 6 and "none" not in seen["strokes"]
     assert seen["scripts"] == 0 and not seen["hit"] and "Not all demands fit after 2 of 3 single failures." in seen["text"]
+
+
+def test_names_that_are_formulas_have_an_apostrophe() -> None:
+    one = of_values("failure", CLOSED)
+    case = one.cases[0]
+    named = dataclasses.replace(case, link=dataclasses.replace(case.link, id="=1+1", source="@x", target="'-"))
+    row = table(survey_table([dataclasses.replace(one, cases=(named,))], []))[0]
+    assert (row["link"], row["source"], row["target"]) == ("'=1+1", "'@x", "''-")

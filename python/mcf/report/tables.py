@@ -35,7 +35,7 @@ def paths_table(figures: Figures) -> str:
     for demand in figures.demands:
         for path in demand.paths:
             numbers = [decimal(demand.amount), decimal(path.part), decimal(path.part * demand.amount), str(len(path.links))]
-            rows.append([demand.demand, demand.source, demand.target, *numbers, " ".join(path.links)])
+            rows.append([*map(cell_of, (demand.demand, demand.source, demand.target)), *numbers, cell_of(" ".join(path.links))])
     return table(head, rows)
 
 
@@ -50,15 +50,15 @@ def _batch_row(row: Summary) -> list[str]:
     low, high = row.range.lower, row.range.upper
     bounds = [decimal_of(rounded_down(*low.as_integer_ratio())), decimal_of(rounded_up(*high.as_integer_ratio()))]
     full, narrow = row.fullest, row.narrowest
-    used = [_word(full.utilisation), full.link] if full else ["", ""]
-    share = [_word(narrow.share), narrow.link] if narrow else ["", ""]
-    return [row.matrix, str(len(row.figures.demands)), decimal(row.figures.total), *bounds, row.fits, *used, *share]
+    used = [_word(full.utilisation), cell_of(full.link)] if full else ["", ""]
+    share = [_word(narrow.share), cell_of(narrow.link)] if narrow else ["", ""]
+    return [cell_of(row.matrix), str(len(row.figures.demands)), decimal(row.figures.total), *bounds, row.fits, *used, *share]
 
 
 def _link_row(pair: list[LinkFigures | None]) -> list[str]:
     """A row of a link."""
     first = next(row for row in pair if row)
-    words = [first.link, first.way, first.source, first.target]
+    words = [cell_of(first.link), first.way, cell_of(first.source), cell_of(first.target)]
     for row in pair:
         words += [_word(getattr(row, column)) if row else "" for column in LINK_COLUMNS]
     return words
@@ -70,9 +70,9 @@ def _word(value: Fraction | None) -> str:
 
 
 def table(head: Iterable[str], rows: Iterable[Iterable[str]]) -> str:
-    """The text of a table; words that a spreadsheet takes as formulas have an apostrophe in front."""
+    """The text of a table."""
     out = io.StringIO()
     writer = csv.writer(out, lineterminator="\n")
     writer.writerow(head)
-    writer.writerows([cell_of(word) for word in row] for row in rows)
+    writer.writerows(rows)
     return out.getvalue()

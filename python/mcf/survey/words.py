@@ -7,6 +7,7 @@ from fractions import Fraction
 
 from mcf import decimal_of, rounded_down, rounded_up
 
+from ..names import cell_of
 from ..ranges import Answer, Extreme, Range, best, fits, gains, most_gain, worst
 from ..report.shown import counted, decimal, name, percent_down, percent_up
 from ..report.tables import table
@@ -126,7 +127,7 @@ def survey_table(surveys: list[Survey], growths: list[tuple[Fraction, Range]]) -
     ]
     for one in surveys:
         for case in one.cases:
-            words = [case.kind, case.link.id, case.link.source, case.link.target, decimal(case.capacity)]
+            words = [case.kind, *map(cell_of, (case.link.id, case.link.source, case.link.target)), decimal(case.capacity)]
             rows.append([*words, *_both(case.routed), *_both(case.kept), fits(case.range).value])
     return table(COLUMNS, rows)
 
