@@ -95,10 +95,10 @@ def test_the_program_ends_with_its_caller_and_nothing_is_left(root: Path, tmp_pa
 def test_a_timeout_ends_the_program(root: Path, program: Program, tmp_path: Path, monkeypatch: pytest.MonkeyPatch) -> None:
     monkeypatch.setenv("TMPDIR", str(tmp_path))
     network, before = mcf.read(root / "examples/ta2.net"), below(os.getpid())
-    with pytest.raises(mcf.Timeout, match="was not done in 0.2 seconds"):
-        network.solve(gap=0, phases=1000, step=1, timeout=0.2)
+    with pytest.raises(mcf.Timeout, match="was not done in 0.05 seconds"):
+        network.solve(gap=0, phases=1000, step=1, timeout=0.05)
     with pytest.raises(TimeoutError):
-        network.certify(gap=0, timeout=1, progress=False)
+        network.certify(gap=0, timeout=0.05, progress=False)
     until(lambda: below(os.getpid()) <= before)
     assert not list(tmp_path.iterdir())
 
