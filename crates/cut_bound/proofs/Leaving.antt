@@ -1,5 +1,5 @@
 -- What leaves the cuts round nodes, and the fronts of nodes by rank, cell by cell.
-use Rattle.std.proofs.Common.{◌≡◌, ℕ, ◌+◌, ◌*◌, ◌<◌, ◌≤◌, Bool, true, false, cond, eqb, ltb, leb, min, max, List, [], ◌∷◌, ◌++◌, length, get_or, take, inl, inr, refl, sym, ap, ◌∙◌, arith}
+use Rattle.std.proofs.Common.{◌≡◌, ℕ, ◌+◌, ◌*◌, ◌<◌, ◌≤◌, Bool, true, false, cond, eqb, ltb, leb, min, max, List, [], ◌∷◌, ◌++◌, length, get_or, map, take, inl, inr, refl, sym, ap, ◌∙◌, arith}
 use Rattle.std.specs.Prelude.{◌&&◌, ◌||◌, not, All}
 use Rattle.std.specs.List.{filter, sum_by}
 use Rattle.std.proofs.lemmas.List.{get_or_append_left, get_or_push}
@@ -8,12 +8,13 @@ use Rattle.std.proofs.lemmas.Bool.Decides.{nat_tests}
 use Rattle.std.proofs.lemmas.List.Elements.{All-weaker}
 use Rattle.std.proofs.lemmas.List.Sums.{sum_by-cons, sum_by-le, sum_by-take-le}
 use Rattle.flow_model.specs.declared.net.Cell.{Cell}
-use Rattle.flow_model.specs.Network.{IsCell}
-use Rattle.mcf_limits.specs.declared.TheConstants.{MAX_DEMANDS, MAX_UNITS}
+use Rattle.flow_model.specs.declared.net.Commodity.{Commodity}
+use Rattle.flow_model.specs.Network.{Network, IsCell, IsNetwork}
+use Rattle.mcf_limits.specs.declared.TheConstants.{MAX_CELLS, MAX_UNITS}
 use Rattle.cut_bound.specs.declared.sums.Arc.{Arc}
 use Rattle.cut_bound.specs.declared.sums.Span.{Span}
 use Rattle.cut_bound.specs.Cuts.{leaves}
-use Rattle.cut_bound.specs.Sums.{arc_in, ending, leaving, node_part, node_side, rank_front, span_in, starting, AreSteps}
+use Rattle.cut_bound.specs.Sums.{arc_in, as_cell, ending, leaving, node_part, node_side, rank_front, span_in, starting, total_capacity, AreSteps}
 use Rattle.cut_bound.proofs.Adding.{sum-same}
 
 -- what is left out counts as 0
@@ -38,17 +39,38 @@ sum-none : {X : Type 0} (f : X → ℕ) (xs : List X) → ((x : X) → f x ≡ 0
 sum-none f [] e = refl
 sum-none f (x ∷ xs) e = omega (arith, sum_by-cons f x xs, e x, sum-none f xs e)
 
--- sums of parts of capacities are within the limit
-pub sum-small : (f : Cell → ℕ) (nodes : ℕ) (cells : List Cell) → All (IsCell nodes) cells → length cells ≤ MAX_DEMANDS → ((c : Cell) → f c ≤ c.cap) → sum_by f cells ≤ MAX_DEMANDS * MAX_UNITS
-sum-small f nodes cells fits few le =
-    let each : All (λ (c : Cell). f c ≤ MAX_UNITS) cells = All-weaker (IsCell nodes) (λ (c : Cell). f c ≤ MAX_UNITS) (λ c is. let cap = is.cap in let part = le c in omega arith) cells fits in
-    let whole = sum_by-le f MAX_UNITS cells each in
+-- sums of parts of capacities are at most the sum of all
+sum-below : (f : Cell → ℕ) (cells : List Cell) → ((c : Cell) → f c ≤ c.cap) → sum_by f cells ≤ total_capacity cells
+sum-below f [] le = omega arith
+sum-below f (c ∷ cs) le =
+    let here = le c in
+    let rest = sum-below f cs le in
+    omega (arith, sum_by-cons f c cs, sum_by-cons (λ (d : Cell). d.cap) c cs)
+
+part-below : (f : Cell → ℕ) (cells : List Cell) (i : ℕ) → ((c : Cell) → f c ≤ c.cap) → sum_by f (take i cells) ≤ total_capacity cells
+part-below f cells i le =
+    let whole = sum-below f cells le in
+    let part = sum_by-take-le f cells i in
     omega arith
 
-pub part-small : (f : Cell → ℕ) (nodes : ℕ) (cells : List Cell) (i : ℕ) → All (IsCell nodes) cells → length cells ≤ MAX_DEMANDS → ((c : Cell) → f c ≤ c.cap) → sum_by f (take i cells) ≤ MAX_DEMANDS * MAX_UNITS
-part-small f nodes cells i fits few le =
-    let whole = sum-small f nodes cells fits few le in
-    let part = sum_by-take-le f cells i in
+-- the capacities of a network's cells, and the amounts of its commodities, together
+pub cells-total : (net : Network) → IsNetwork net → total_capacity net.cells ≤ MAX_CELLS * MAX_UNITS
+cells-total net is =
+    let each : All (λ (c : Cell). c.cap ≤ MAX_UNITS) net.cells = All-weaker (IsCell net.nodes) (λ (c : Cell). c.cap ≤ MAX_UNITS) (λ c fits. fits.cap) net.cells is.cells in
+    let whole = sum_by-le (λ (c : Cell). c.cap) MAX_UNITS net.cells each in
+    let count = is.cell_count in
+    omega arith
+
+amounts-as-cells : (both : Bool) (ks : List Commodity) → total_capacity (map (as_cell both) ks) ≡ sum_by (λ (k : Commodity). k.amount) ks
+amounts-as-cells both [] = refl
+amounts-as-cells both (k ∷ ks) =
+    let rest = amounts-as-cells both ks in
+    omega (arith, sum_by-cons (λ (c : Cell). c.cap) (as_cell both k) (map (as_cell both) ks), sum_by-cons (λ (d : Commodity). d.amount) k ks)
+
+pub demands-total : (net : Network) (both : Bool) → IsNetwork net → total_capacity (map (as_cell both) net.commodities) ≤ MAX_CELLS * MAX_UNITS
+demands-total net both is =
+    let same = amounts-as-cells both net.commodities in
+    let total = is.total in
     omega arith
 
 -- ---- cuts round one node
@@ -121,8 +143,8 @@ cond-none-le : (b : Bool) (cap : ℕ) → cond b 0 cap ≤ cap
 cond-none-le true cap = omega arith
 cond-none-le false cap = omega arith
 
-pub node-small : (into : Bool) (v nodes : ℕ) (cells : List Cell) (i : ℕ) → All (IsCell nodes) cells → length cells ≤ MAX_DEMANDS → sum_by (node_part into v) (take i cells) ≤ MAX_DEMANDS * MAX_UNITS
-node-small into v nodes cells i fits few = part-small (node_part into v) nodes cells i fits few (node-part-le into v)
+pub node-small : (into : Bool) (v : ℕ) (cells : List Cell) (i : ℕ) → sum_by (node_part into v) (take i cells) ≤ total_capacity cells
+node-small into v cells i = part-below (node_part into v) cells i (node-part-le into v)
 
 pub arc-small : (into : Bool) (nodes : ℕ) (cells : List Cell) (i : ℕ) (d : Cell) (arc : Arc) → All (IsCell nodes) cells → i < length cells → arc ≡ arc_in into (get_or cells i d) → (arc.amount ≤ MAX_UNITS) × (arc.back ≤ MAX_UNITS)
 arc-small into nodes cells i d arc fits l e =
@@ -207,10 +229,10 @@ pub ending-le : (rank : ℕ → ℕ) (p : ℕ) (cell : Cell) → cond (eqb (span
 ending-le rank p cell = part-le (eqb (span_in rank cell).high p) (leb (rank cell.tail) (rank cell.head)) cell.both cell.cap
 
 -- the fronts' sums come one from the other
-pub front-steps : (rank : ℕ → ℕ) (nodes : ℕ) (cells : List Cell) (starts ends : List ℕ) → All (IsCell nodes) cells → length cells ≤ MAX_DEMANDS
+pub front-steps : (rank : ℕ → ℕ) (cells : List Cell) (starts ends : List ℕ) → total_capacity cells ≤ MAX_CELLS * MAX_UNITS
     → ((p : ℕ) → get_or starts p 0 ≡ starting rank p cells) → ((p : ℕ) → get_or ends p 0 ≡ ending rank p cells)
     → AreSteps (λ j. leaving (rank_front rank j) cells) starts ends
-front-steps rank nodes cells starts ends fits few from to =
+front-steps rank cells starts ends total from to =
     let by-test : (j : ℕ) → leaving (rank_front rank j) cells ≡ sum_by (λ (c : Cell). cond (leaves (rank_front rank j) c) c.cap 0) cells = λ j. sum-test (λ (c : Cell). c.cap) (leaves (rank_front rank j)) cells in
     record {
       first = by-test 0 ∙ sum-none (λ (c : Cell). cond (leaves (rank_front rank 0) c) c.cap 0) cells (none-below rank);
@@ -219,16 +241,16 @@ front-steps rank nodes cells starts ends fits few from to =
           (λ (c : Cell). cond (leaves (rank_front rank (j + 1)) c) c.cap 0) (λ (c : Cell). cond (eqb (span_in rank c).high j) (span_in rank c).amount 0) cells (front-point rank j) in
           omega (arith, by-test j, by-test (j + 1), from j, to j);
       small = λ j l.
-          let level = sum-small (λ (c : Cell). cond (leaves (rank_front rank j) c) c.cap 0) nodes cells fits few (λ c. cond-le (leaves (rank_front rank j) c) c.cap) in
-          let start = sum-small (λ (c : Cell). cond (eqb (span_in rank c).low j) (span_in rank c).amount 0) nodes cells fits few (starting-le rank j) in
+          let level = sum-below (λ (c : Cell). cond (leaves (rank_front rank j) c) c.cap 0) cells (λ c. cond-le (leaves (rank_front rank j) c) c.cap) in
+          let start = sum-below (λ (c : Cell). cond (eqb (span_in rank c).low j) (span_in rank c).amount 0) cells (starting-le rank j) in
           omega (arith, by-test j, from j);
     }
 
-pub starting-small : (rank : ℕ → ℕ) (p nodes : ℕ) (cells : List Cell) (i : ℕ) → All (IsCell nodes) cells → length cells ≤ MAX_DEMANDS → starting rank p (take i cells) ≤ MAX_DEMANDS * MAX_UNITS
-starting-small rank p nodes cells i fits few = part-small (λ (c : Cell). cond (eqb (span_in rank c).low p) (span_in rank c).amount 0) nodes cells i fits few (starting-le rank p)
+pub starting-small : (rank : ℕ → ℕ) (p : ℕ) (cells : List Cell) (i : ℕ) → starting rank p (take i cells) ≤ total_capacity cells
+starting-small rank p cells i = part-below (λ (c : Cell). cond (eqb (span_in rank c).low p) (span_in rank c).amount 0) cells i (starting-le rank p)
 
-pub ending-small : (rank : ℕ → ℕ) (p nodes : ℕ) (cells : List Cell) (i : ℕ) → All (IsCell nodes) cells → length cells ≤ MAX_DEMANDS → ending rank p (take i cells) ≤ MAX_DEMANDS * MAX_UNITS
-ending-small rank p nodes cells i fits few = part-small (λ (c : Cell). cond (eqb (span_in rank c).high p) (span_in rank c).amount 0) nodes cells i fits few (ending-le rank p)
+pub ending-small : (rank : ℕ → ℕ) (p : ℕ) (cells : List Cell) (i : ℕ) → ending rank p (take i cells) ≤ total_capacity cells
+ending-small rank p cells i = part-below (λ (c : Cell). cond (eqb (span_in rank c).high p) (span_in rank c).amount 0) cells i (ending-le rank p)
 
 pub span-small : (rank : ℕ → ℕ) (nodes : ℕ) (cells : List Cell) (i : ℕ) (d : Cell) (span : Span) → All (IsCell nodes) cells → i < length cells → span ≡ span_in rank (get_or cells i d) → span.amount ≤ MAX_UNITS
 span-small rank nodes cells i d span fits l e =

@@ -1,7 +1,7 @@
 -- A place for the first of the least fronts of each row of potentials, on the way to the best.
-use Rattle.std.specs.Prelude.{◌≡◌, ℕ, ◌<◌, ◌≤◌, nat_lt, List, All, Option, None, Some, IfSome, length, map, slice_index_or, if◌then◌else◌}
+use Rattle.std.specs.Prelude.{◌≡◌, ℕ, ◌*◌, ◌<◌, ◌≤◌, nat_lt, List, All, Option, None, Some, IfSome, length, map, slice_index_or, if◌then◌else◌}
 use Rattle.std.specs.List.{fold}
-use Rattle.mcf_limits.specs.declared.TheConstants.{MAX_DEMANDS}
+use Rattle.mcf_limits.specs.declared.TheConstants.{MAX_CELLS, MAX_UNITS}
 use Rattle.flow_model.specs.declared.net.Cell.{Cell}
 use Rattle.flow_model.specs.Network.{Network, IsCell}
 use Rattle.flow_paths.specs.DualRows.{DualRows}
@@ -11,6 +11,7 @@ use Rattle.cut_bound.specs.declared.choice.RowPlace.{RowPlace}
 use Rattle.cut_bound.specs.declared.choice.SummedCut.{SummedCut}
 use Rattle.cut_bound.specs.declared.fronts.RowLeast.{RowLeast}
 use Rattle.cut_bound.specs.Candidates.{AreLevels}
+use Rattle.cut_bound.specs.Sums.{total_capacity}
 use Rattle.cut_bound.specs.Search.{kept, level_cut, row_at, value_of, IsDualOf, IsRowPlace}
 
 -- ---- the first of the least cuts
@@ -48,7 +49,7 @@ place_in rows i = slice_index_or rows i (record { dual = 0; row = 0 })
 
 -- there is a row of that number, and its fronts can be summed up
 pub record IsRow (net : Network) (demands : List Cell) (own : List DualRows) (rows : List RowPlace) (i : ℕ) : Type 0 where
-  pub few : length demands ≤ MAX_DEMANDS
+  pub total : total_capacity demands ≤ MAX_CELLS * MAX_UNITS
   pub cells : All (IsCell net.nodes) demands
   pub fits : All (IsDualOf net) own
   pub there : i < length rows

@@ -11,6 +11,10 @@ use Rattle.cut_bound.specs.Cuts.{Side, leaves}
 abbrev pub leaving : Side → List Cell → ℕ
 leaving side cells = sum_by (λ (cell : Cell). cell.cap) (filter (leaves side) cells)
 
+-- the capacities of all cells together
+abbrev pub total_capacity : List Cell → ℕ
+total_capacity cells = sum_by (λ (cell : Cell). cell.cap) cells
+
 -- the commodity as a cell from its source to its target: it crosses a cut where that cell leaves the side
 abbrev pub as_cell : Bool → Commodity → Cell
 as_cell both k = record { tail = k.from; head = k.to; both = both; cap = k.amount }

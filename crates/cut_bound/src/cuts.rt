@@ -1,17 +1,18 @@
 //! The cuts round nodes and the fronts of a row of potentials, each with its sums.
 
-ghost use Rattle.std.specs.Prelude.{◌≡◌, ℕ, ◌+◌, ◌^◌, ◌<◌, ◌≤◌, ◌↔◌, All, IfOk, List, length, map, slice_index, slice_index_or};
+ghost use Rattle.std.specs.Prelude.{◌≡◌, ℕ, ◌+◌, ◌*◌, ◌^◌, ◌<◌, ◌≤◌, ◌↔◌, All, IfOk, List, length, map, slice_index, slice_index_or};
 ghost use Rattle.std.specs.List.{flat_map, range_with_len};
 ghost use Rattle.std.specs.List.Sorted.{IsStrictlyIncreasing};
 ghost use Rattle.flow_model.specs.Network.{IsCell};
 ghost use Rattle.cut_bound.specs.Candidates.{AreLevels};
 ghost use Rattle.cut_bound.specs.Search.{front_cut, level_cut, node_cut, node_cuts, woven};
+ghost use Rattle.cut_bound.specs.Sums.{total_capacity};
 ghost use Rattle.cut_bound.specs.declared.choice.SummedCut.{SummedCut as SummedCutIs};
 
 use crate::choice::{Place, RowPlace, SummedCut};
 use crate::sums::{front_sums, node_sums};
 use flow_model::{Cell, Net};
-use mcf_limits::{MAX_DEMANDS, MAX_NODES};
+use mcf_limits::{MAX_CELLS, MAX_NODES, MAX_UNITS};
 use std::alloc::{AllocError, Global};
 
 /// The cuts out of each node, or into each.
@@ -21,7 +22,7 @@ fn cuts_one_way(
     demands: &[Cell],
     into: bool,
 ) -> Result<Vec<SummedCut>, AllocError>
-    requires few { length demands.now ≤ MAX_DEMANDS }
+    requires total { total_capacity demands.now ≤ MAX_CELLS * MAX_UNITS }
     requires demands { All (IsCell net.now.nodes) demands.now }
     ensures { IfOk result (λ v.
         v.items ≡ map (node_cut net.now.cells demands.now into) (range_with_len 0 net.now.nodes)) }
@@ -64,7 +65,7 @@ pub fn node_cuts(
     demands: &[Cell],
     both: bool,
 ) -> Result<Vec<SummedCut>, AllocError>
-    requires few { length demands.now ≤ MAX_DEMANDS }
+    requires total { total_capacity demands.now ≤ MAX_CELLS * MAX_UNITS }
     requires demands { All (IsCell net.now.nodes) demands.now }
     ensures { IfOk result (λ v.
         v.items ≡ flat_map (node_cuts net.now.cells demands.now both) (range_with_len 0 net.now.nodes)) }
@@ -155,7 +156,7 @@ pub fn front_cuts(
     row: RowPlace,
     values: &[u64],
 ) -> Result<Vec<SummedCut>, AllocError>
-    requires few { length demands.now ≤ MAX_DEMANDS }
+    requires total { total_capacity demands.now ≤ MAX_CELLS * MAX_UNITS }
     requires demands { All (IsCell net.now.nodes) demands.now }
     requires values { length values.now ≡ net.now.nodes }
     ensures { IfOk result (λ v. (levels : List ℕ) × AreLevels values.now levels

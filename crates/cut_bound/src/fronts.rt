@@ -1,9 +1,10 @@
 //! A slot for each row of potentials, filled by threads with the first of the least of its fronts.
 
-ghost use Rattle.std.specs.Prelude.{◌≡◌, ℕ, ◌+◌, ◌<◌, ◌≤◌, None, All, IfOk, OnOk, length, slice_index_or};
+ghost use Rattle.std.specs.Prelude.{◌≡◌, ℕ, ◌+◌, ◌*◌, ◌<◌, ◌≤◌, None, All, IfOk, OnOk, length, slice_index_or};
 ghost use Rattle.flow_model.specs.Network.{IsCell};
 ghost use Rattle.cut_bound.specs.Search.{row_at, seen, Considers, IsDualOf, IsRowPlace};
 ghost use Rattle.cut_bound.specs.Slots.{AreConsidered, IsFilled, IsLeastFront, IsRow};
+ghost use Rattle.cut_bound.specs.Sums.{total_capacity};
 
 use crate::choice::{Best, RowPlace, SummedCut, consider_some, least_of};
 use crate::cuts::front_cuts;
@@ -11,7 +12,7 @@ use crate::own::{rows_of, values_at};
 use flow_model::{Cell, Net};
 use flow_paths::Dual;
 use mcf_base::thread_count;
-use mcf_limits::{MAX_DEMANDS, MAX_WORKERS};
+use mcf_limits::{MAX_CELLS, MAX_UNITS, MAX_WORKERS};
 use std::alloc::{AllocError, Global};
 use std::thread::Threads;
 
@@ -33,7 +34,7 @@ fn least_front(
     own: &[&Dual],
     row: RowPlace,
 ) -> Result<RowLeast, AllocError>
-    requires few { length demands.now ≤ MAX_DEMANDS }
+    requires total { total_capacity demands.now ≤ MAX_CELLS * MAX_UNITS }
     requires demands { All (IsCell net.now.nodes) demands.now }
     requires place { IsRowPlace (seen own.now) row }
     requires values { length (row_at (seen own.now) row).values ≡ net.now.nodes }
@@ -142,7 +143,7 @@ pub fn consider_fronts<R: Threads + Sync>(
     own: &[&Dual],
     best: &mut Best,
 ) -> Result<(), AllocError>
-    requires few { length demands.now ≤ MAX_DEMANDS }
+    requires total { total_capacity demands.now ≤ MAX_CELLS * MAX_UNITS }
     requires demands { All (IsCell net.now.nodes) demands.now }
     requires duals { All (λ d. IsDualOf net.now d.now) own.now }
     ensures { OnOk result (Considers net.now.cells demands.now (seen own.now) best.old best.new) }

@@ -1,12 +1,12 @@
 //! What leaves many sides at once: the cuts round each node, and the fronts of nodes by rank.
 
-ghost use Rattle.std.specs.Prelude.{◌≡◌, ℕ, ◌+◌, ◌^◌, ◌<◌, ◌≤◌, ◌==◌, All, IfOk, length, map, slice_index, if◌then◌else◌};
+ghost use Rattle.std.specs.Prelude.{◌≡◌, ℕ, ◌+◌, ◌*◌, ◌^◌, ◌<◌, ◌≤◌, ◌==◌, All, IfOk, length, map, slice_index, if◌then◌else◌};
 ghost use Rattle.std.specs.List.{sum_by};
 ghost use Rattle.flow_model.specs.Network.{IsCell, IsCommodity};
-ghost use Rattle.cut_bound.specs.Sums.{arc_in, as_cell, ending, leaving, node_part, node_side, rank_front, span_in, starting, AreSteps};
+ghost use Rattle.cut_bound.specs.Sums.{arc_in, as_cell, ending, leaving, node_part, node_side, rank_front, span_in, starting, total_capacity, AreSteps};
 
 use flow_model::{Cell, Commodity};
-use mcf_limits::MAX_DEMANDS;
+use mcf_limits::{MAX_CELLS, MAX_UNITS};
 use std::alloc::{AllocError, Global};
 
 /// The ends of a cell, and what it adds to the cut round each of them.
@@ -69,7 +69,7 @@ fn arc_of(cell: &Cell, into: bool) -> Arc
 
 /// Adds up what each cell adds to the cuts round its ends.
 fn add_arcs(cells: &[Cell], into: bool, table: &mut [u64])
-    requires few { length cells.now ≤ MAX_DEMANDS }
+    requires total { total_capacity cells.now ≤ MAX_CELLS * MAX_UNITS }
     requires cells { All (IsCell (length table.old)) cells.now }
     requires blank { (p : ℕ) → slice_index table.old p ≡ 0 }
     ensures { (p : ℕ) → slice_index table.new p ≡ sum_by (node_part into p) cells.now }
@@ -88,7 +88,7 @@ pub fn node_sums(
     cells: &[Cell],
     into: bool,
 ) -> Result<Vec<u64>, AllocError>
-    requires few { length cells.now ≤ MAX_DEMANDS }
+    requires total { total_capacity cells.now ≤ MAX_CELLS * MAX_UNITS }
     requires cells { All (IsCell nodes) cells.now }
     ensures len { IfOk result (λ v. length v.items ≡ nodes) }
     ensures each { IfOk result (λ sums. (v : ℕ) → v < nodes
@@ -118,7 +118,7 @@ fn span_of(ranks: &[u16], cell: &Cell) -> Span
 
 /// Adds up what begins and what ends at each rank.
 fn add_spans(ranks: &[u16], cells: &[Cell], starts: &mut [u64], ends: &mut [u64])
-    requires few { length cells.now ≤ MAX_DEMANDS }
+    requires total { total_capacity cells.now ≤ MAX_CELLS * MAX_UNITS }
     requires cells { All (IsCell (length ranks.now)) cells.now }
     requires ranks { All (λ r. r < length starts.old) ranks.now }
     requires same { length ends.old ≡ length starts.old }
@@ -158,7 +158,7 @@ pub fn front_sums(
     count: usize,
     cells: &[Cell],
 ) -> Result<Vec<u64>, AllocError>
-    requires few { length cells.now ≤ MAX_DEMANDS }
+    requires total { total_capacity cells.now ≤ MAX_CELLS * MAX_UNITS }
     requires cells { All (IsCell (length ranks.now)) cells.now }
     requires ranks { All (λ r. r < count) ranks.now }
     ensures len { IfOk result (λ v. length v.items ≡ count) }

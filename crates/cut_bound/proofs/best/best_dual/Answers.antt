@@ -8,8 +8,9 @@ use Rattle.flow_model.specs.Network.{IsCell}
 use Rattle.cut_bound.specs.declared.choice.Best.{Best}
 use Rattle.cut_bound.specs.Candidates.{no_dual, IsBestDual}
 use Rattle.cut_bound.specs.Search.{chosen, kept, node_cuts, seen, Considers, IsBestOwn, IsDualOf}
-use Rattle.cut_bound.specs.Sums.{as_cell}
+use Rattle.cut_bound.specs.Sums.{as_cell, total_capacity}
 use Rattle.cut_bound.proofs.Choosing.{best-found, demands-fit, own-divide, rows-wide}
+use Rattle.cut_bound.proofs.Leaving.{demands-total}
 use Rattle.cut_bound.proofs.Owning.{seen-all, seen-length}
 use Rattle.cut_bound.proofs.best.best_dual.Goals as goal
 
@@ -18,6 +19,20 @@ node_cuts-requires-clause-demands g c =
     let net = c.args.net.now in
     let is : c.deref.result.now ≡ map (as_cell c.args.both) net.commodities = c.deref.ensures.value ∙ (c.in_ok-demands.ensures ∙ ap (λ (ks : List Commodity). map (as_cell c.args.both) ks) c.commodities.ensures.value) in
     subst (λ (xs : List Cell). All (IsCell net.nodes) xs) (sym is) (demands-fit net c.args.both c.commodities.ensures.net)
+
+pub node_cuts-requires-clause-total : goal.node_cuts-requires-clause-total
+node_cuts-requires-clause-total g c =
+    let net = c.args.net.now in
+    let is : c.deref.result.now ≡ map (as_cell c.args.both) net.commodities = c.deref.ensures.value ∙ (c.in_ok-demands.ensures ∙ ap (λ (ks : List Commodity). map (as_cell c.args.both) ks) c.commodities.ensures.value) in
+    let all = demands-total net c.args.both c.commodities.ensures.net in
+    omega (arith, ap total_capacity is, all)
+
+pub consider_fronts-requires-clause-total : goal.consider_fronts-requires-clause-total
+consider_fronts-requires-clause-total g c κs within =
+    let net = c.args.net.now in
+    let is : c.deref-3.result.now ≡ map (as_cell c.args.both) net.commodities = c.deref-3.ensures.value ∙ (c.in_ok-demands.ensures ∙ ap (λ (ks : List Commodity). map (as_cell c.args.both) ks) c.commodities.ensures.value) in
+    let all = demands-total net c.args.both c.commodities.ensures.net in
+    omega (arith, ap total_capacity is, all)
 
 pub consider_fronts-requires-clause-demands : goal.consider_fronts-requires-clause-demands
 consider_fronts-requires-clause-demands g c κs within =

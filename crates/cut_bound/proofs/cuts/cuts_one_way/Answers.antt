@@ -1,9 +1,13 @@
 use Rattle.std.proofs.Common.{◌<◌, ◌∙◌, List, length, ap, arith}
 use Rattle.std.proofs.lemmas.List.{get_or_default}
 use Rattle.flow_model.specs.declared.net.Cell.{Cell}
-use Rattle.cut_bound.specs.Sums.{leaving, node_side}
+use Rattle.cut_bound.specs.Sums.{leaving, node_side, total_capacity}
+use Rattle.cut_bound.proofs.Leaving.{cells-total}
 use Rattle.cut_bound.proofs.Levelling.{nodes-more}
 use Rattle.cut_bound.proofs.cuts.cuts_one_way.Goals as goal
+
+pub node_sums-requires-clause-total : goal.node_sums-requires-clause-total
+node_sums-requires-clause-total c = omega (arith, ap total_capacity c.cells.ensures.value, cells-total c.args.net.now c.cells.ensures.net)
 
 pub loop-node-preserved : goal.loop-node-preserved
 loop-node-preserved c =

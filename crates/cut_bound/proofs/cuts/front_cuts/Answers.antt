@@ -5,10 +5,14 @@ use Rattle.flow_model.specs.declared.net.Cell.{Cell}
 use Rattle.cut_bound.specs.declared.choice.SummedCut.{SummedCut}
 use Rattle.cut_bound.specs.Candidates.{AreLevels}
 use Rattle.cut_bound.specs.Search.{front_cut, level_cut}
-use Rattle.cut_bound.specs.Sums.{leaving, rank_front}
+use Rattle.cut_bound.specs.Sums.{leaving, rank_front, total_capacity}
 use Rattle.cut_bound.proofs.Adding.{if-both}
+use Rattle.cut_bound.proofs.Leaving.{cells-total}
 use Rattle.cut_bound.proofs.Levelling.{cuts-are}
 use Rattle.cut_bound.proofs.cuts.front_cuts.Goals as goal
+
+pub front_sums-requires-clause-total : goal.front_sums-requires-clause-total
+front_sums-requires-clause-total c = omega (arith, ap total_capacity c.cells-cells.ensures.value, cells-total c.args.net.now c.cells-cells.ensures.net)
 
 pub returns : goal.returns
 returns c =

@@ -14,7 +14,7 @@ fill_all-requires-after_bounds g c κs within = λ i lt.
     let net = c.args.net.now in
     let own = seen c.args.own.now in
     record {
-      few = c.requires.few;
+      total = c.requires.total;
       cells = c.requires.demands;
       fits = seen-all (IsDualOf net) c.args.own.now c.requires.duals;
       there = omega (arith, ap length c.deref.ensures.value, c.in_ok-slots.ensures.len, c.deref_mut.ensures.len, c.len.ensures);

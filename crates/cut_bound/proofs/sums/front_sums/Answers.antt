@@ -11,7 +11,7 @@ running_sums-requires-clause-steps c =
     let starts : length c.add_spans.new.starts ≡ c.in_ok-starts.starts.len = omega arith in
     let ends : length c.add_spans.new.ends ≡ c.in_ok-ends.ends.len = omega arith in (
       λ j. leaving (rank_front rank j) c.args.cells.now,
-      front-steps rank (length c.args.ranks.now) c.args.cells.now c.deref.result.now c.deref-2.result.now c.requires.cells c.requires.few
+      front-steps rank c.args.cells.now c.deref.result.now c.deref-2.result.now c.requires.total
           (λ p. ap (λ (xs : List ℕ). get_or xs p 0) (c.deref.ensures.value ∙ with_items_is c.in_ok-starts.starts c.add_spans.new.starts starts) ∙ c.add_spans.ensures.starts p)
           (λ p. ap (λ (xs : List ℕ). get_or xs p 0) (c.deref-2.ensures.value ∙ with_items_is c.in_ok-ends.ends c.add_spans.new.ends ends) ∙ c.add_spans.ensures.ends p),
     )
@@ -22,7 +22,7 @@ returns-clause-each c =
     let starts : length c.add_spans.new.starts ≡ c.in_ok-starts.starts.len = omega arith in
     let ends : length c.add_spans.new.ends ≡ c.in_ok-ends.ends.len = omega arith in
     let steps : AreSteps (λ j. leaving (rank_front rank j) c.args.cells.now) c.deref.result.now c.deref-2.result.now
-    = front-steps rank (length c.args.ranks.now) c.args.cells.now c.deref.result.now c.deref-2.result.now c.requires.cells c.requires.few
+    = front-steps rank c.args.cells.now c.deref.result.now c.deref-2.result.now c.requires.total
     (λ p. ap (λ (xs : List ℕ). get_or xs p 0) (c.deref.ensures.value ∙ with_items_is c.in_ok-starts.starts c.add_spans.new.starts starts) ∙ c.add_spans.ensures.starts p)
     (λ p. ap (λ (xs : List ℕ). get_or xs p 0) (c.deref-2.ensures.value ∙ with_items_is c.in_ok-ends.ends c.add_spans.new.ends ends) ∙ c.add_spans.ensures.ends p) in
     let count : length c.deref.result.now ≡ c.args.count = omega (arith, c.in_ok-starts.ensures.len, ap length (c.deref.ensures.value ∙ with_items_is c.in_ok-starts.starts c.add_spans.new.starts starts)) in
