@@ -226,7 +226,7 @@ def test_the_wide_program_is_built_of_the_same_crates_beside_the_other(clone: Pa
     assert [(one.returncode, one.stdout, one.stderr) for one in again] == [(0, "built z\n", "")] * 2
     assert len(calls(clone)) == 2
     version = subprocess.run([str(clone / "mcf-wide"), "--version"], capture_output=True, text=True)
-    assert version.stdout == f"mcf-wide {(clone / 'VERSION').read_text()}"
+    assert version.stdout == f"mcf-wide {(clone / 'VERSION').read_text().strip()} (unknown)\n"
 
 
 def test_a_link_to_the_starter_serves(clone: Path) -> None:
