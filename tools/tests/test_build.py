@@ -39,7 +39,8 @@ def clone(tmp_path: Path, root: Path, monkeypatch: pytest.MonkeyPatch) -> Path:
     """A repository of two small crates with the starter, and an rt on the path that makes a program of one line."""
     top = tmp_path / "clone"
     shutil.copytree(root / "python", top / "python", ignore=shutil.ignore_patterns("__pycache__"))
-    shutil.copy(root / "mcf", top / "mcf")
+    for name in ("mcf", "mcf-wide"):
+        shutil.copy(root / name, top / name)
     shutil.copy(root / "VERSION", top / "VERSION")
     (top / "crates.txt").write_text("# two, and one that no program needs\nmcf_limits:\nmcf: mcf_limits clap\ncases: mcf_limits\n")
     for name in ("mcf_limits", "wide_limits", "mcf", "cases"):
@@ -213,6 +214,19 @@ def test_without_the_toolchain_one_line_says_so(clone: Path, monkeypatch: pytest
     monkeypatch.setenv("PATH", "/usr/bin:/bin")
     status, out, err = run(clone)
     assert (status, out) == (7, "") and err.count("\n") == 1 and "rt is not on the path" in err
+
+
+def test_the_wide_program_is_built_of_the_same_crates_beside_the_other(clone: Path) -> None:
+    run(clone, "solve", "x")
+    wide = subprocess.run([str(clone / "mcf-wide"), "solve", "y"], capture_output=True, text=True, cwd=clone.parent)
+    assert (wide.returncode, wide.stdout) == (0, "built solve y\n")
+    assert wide.stderr.startswith("mcf-wide: building the program; ")
+    assert calls(clone) == ["ci: mcf_limits:mcf: mcf_limits clap, mcf mcf_limits"] * 2
+    again = [subprocess.run([str(clone / name), "z"], capture_output=True, text=True) for name in ("mcf", "mcf-wide")]
+    assert [(one.returncode, one.stdout, one.stderr) for one in again] == [(0, "built z\n", "")] * 2
+    assert len(calls(clone)) == 2
+    version = subprocess.run([str(clone / "mcf-wide"), "--version"], capture_output=True, text=True)
+    assert version.stdout == f"mcf-wide {(clone / 'VERSION').read_text().strip()} (unknown)\n"
 
 
 def test_a_link_to_the_starter_serves(clone: Path) -> None:
