@@ -1,4 +1,4 @@
-use Rattle.std.proofs.Common.{eqb, length, arith}
+use Rattle.std.proofs.Common.{eqb, arith}
 use Rattle.cut_bound.proofs.Leaving.{arc-small, cond-small, node-small}
 use Rattle.cut_bound.proofs.sums.add_arcs.Goals as goal
 
