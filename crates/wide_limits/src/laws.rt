@@ -80,7 +80,7 @@ pub fn limits_of_lists()
 pub fn defaults_of_options()
     ensures gap { DEFAULT_GAP ≡ 50000 }
     ensures phases { DEFAULT_PHASES ≡ 1000 }
-    ensures step { DEFAULT_STEP ≡ 65536 }
+    ensures step { DEFAULT_STEP ≡ 524288 }
     ensures workers { DEFAULT_WORKERS ≡ 4 }
     ensures commodities { FEW_COMMODITIES ≡ 4000 }
 {}

@@ -84,6 +84,6 @@ pub const DEFAULT_WORKERS: u16 = 4;
 /// The commodities from which on a run takes the default workers where no number is asked; with fewer it takes one.
 pub const FEW_COMMODITIES: u64 = 4000;
 
-/// The step of the lengths where none is asked. Drawn networks of 754 nodes and 567,762 demands close at a gap of 5 % with it, also where
-/// their capacities are near to the loads; these don't with twice as much, and take longer with half of it.
-pub const DEFAULT_STEP: u32 = 65_536;
+/// The step of the lengths where none is asked. Drawn networks of 754 nodes and 567,762 demands close at a gap of 5 % with it in 3 to 14
+/// phases, so that their certificates keep to their limit; those whose capacities are near to the loads want a smaller step.
+pub const DEFAULT_STEP: u32 = 524_288;
