@@ -1,0 +1,141 @@
+"""Studies for notebooks: `mcf.study`, which gives a frame."""
+
+from __future__ import annotations
+
+import os
+import tempfile
+from collections.abc import Iterable, Mapping, Sequence
+from fractions import Fraction
+from typing import TYPE_CHECKING, Any
+
+from ..commands import program_path
+from ..given import Number, decimal_word, number_of, word_of
+from ..needs import needed
+from ..network import Network as Rows
+from ..networks import Network, Path, of
+from .changes import FAILURES, Fibres, all_changes, capacities, groups
+from .scenarios import ROUTINGS, Asked, Change, Ground, Matrix, Plan, demand_rows, digest_of
+
+if TYPE_CHECKING:
+    import pandas
+
+    from .store import Store
+
+
+def study(network: Network | Path, matrices: Mapping[str, Any] | Sequence[Path] = (), *, failures: Iterable[str] | str = (),
+          groups: Mapping[str, Iterable[str]] | None = None, changes: Mapping[str, Mapping[str, Number]] | None = None,
+          fibres: bool = False, intact: bool = False, grow: Iterable[Number] = (1,), routing: Iterable[str] | str = ("best",),
+          without_cut: bool = False, gap: Number | None = None, phases: int | None = None, step: int | None = None,
+          links: str | None = None, modules: str = "largest", seconds: float = 300.0, store: Path | None = None, jobs: int | None = None,
+          scheduler: str | None = None, keep: bool = False, recheck: bool = False, progress: bool = True, exact: bool = False) -> pandas.DataFrame:
+    """Many scenarios, matrices × changes × routings × growths, as a frame with a row for each; each was solved and judged.
+
+    matrices: {name: what `Network.with_demands` takes}, or paths of lists, SNDlib's XML, tables, folders and archives; without them the
+    network's own demands. failures: some of `links`, `nodes` and `pairs`. groups: {name: links and nodes that fail together}. changes:
+    {name: {link: capacity}}. fibres: both arcs of a fibre change together. intact: the network as it is too. grow: all demands times
+    each. routing: some of `best`, `exact`, `ecmp`, `hops`, `capacity`, `cost` and `k-paths`. without_cut: where demands have no way, the
+    others too.
+
+    store: the file that keeps what is done, so that the same call goes on where it was; without it nothing is kept. jobs: processes of
+    this machine (one for each processor; 1 starts none). scheduler: that of a cluster of Dask, in place of processes of this machine.
+    keep, recheck: keep certificates; judge them here again. exact: bounds as Fractions in place of floats.
+
+    ValueError for an unknown name, a table or a number that cannot be; McfError where the program or a cluster fails.
+    """
+    with needed():
+        from .tool import done
+    ground = of(network)
+    asked = Asked(links or ground.mode, modules, None if gap is None else decimal_word(number_of(gap, "gap")), _word(phases), _word(step), seconds=seconds)
+    with tempfile.TemporaryDirectory(prefix="mcf-study-") as room:
+        kept = _store(os.fspath(store) if store is not None else os.path.join(room, "study.db"))
+        try:
+            plan = Plan(Ground.of(ground.rows), _matrices(ground, matrices, kept), _changes(ground, asked.links, failures, groups, changes, fibres, intact),
+                        _known(routing, ROUTINGS, "routing"), asked, [_growth(number) for number in grow])
+            done(plan, kept, keep or recheck, without_cut, recheck, jobs, scheduler, program_path(), not progress)
+            return _frame(plan, kept, exact)
+        finally:
+            kept.close()
+
+
+def _word(number: int | None) -> str | None:
+    """A number as a word."""
+    return None if number is None else str(int(number))
+
+
+def _growth(number: Number) -> str:
+    """The word of a growth."""
+    value = number_of(number, "grow")
+    if not value:
+        raise ValueError("grow: 0 leaves no demands")
+    return decimal_word(value)
+
+
+def _known(given: Iterable[str] | str, known: Sequence[str], what: str) -> list[str]:
+    """Some of the known words; ValueError for another one."""
+    words = [given] if isinstance(given, str) else list(given)
+    other = next((word for word in words if word not in known), None)
+    if other is not None or not words and what == "routing":
+        raise ValueError(f"{what}: {other!r} is none of {', '.join(known)}")
+    return list(dict.fromkeys(words))
+
+
+def _store(path: str) -> Store:
+    """The store at a path."""
+    from .store import Store
+    return Store(path)
+
+
+def _matrices(network: Network, given: Mapping[str, Any] | Sequence[Path], store: Store) -> list[Matrix]:
+    """The matrices, whose texts are kept in the store."""
+    from .matrices import How, Told, own, read_matrices
+    if not given:
+        matrix, rows = own(network.rows)
+        store.keep_texts([(matrix.digest, rows)])
+        return [matrix]
+    if not isinstance(given, Mapping):
+        return read_matrices([os.fspath(path) for path in given], network.data, How(), lambda key, rows: store.keep_texts([(key, rows)]), Told())
+    found = []
+    for name, demands in given.items():
+        rows = demand_rows(network.with_demands({}).with_demands(demands).rows.demands)
+        found.append(Matrix(word_of(name, "matrix"), digest_of(rows)))
+        store.keep_texts([(found[-1].digest, rows)])
+    return found
+
+
+def _changes(network: Network, mode: str, failures: Iterable[str] | str, together: Mapping[str, Iterable[str]] | None,
+             other: Mapping[str, Mapping[str, Number]] | None, fibres: bool, intact: bool) -> list[Change]:
+    """All changes."""
+    rows, pairs = network.rows, Fibres(network.rows, fibres)
+    pairs.require(mode)
+    more = groups(rows, {word_of(name, "group"): _members(rows, name, members) for name, members in (together or {}).items()}, pairs)
+    for name, sizes in (other or {}).items():
+        known = network._numbers(sizes, [link.id for link in rows.links], "link")
+        more.append(capacities("change", word_of(name, "change"), {link: size for first, size in known.items() for link in pairs.all_of([first])}))
+    return all_changes(rows, _known(failures, FAILURES, "failures"), more, pairs, intact)
+
+
+def _members(rows: Rows, name: str, members: Iterable[str]) -> tuple[list[str], list[str]]:
+    """The links and nodes of a group; ValueError for a name that is neither, or both."""
+    links, nodes = {link.id for link in rows.links}, {node.id for node in rows.nodes}
+    found: tuple[list[str], list[str]] = ([], [])
+    for member in [members] if isinstance(members, str) else members:
+        word = word_of(member, f"group {name!r}")
+        if (word in links) == (word in nodes):
+            raise ValueError(f"group {name!r}: {member!r} is {'both a link and a node' if word in links else 'no link and no node'}")
+        found[word in nodes].append(word)
+    return found
+
+
+def _frame(plan: Plan, store: Store, exact: bool) -> pandas.DataFrame:
+    """The frame of all cases."""
+    import pandas
+
+    from .answers import COLUMNS, cases, record
+    names = [name for name in COLUMNS if not name.endswith("_decimal")]
+    rows = [record(case) for case in cases(plan, store)]
+    made = pandas.DataFrame({name: pandas.Series([row[name] for row in rows], dtype=object) for name in names}, columns=names)
+    if not exact:
+        for name in ("growth", "lower", "upper", "rest_lower", "rest_upper"):
+            made[name] = [float(value) if isinstance(value, Fraction) else float("nan") for value in made[name]]
+    made["seconds"] = made["seconds"].astype(float)
+    return made

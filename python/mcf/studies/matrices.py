@@ -1,0 +1,200 @@
+"""The demand matrices of a study: lists, SNDlib's dynamic files, tables, and folders and archives of them, in the order of their times."""
+
+from __future__ import annotations
+
+import bz2
+import gzip
+import lzma
+import os
+import re
+import tarfile
+import zipfile
+import zlib
+from collections import Counter
+from collections.abc import Callable, Iterable, Iterator
+from dataclasses import dataclass, field
+from datetime import datetime
+from io import BufferedIOBase, BytesIO, StringIO
+from pathlib import Path
+
+from ..convert import assemble, files, native
+from ..convert.adjust import Changes, adjusted
+from ..convert.model import Matrix as Read
+from ..convert.model import Network as Written
+from ..convert.model import Notes, Refused, Source
+from ..convert.numbers import is_fine, plain
+from ..convert.work import Task, in_one_unit, read_bytes
+from ..errors import TextError
+from ..limits import MAX_DECIMALS
+from ..network import Network
+from .scenarios import Matrix, demand_rows, digest_of
+
+_STAMP = re.compile(r"(?<!\d)(\d{4})-?(\d{2})-?(\d{2})(?:[T_ -]?(\d{2})[:-]?(\d{2})(?:[:-]?(\d{2}))?)?(?!\d)")
+_PART = re.compile(r"(\d+)")
+_PACKED = (OSError, EOFError, zlib.error, lzma.LZMAError, tarfile.TarError, zipfile.BadZipFile, RuntimeError, NotImplementedError)
+
+
+@dataclass(frozen=True)
+class How:
+    """How the numbers of files are read: the unit of those that say none, and to how many decimals amounts are rounded."""
+
+    from_unit: str | None = None
+    decimals: int | None = None
+
+
+@dataclass
+class Told:
+    """What is said of all files together: a line for each sort of note, with how many there are and the first."""
+
+    counts: Counter[str] = field(default_factory=Counter)
+    first: dict[str, str] = field(default_factory=dict)
+
+    def take(self, said: str) -> None:
+        """Takes the lines of notes."""
+        for line in said.splitlines():
+            verb = line.partition(":")[0]
+            self.counts[verb] += 1
+            self.first.setdefault(verb, line)
+
+    def lines(self) -> tuple[str, ...]:
+        """The lines."""
+        more = {verb: f" (and {count - 1:,} more)" if count > 1 else "" for verb, count in self.counts.items()}
+        return tuple(line + more[verb] for verb, line in self.first.items())
+
+
+def own(network: Network) -> tuple[Matrix, str]:
+    """The network's own demands as a matrix, and its rows."""
+    rows = demand_rows(network.demands)
+    return Matrix("", digest_of(rows)), rows
+
+
+def read_matrices(paths: Iterable[str], net: bytes, how: How, keep: Callable[[str, str], None], told: Told) -> list[Matrix]:
+    """The matrices of files, folders and archives in the order of their times, or as they stand where some has none.
+
+    `keep` takes the hash and the rows of each, so that not all of them are in memory. TextError for a name that stands twice.
+    """
+    base = native.read_network("the network", net, Notes(quiet=True))
+    found: list[Matrix] = []
+    origin: dict[str, str] = {}
+    for path, data, many in _all_files(paths):
+        for matrix, rows in _of_file(path, data, many, base, how, told):
+            if matrix.name in origin:
+                raise TextError(f"matrix {matrix.name} stands in {origin[matrix.name]} and in {path}")
+            origin[matrix.name] = path
+            keep(matrix.digest, rows)
+            found.append(matrix)
+    if not found:
+        raise TextError("there is no demand matrix in what --matrices names")
+    return sorted(found, key=lambda matrix: matrix.time) if all(matrix.time for matrix in found) else found
+
+
+def _all_files(paths: Iterable[str]) -> Iterator[tuple[str, bytes, bool]]:
+    """The files of paths with their bytes, and whether they are among others in a folder or an archive."""
+    for path in paths:
+        if os.path.isdir(path):
+            for file in sorted((file for file in Path(path).rglob("[!.]*") if file.is_file()), key=lambda file: in_numbers(str(file))):
+                yield from _members(str(file), True)
+        else:
+            yield from _members(path, False)
+
+
+def _members(path: str, many: bool) -> Iterator[tuple[str, bytes, bool]]:
+    """The members of an archive, or a file itself."""
+    try:
+        if path != "-" and os.path.isfile(path) and zipfile.is_zipfile(path):
+            yield from _of_zip(path)
+        elif path != "-" and os.path.isfile(path) and tarfile.is_tarfile(path):
+            yield from _of_tar(path)
+        else:
+            yield path, files.contents(path), many
+    except _PACKED as fault:
+        raise TextError(f"{path}: {fault}") from None
+
+
+def _of_zip(path: str) -> Iterator[tuple[str, bytes, bool]]:
+    """The files of a zip."""
+    with zipfile.ZipFile(path) as packed:
+        for info in sorted(packed.infolist(), key=lambda info: in_numbers(info.filename)):
+            if not info.is_dir():
+                with packed.open(info) as member:
+                    yield f"{path}/{info.filename}", _unpacked(f"{path}/{info.filename}", member.read(files.MAX_BYTES + 1)), True
+
+
+def _of_tar(path: str) -> Iterator[tuple[str, bytes, bool]]:
+    """The files of a tar, packed or not, in the order in which they stand there."""
+    with tarfile.open(path) as packed:
+        for info in packed:
+            member = packed.extractfile(info) if info.isfile() else None
+            if member is not None:
+                yield f"{path}/{info.name}", _unpacked(f"{path}/{info.name}", member.read(files.MAX_BYTES + 1)), True
+
+
+def _unpacked(path: str, data: bytes) -> bytes:
+    """The bytes of a member, those within where it is packed once more."""
+    opened: BufferedIOBase | None = None
+    if data.startswith(b"\x1f\x8b"):
+        opened = gzip.GzipFile(fileobj=BytesIO(data))
+    elif data.startswith(b"BZh"):
+        opened = bz2.BZ2File(BytesIO(data))
+    elif data.startswith(b"\xfd7zXZ"):
+        opened = lzma.LZMAFile(BytesIO(data))
+    data = opened.read(files.MAX_BYTES + 1) if opened else data
+    if len(data) > files.MAX_BYTES:
+        raise TextError(f"{path}: more than {files.MAX_BYTES >> 20} MiB")
+    return data
+
+
+def in_numbers(name: str) -> list[tuple[int, str]]:
+    """A name's parts, so that numbers in names are in the order of their values."""
+    return [(int(part), "") if part.isdigit() and part.isascii() else (-1, part) for part in _PART.split(name)]
+
+
+def _of_file(path: str, data: bytes, many: bool, base: Source, how: How, told: Told) -> Iterator[tuple[Matrix, str]]:
+    """The matrices of a file with their rows; what is no matrix at all is left out where it is among others, which is said."""
+    said = StringIO()
+    notes = Notes(said)
+    task = Task([path], "-", from_unit=how.from_unit)
+    try:
+        files.kind_of(path, files.without_mark(path, data, Notes(quiet=True)))
+    except Refused as why:
+        if not many:
+            raise
+        told.take(f"left out: {why}")
+        return
+    source = read_bytes(path, data, task, notes)
+    time = source.meta.get("time", "")
+    if not source.matrices:
+        raise TextError(f"{path}: has no demands")
+    base, source = in_one_unit([base, source], task, notes)
+    network = assemble.together([source], [base], notes, True)
+    network = adjusted(network, Changes(decimals=how.decimals), notes) if how.decimals is not None else network
+    for matrix in network.matrices:
+        rows = _rows(path, matrix)
+        yield Matrix(_letters(matrix.name), digest_of(rows), _stamp(time) or _stamp(matrix.name)), rows
+    told.take("".join(f"{line}\n" for line in said.getvalue().splitlines() if not line.startswith(("dropped: " + path + ": META", "note: "))))
+
+
+def _rows(path: str, matrix: Read) -> str:
+    """The rows of a matrix; TextError where an amount has more decimals than networks have."""
+    coarse = next((row for row in matrix.demands if not is_fine(row.value) or not is_fine(row.unit)), None)
+    if coarse is not None:
+        amount = plain(coarse.amount)
+        raise TextError(f"{path}: demand {coarse.name} of {amount} has more than {MAX_DECIMALS} decimals (--round N rounds all amounts)")
+    text = native.list_text(Written([], [], [matrix]))
+    return _letters(text[text.index("(\n") + 2:].removesuffix(")\n"))
+
+
+def _letters(text: str) -> str:
+    """A text in the letters of network texts, one character for each byte."""
+    return text.encode("utf-8", "surrogateescape").decode("latin-1")
+
+
+def _stamp(name: str) -> str:
+    """The time that stands in a name, in digits; nothing where none does."""
+    for match in _STAMP.finditer(name):
+        year, month, day, hour, minute, second = (int(part or 0) for part in match.groups())
+        try:
+            return datetime(year, month, day, hour, minute, second).strftime("%Y%m%d%H%M%S")
+        except ValueError:
+            continue
+    return ""

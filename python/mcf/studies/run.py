@@ -1,0 +1,128 @@
+"""A whole study: what is not done yet is done, and kept as it comes."""
+
+from __future__ import annotations
+
+import zlib
+from collections.abc import Callable, Iterator
+from dataclasses import dataclass, field, replace
+from itertools import islice
+
+from tqdm import tqdm
+
+from ..errors import TextError
+from ..network import read_network, write_network
+from .children import Ended, Program, program
+from .engine import Engine, Gone, engine_of
+from .scenarios import Change, Changed, Plan, Scenario, changed, demands_of, packed
+from .store import Store, Wanted
+from .work import Found, Job, Row, Task, judged
+
+_AT_ONCE = 2000
+
+
+@dataclass(frozen=True)
+class Place:
+    """Where a study runs: so many processes of this machine, or a scheduler's workers; with which program there, and with which here."""
+
+    jobs: int = 1
+    scheduler: str | None = None
+    program: str | None = None
+    here: str | None = None
+    quiet: bool = False
+
+
+@dataclass
+class Left:
+    """The scenarios that are not done, as tasks; what is on its way is kept by its key until its row comes."""
+
+    plan: Plan
+    store: Store
+    wanted: Wanted
+    program: str | None
+    sent: dict[str, Scenario] = field(default_factory=dict)
+    _source: Iterator[tuple[Scenario, bool]] | None = None
+    _packed: dict[str, bytes] = field(default_factory=dict)
+
+    def next(self, most: int) -> Task | None:
+        """The next task, of at most so many scenarios."""
+        source = self._source = self._source or _left(self.plan, self.store, self.wanted)
+        taken = list(islice(source, most))
+        if not taken:
+            return None
+        matrices = {scenario.matrix.digest for scenario, _ in taken}
+        self._packed = {digest: self._packed.get(digest) or packed(self.store.text(digest)) for digest in matrices}
+        self.sent |= {scenario.key: scenario for scenario, _ in taken}
+        keep = self.wanted.keep or self.wanted.recheck or any(has for _, has in taken)
+        jobs = tuple(Job(one.key, one.matrix.digest, one.change, one.routing) for one, _ in taken)
+        ground = self.plan.ground
+        return Task(ground.digest, ground.packed, dict(self._packed), jobs, self.plan.asked, self.program, keep, self.wanted.without_cut)
+
+
+def _left(plan: Plan, store: Store, wanted: Wanted) -> Iterator[tuple[Scenario, bool]]:
+    """The scenarios that are not done; those that ask the same are one."""
+    for part in parts(plan.once()):
+        yield from store.left(part, wanted)
+
+
+def parts(plan: Plan) -> Iterator[list[Scenario]]:
+    """The scenarios of a plan in parts."""
+    source = iter(plan)
+    while part := list(islice(source, _AT_ONCE)):
+        yield part
+
+
+def run(plan: Plan, store: Store, wanted: Wanted, place: Place, say: Callable[[str], None]) -> None:
+    """Does what is left of a study. TextError where it cannot go on; what was done stands in the store."""
+    left = sum(1 for _ in _left(plan, store, wanted))
+    if not left:
+        return
+    store.keep_texts([(plan.ground.digest, plan.ground.text)])
+    tasks = Left(plan, store, wanted, place.program)
+    with tqdm(total=left, unit=" scenarios", disable=True if place.quiet else None, smoothing=0.05) as bar:
+        with engine_of(min(place.jobs, left), place.scheduler, place.program, say) as engine:
+            try:
+                _work(engine, tasks, left, place, bar)
+            except Gone as why:
+                raise TextError(f"{why}; what was done stands in {store.path}") from None
+
+
+def _work(engine: Engine, tasks: Left, left: int, place: Place, bar: tqdm[None]) -> None:
+    """Does what is left, and tells how far it is."""
+    for rows in engine.rows(tasks, left):
+        _take(rows, tasks, place)
+        bar.update(len(rows))
+        bar.set_postfix(workers=engine.workers, refresh=False)
+
+
+def _take(rows: list[Row], tasks: Left, place: Place) -> None:
+    """Keeps the rows of a task, judged again where that is asked for."""
+    if tasks.wanted.recheck:
+        for row in rows:
+            _recheck(row, tasks, place)
+    kept = [(tasks.sent.pop(row.key), row, tasks.wanted.recheck) for row in rows]
+    tasks.store.add(kept, tasks.plan.ground.digest, tasks.plan.asked)
+
+
+def _recheck(row: Row, tasks: Left, place: Place) -> None:
+    """Judges what a worker handed over by the program of this machine; TextError where it says something else."""
+    scenario, mcf = tasks.sent[row.key], program(place.here)
+    network = network_of(tasks.store, tasks.plan.ground.digest, scenario.matrix.digest, scenario.change)
+    for found, one in ((row.found, network.network), (row.rest, network.without(row.cut))):
+        if found is not None and found.certificate is not None:
+            line = _line(mcf, write_network(one), found)
+            if line != found.line:
+                raise TextError(f"scenario {row.key}: {row.place or 'a worker'} says {found.line!r}, and the check here {line!r}")
+
+
+def _line(mcf: Program, text: str, found: Found) -> str:
+    """What the check of this machine says of a certificate."""
+    try:
+        return judged(mcf, text.encode("latin-1"), zlib.decompress(found.certificate or b"")).line
+    except (Ended, zlib.error) as why:
+        return str(why)
+
+
+def network_of(store: Store, ground: str, matrix: str, change: Change) -> Changed:
+    """The network of a scenario, from the texts that are kept."""
+    network = read_network(store.text(ground))
+    return changed(replace(network, demands=demands_of(store.text(matrix))), change)

@@ -1,0 +1,215 @@
+"""The file in which a study keeps what is done: one row for each scenario, and the networks and matrices that they are of.
+
+It is a database of SQLite. What comes together is written in one transaction, so it stands whole or not at all, whatever ends the
+study; rows of several studies may stand in one file, since a row's key is a hash of all that it asks.
+"""
+
+from __future__ import annotations
+
+import json
+import sqlite3
+import zlib
+from collections.abc import Iterable, Iterator, Sequence
+from contextlib import contextmanager
+from dataclasses import dataclass
+from pathlib import Path
+
+from ..errors import TextError
+from .scenarios import Asked, Change, Scenario
+from .work import FAILED, REFUSED, Found, Row
+
+APPLICATION = 0x6D636673
+FORM = 1
+_WAIT = 60.0
+_AT_ONCE = 500
+_TABLES = """
+CREATE TABLE texts (digest TEXT PRIMARY KEY, data BLOB NOT NULL) WITHOUT ROWID;
+CREATE TABLE rows (
+    key TEXT PRIMARY KEY, network TEXT NOT NULL, matrix TEXT NOT NULL, asked TEXT NOT NULL,
+    verdict TEXT NOT NULL, line TEXT NOT NULL, lower TEXT NOT NULL, upper TEXT NOT NULL,
+    rest_verdict TEXT, rest_line TEXT, rest_lower TEXT, rest_upper TEXT,
+    left_out TEXT NOT NULL, cut TEXT NOT NULL, seconds REAL NOT NULL, place TEXT NOT NULL, version TEXT NOT NULL,
+    rechecked INTEGER NOT NULL, certificate BLOB, rest_certificate BLOB);
+"""
+_COLUMNS = ("key", "network", "matrix", "asked", "verdict", "line", "lower", "upper", "rest_verdict", "rest_line", "rest_lower",
+            "rest_upper", "left_out", "cut", "seconds", "place", "version", "rechecked", "certificate", "rest_certificate")
+_ADD = (f"INSERT INTO rows ({', '.join(_COLUMNS)}) VALUES ({', '.join('?' * len(_COLUMNS))}) ON CONFLICT (key) DO UPDATE SET "
+        + ", ".join(f"{name} = excluded.{name}" for name in _COLUMNS[1:]) + f" WHERE rows.verdict = '{FAILED}' OR excluded.verdict <> '{FAILED}'")
+
+
+@dataclass(frozen=True)
+class Wanted:
+    """What a row has to have, so that its scenario is done."""
+
+    keep: bool = False
+    without_cut: bool = False
+    recheck: bool = False
+
+
+@dataclass(frozen=True)
+class Kept:
+    """A row as it stands in the file, with the network and the matrix that it is of."""
+
+    row: Row
+    network: str
+    matrix: str
+    asked: dict[str, object]
+
+    @property
+    def change(self) -> Change:
+        """What is other than in the network."""
+        links, nodes, capacities = (self.asked[name] for name in ("links", "nodes", "capacities"))
+        assert isinstance(links, list) and isinstance(nodes, list) and isinstance(capacities, list)
+        return Change("", "", tuple(links), tuple(nodes), tuple((link, capacity) for link, capacity in capacities))
+
+
+class Store:
+    """The file of a study."""
+
+    def __init__(self, path: str, create: bool = True) -> None:
+        """Opens it, or makes it; TextError where it is something else."""
+        self.path = path
+        if not create and not Path(path).is_file():
+            raise TextError(f"{path}: there is no such file")
+        with self._told():
+            self._base = sqlite3.connect(path, timeout=_WAIT, isolation_level=None)
+            self._require_own(create)
+            self._base.execute("PRAGMA journal_mode = WAL")
+            self._base.execute("PRAGMA synchronous = FULL")
+
+    def _require_own(self, create: bool) -> None:
+        """Makes the tables in a file that has nothing; TextError where it has something else."""
+        self._base.execute("BEGIN IMMEDIATE")
+        try:
+            application, form, tables = (self._base.execute(f"PRAGMA {name}").fetchone()[0] for name in ("application_id", "user_version",
+                                                                                                       "schema_version"))
+            if not tables and not application and create:
+                for statement in (*_TABLES.split(";\n"), f"PRAGMA application_id = {APPLICATION}", f"PRAGMA user_version = {FORM}"):
+                    self._base.execute(statement)
+            elif application != APPLICATION or form != FORM:
+                what = "a study of another form" if application == APPLICATION else "a database, and none of a study"
+                raise TextError(f"{self.path}: is {what}; name another file by --store")
+        finally:
+            self._base.execute("COMMIT")
+
+    @contextmanager
+    def _told(self) -> Iterator[None]:
+        """Faults of the database as one line."""
+        try:
+            yield
+        except sqlite3.Error as fault:
+            what = {"database or disk is full": "the disk is full", "file is not a database": "is no file of a study"}.get(str(fault), str(fault))
+            raise TextError(f"{self.path}: {what}") from None
+
+    @contextmanager
+    def _transaction(self) -> Iterator[None]:
+        """All or nothing."""
+        with self._told():
+            self._base.execute("BEGIN IMMEDIATE")
+            try:
+                yield
+            except BaseException:
+                if self._base.in_transaction:
+                    self._base.execute("ROLLBACK")
+                raise
+            self._base.execute("COMMIT")
+
+    def close(self) -> None:
+        """Closes the file."""
+        with self._told():
+            self._base.close()
+
+    def keep_texts(self, texts: Iterable[tuple[str, str]]) -> None:
+        """Keeps texts by their hashes."""
+        with self._transaction():
+            self._base.executemany("INSERT OR IGNORE INTO texts VALUES (?, ?)",
+                                   ((digest, zlib.compress(text.encode("latin-1"))) for digest, text in texts))
+
+    def text(self, digest: str) -> str:
+        """The text of a hash."""
+        with self._told():
+            found = self._base.execute("SELECT data FROM texts WHERE digest = ?", (digest,)).fetchone()
+        if found is None:
+            raise TextError(f"{self.path}: has no text {digest[:12]}")
+        return zlib.decompress(found[0]).decode("latin-1")
+
+    def add(self, rows: Iterable[tuple[Scenario, Row, bool]], network: str, asked: Asked) -> None:
+        """Writes rows, all or none of them, each in place of one that has less; with each is told whether it was judged again."""
+        values = [_values(scenario, row, rechecked, network, asked) for scenario, row, rechecked in rows]
+        with self._transaction():
+            self._base.executemany(_ADD, values)
+
+    def left(self, scenarios: Sequence[Scenario], wanted: Wanted) -> list[tuple[Scenario, bool]]:
+        """The scenarios that are not done, in their order, each with whether a certificate of it is kept, which is not to be lost."""
+        states: dict[str, tuple[bool, bool]] = {}
+        for part in _parts([scenario.key for scenario in scenarios]):
+            places = ", ".join("?" * len(part))
+            query = f"SELECT key, {_is_done(wanted)}, certificate IS NOT NULL FROM rows WHERE key IN ({places})"
+            with self._told():
+                states |= {key: (bool(done), bool(has)) for key, done, has in self._base.execute(query, part)}
+        found = ((scenario, *states.get(scenario.key, (False, False))) for scenario in scenarios)
+        return [(scenario, has) for scenario, done, has in found if not done]
+
+    def rows(self, keys: Sequence[str], certificates: bool = False) -> dict[str, Kept]:
+        """The rows of these keys, without their certificates unless these are wanted."""
+        found: dict[str, Kept] = {}
+        names = _COLUMNS if certificates else _COLUMNS[:-2]
+        for part in _parts(keys):
+            with self._told():
+                places = ", ".join("?" * len(part))
+                for values in self._base.execute(f"SELECT {', '.join(names)} FROM rows WHERE key IN ({places})", part):
+                    kept = _kept(dict(zip(names, values)))
+                    found[kept.row.key] = kept
+        return found
+
+    def keys(self, front: str) -> list[str]:
+        """The keys that begin so, at most two."""
+        with self._told():
+            return [key for key, in self._base.execute("SELECT key FROM rows WHERE substr(key, 1, ?) = ? LIMIT 2", (len(front), front))]
+
+
+def _parts(keys: Sequence[str]) -> Iterator[Sequence[str]]:
+    """Keys in parts that one statement takes."""
+    for at in range(0, len(keys), _AT_ONCE):
+        yield keys[at:at + _AT_ONCE]
+
+
+def _is_done(wanted: Wanted) -> str:
+    """The condition of a row that has all that is wanted."""
+    due = [f"verdict <> '{FAILED}'"]
+    if wanted.keep:
+        due.append(f"(verdict = '{REFUSED}' OR certificate IS NOT NULL)")
+    if wanted.without_cut:
+        due.append(f"(cut = '[]' OR (rest_verdict IS NOT NULL AND rest_verdict <> '{FAILED}'))")
+    if wanted.recheck:
+        due.append(f"(verdict = '{REFUSED}' OR rechecked)")
+    return " AND ".join(due)
+
+
+def _values(scenario: Scenario, row: Row, rechecked: bool, network: str, asked: Asked) -> tuple[object, ...]:
+    """The values of a row, in the order of the columns."""
+    rest = row.rest
+    told = json.dumps({**scenario.change.asked, "routing": scenario.routing, "options": asked.of(scenario.routing)})
+    return (row.key, network, scenario.matrix.digest, told, row.found.verdict, row.found.line, row.found.lower, row.found.upper,
+            *((rest.verdict, rest.line, rest.lower, rest.upper) if rest else (None,) * 4), json.dumps(row.left_out), json.dumps(row.cut),
+            row.seconds, row.place, row.version, int(rechecked), row.found.certificate, rest.certificate if rest else None)
+
+
+def _kept(named: dict[str, object]) -> Kept:
+    """The row of values by the names of their columns."""
+    def word(name: str) -> str:
+        """A value that is a text."""
+        return str(named[name])
+
+    def blob(name: str) -> bytes | None:
+        """A certificate, where there is one."""
+        value = named.get(name)
+        return value if isinstance(value, bytes) else None
+
+    found = Found(word("verdict"), word("line"), word("lower"), word("upper"), blob("certificate"))
+    rest = None
+    if named["rest_verdict"] is not None:
+        rest = Found(word("rest_verdict"), word("rest_line"), word("rest_lower"), word("rest_upper"), blob("rest_certificate"))
+    row = Row(word("key"), found, rest, tuple(json.loads(word("left_out"))), tuple(json.loads(word("cut"))), float(word("seconds")),
+              word("place"), word("version"))
+    return Kept(row, word("network"), word("matrix"), json.loads(word("asked")))
