@@ -1,0 +1,100 @@
+"""What a desk begins with: files read and judged, or refused in one line."""
+
+from __future__ import annotations
+
+import os
+from collections.abc import Callable
+from dataclasses import dataclass
+from pathlib import Path
+from typing import TypeVar
+
+from ..commands import ask, program_path
+from ..errors import McfError, TextError, kind_of
+from ..network import read_network
+from ..output import contents, require_output
+from ..report.shown import name
+from ..scaled import scale
+from .child import Held, Work
+from .edits import History, read_script
+from .ground import Ground
+from .state import Desk
+from .works import Works
+
+
+@dataclass(frozen=True)
+class Request:
+    """What the words of the command line ask for."""
+
+    net: str
+    cert: str | None
+    save: str | None
+    links: str | None
+    modules: str | None
+    gap: str | None
+    title: str | None
+
+
+_Value = TypeVar("_Value")
+
+
+def _said(of: str, question: Callable[[], _Value]) -> _Value:
+    """The answer to a question; TextError, which names the file, where there is none."""
+    try:
+        return question()
+    except TextError as why:
+        raise why.led(f"{of}: ") from None
+    except McfError as why:
+        raise TextError(f"{of}: {why}").at(kind=kind_of(why), code=getattr(why, "kind", None) or getattr(why, "condition", None)) from None
+
+
+def opened(request: Request) -> tuple[Desk, Works]:
+    """The desk of a request; TextError, in one line, where a file is none, or the certificate is of another network."""
+    program = program_path()
+    net = contents(request.net)
+    printed = _said(request.net, lambda: ask("print", {"net": net}).out)
+    cert = contents(request.cert) if request.cert is not None else None
+    links, modules = _modes(request, cert)
+    try:
+        scaled = scale(read_network(printed.decode("latin-1")), links, modules)
+    except TextError as why:
+        raise why.led(f"{request.net}: ") from None
+    stem = request.title or name(Path(os.fsencode(request.net).decode("latin-1")).stem)
+    ground = Ground(program, _shown(request.net), stem, Held(net), Held(printed), scaled)
+    desk = Desk(ground, _history(request, ground), request.save)
+    works = Works(desk, request.gap)
+    if cert is not None and request.cert is not None:
+        data, made = cert, _shown(request.cert)
+        desk.add(_said(f"{request.cert} on {request.net}", lambda: works.judged(Work(), made, "given", works.edited(), data)))
+    return desk, works
+
+
+def _shown(file: str) -> str:
+    """The name of a file as a page can show it: bytes that are no text are replaced."""
+    return os.fsencode(file).decode("utf-8", "replace")
+
+
+def _modes(request: Request, cert: bytes | None) -> tuple[str, str]:
+    """How links and modules are read: as the certificate says, else as the words do."""
+    if cert is None:
+        return request.links or "undirected", request.modules or "largest"
+    if request.links or request.modules or request.gap:
+        raise TextError("--links, --modules and --gap are for the first solve, and a certificate is given: it says how links and modules "
+                        "are read").at(kind="usage")
+    lines = [line.split(" ") for line in cert[:4096].decode("latin-1").split("\n")[2:4]]
+    words = [line[1] if len(line) == 2 else "" for line in lines] + ["", ""]
+    # (what is none of the modes is told by check, with its line)
+    return (words[0] if words[0] in ("undirected", "directed", "bidirected") else "undirected",
+            words[1] if words[1] in ("largest", "none", "sum") else "largest")
+
+
+def _history(request: Request, ground: Ground) -> History:
+    """The edits that were saved."""
+    if request.save is None:
+        return History()
+    require_output(request.save, [file for file in (request.net, request.cert) if file])
+    if not Path(request.save).exists():
+        return History()
+    try:
+        return read_script(contents(request.save).decode("latin-1"), ground.network, ground.installed)
+    except TextError as why:
+        raise why.led(f"{request.save}: ") from None

@@ -1,0 +1,251 @@
+"""`tools/desk`: edits and their bounds, certificates, failures, and how a desk ends; with the real program, by requests."""
+
+from __future__ import annotations
+
+import json
+import signal
+import subprocess
+import threading
+import time
+from pathlib import Path
+
+import pytest
+
+from desks import DESK, EXAMPLES, Running, alive, as_shown, descendants, desk, part, refused, shown, wait
+from mcf import Program
+
+NET, CERT = EXAMPLES / "triangle.net", EXAMPLES / "triangle.cert"
+AB, AC, BC = 0, 1, 2
+
+
+def ask(program: Program, *words: str | Path) -> str:
+    """The last line of a command, which is an answer."""
+    done = subprocess.run([program.path, *map(str, words)], capture_output=True, text=True, check=False)
+    assert done.returncode in (0, 1), done.stdout
+    return done.stdout.splitlines()[-1]
+
+
+def written(room: Path, running: Running, **names: str) -> list[Path]:
+    """Downloads as files."""
+    files = []
+    for name, path in names.items():
+        status, text = running.get(f"/out/{path}")
+        assert status == 200, text
+        (room / name).write_bytes(text.encode("latin-1"))
+        files.append(room / name)
+    return files
+
+
+def test_bounds_are_those_of_the_command_line_byte_for_byte(program: Program, tmp_path: Path):
+    with desk(program, NET, CERT) as running:
+        assert shown(running.enter()) == as_shown(ask(program, "check", NET, CERT))
+        for link, what, capacity in ((AB, "close", ""), (AC, "double", ""), (AB, "set", "7"), (BC, "double", "")):
+            status, text = running.post("/edit", link=link, what=what, capacity=capacity)
+            script, = written(tmp_path, running, script="script")
+            assert status == 200 and shown(text) == as_shown(ask(program, "whatif", NET, CERT, script))
+        assert script.read_text() == "close AB show\nset AC 12 show\nset AB 7 show\nset BC 12 show\n"
+        says = part(running.news(), "out")
+        assert f"mcf whatif {NET} triangle-given.cert triangle-edits.script" in says and ask(program, "whatif", NET, CERT, script) in says
+
+
+def test_edits_are_undone_done_again_and_named(program: Program):
+    with desk(program, NET, CERT) as running:
+        first = shown(running.enter())
+        running.post("/edit", link=AB, what="close")
+        closed = running.bounds()
+        running.post("/edit", link=AC, what="double")
+        running.post("/undo")
+        assert running.bounds() == closed and "1 edit is undone: AC (A – C)" in part(running.news(), "edits")
+        running.post("/undo")
+        assert running.bounds() == first and running.post("/undo") == (400, "there is no edit to undo\n")
+        running.post("/redo")
+        assert running.bounds() == closed
+        running.post("/name", edit=1, name="digging  at <A>\n")
+        assert "digging at <A>" in part(running.news(), "edits") and running.get("/out/script")[1] == "close AB show # digging at <A>\n"
+        running.post("/edit", link=BC, what="close")
+        assert running.post("/redo") == (400, "there is no edit to do again\n")
+        assert running.post("/name", edit=77, name="x") == (400, "there is no such edit any more\n")
+
+
+@pytest.mark.parametrize("fields, line", [
+    ({"link": 3, "what": "close"}, "the network has no such link"), ({"link": "x", "what": "close"}, "'x' is no whole number"),
+    ({"link": AB, "what": "burn"}, "an edit closes or doubles a link, sets its capacity, or restores it"),
+    ({"link": AB, "what": "set", "capacity": "1,5"}, "'1,5' is no number: write it with a point, and without commas"),
+    ({"link": AB, "what": "set", "capacity": "-1"}, "'-1' is no number"), ({"link": AB, "what": "set", "capacity": ""}, "'' is no number"),
+    ({"link": AB, "what": "set", "capacity": "1.5"}, "1.5: the numbers of this network are whole, and those of edits have to be so too"),
+    ({"link": AB, "what": "set", "capacity": "1E14"}, "a capacity may be at most 17592186044416 here")])
+def test_an_edit_that_cannot_be_is_refused_in_one_line(three: Running, fields: dict[str, object], line: str):
+    before = three.news()
+    assert three.post("/edit", **fields) == (400, f"{line}\n")
+    assert three.news() == before
+
+
+@pytest.fixture(scope="module")
+def three(program: Program):
+    """A desk of the triangle."""
+    with desk(program, NET, CERT) as running:
+        running.enter()
+        yield running
+
+
+def counting(program: Program, room: Path) -> tuple[str, Path]:
+    """A program that is the real one and notes each command."""
+    log, file = room / "commands", room / "mcf"
+    file.write_text(f'#!/bin/sh\necho "$1" >> {log}\nexec {program.path} "$@"\n')
+    file.chmod(0o755)
+    return str(file), log
+
+
+def test_of_a_hundred_edits_a_second_none_is_lost_and_only_the_newest_waits(program: Program, tmp_path: Path):
+    path, log = counting(program, tmp_path)
+    with desk(path, NET, CERT) as running:
+        running.enter()
+        log.write_text("")
+        answers: list[tuple[int, str]] = []
+
+        def edit(at: int) -> None:
+            answers.append(running.post("/edit", link=at % 3, what="set", capacity=at + 5))
+
+        threads = [threading.Thread(target=edit, args=(at,)) for at in range(100)]
+        for thread in threads:
+            thread.start()
+            time.sleep(0.008)
+        for thread in threads:
+            thread.join()
+        assert len(answers) == 100 and {status for status, _ in answers} <= {200, 202}
+        bounds, script = running.bounds(), running.get("/out/script")[1]
+        names = ("AB", "AC", "BC")
+        assert script.count("show") == 100 and {f"set {names[at % 3]} {at + 5} show" for at in range(100)} == set(script.splitlines())
+        (tmp_path / "script").write_text(script)
+        assert bounds == as_shown(ask(program, "whatif", NET, CERT, tmp_path / "script"))
+        assert log.read_text().split().count("whatif") <= sum(status == 200 for status, _ in answers) + 1
+
+
+def test_what_was_before_stays_beside_a_new_certificate(program: Program, tmp_path: Path):
+    with desk(program, NET, CERT) as running:
+        first = shown(running.enter())
+        running.post("/edit", link=AC, what="double")
+        kept = running.bounds()
+        assert running.post("/solve", kind="solve", gap="0.01")[0] == 200
+        text = running.done()
+        names = {"net": "network", "cert": "certificate", "edited": "edited"}
+        net, cert, edited = written(tmp_path, running, **names)
+        assert shown(text) == as_shown(ask(program, "check", net, cert)) and net.read_bytes() == edited.read_bytes()
+        assert f"Before solving again, the same network: {kept[0]} to {kept[2]}" in part(text, "bounds")
+        assert f"given {CERT} 0 {first[0]} {first[2]}" in part(text, "certificates") and "solve-1" in part(text, "certificates")
+        running.post("/edit", link=BC, what="close")
+        script, = written(tmp_path, running, script="script")
+        assert running.bounds() == as_shown(ask(program, "whatif", net, cert, script)) and script.read_text() == "close BC show\n"
+        running.post("/undo")
+        running.post("/undo")
+        assert running.bounds() == first
+        running.post("/redo")
+        assert running.bounds() == shown(text)
+        running.post("/choose", name="given")
+        assert running.bounds() == kept and running.post("/choose", name="none") == (400, "there is no such certificate\n")
+
+
+def test_a_network_without_a_certificate_is_solved_first(program: Program):
+    with desk(program, NET, "--gap", "0.02") as running:
+        running.enter()
+        text = running.done()
+        assert "mcf solve NET --links undirected --modules largest --gap 0.02" in part(text, "certificates") and shown(text)[0]
+
+
+def test_failures_at_once_and_solved(program: Program):
+    with desk(program, NET, CERT) as running:
+        running.enter()
+        assert running.post("/failures")[0] == 200
+        words = part(running.news(), "failures")
+        for line in subprocess.run([program.path, "sweep", NET, CERT], capture_output=True, text=True, check=True).stdout.splitlines():
+            assert f"{as_shown(line)[0]} {as_shown(line)[2]}" in words
+        running.post("/sweepsolve")
+        words = part(running.done(), "failures")
+        lines = subprocess.run([program.path, "sweepsolve", NET], capture_output=True, text=True, check=True).stdout.splitlines()
+        order = sorted(lines, key=lambda line: as_shown(line)[0])
+        at = [words.index(f"{as_shown(line)[0]} {as_shown(line)[2]}") for line in order]
+        assert at == sorted(at) and "The worst is that of AB (A – B)" in words
+        running.post("/edit", link=AB, what="close")
+        assert "of the network before the last change" in part(running.news(), "failures")
+        running.post("/failures")
+        assert f"{running.bounds()[0]} {running.bounds()[2]}" in part(running.news(), "failures")
+
+
+def test_edits_are_kept_in_a_file_and_gone_on_with(program: Program, tmp_path: Path):
+    file = tmp_path / "plan.script"
+    with desk(program, NET, CERT, "--save", file) as running:
+        running.enter()
+        running.post("/edit", link=AB, what="double")
+        running.post("/name", edit=1, name="more")
+        running.post("/edit", link=BC, what="close")
+        bounds = running.bounds()
+        assert running.end(signal.SIGINT) == (130, f"desk: interrupted; the edits are in {file}\n")
+    assert file.read_text() == "set AB 20 show # more\nclose BC show\n"
+    with desk(program, NET, CERT, "--save", file) as running:
+        running.enter()
+        assert running.bounds() == bounds and "doubled, 10 to 20 – more" in part(running.news(), "edits")
+    file.write_text("set AB 20 show\nset XY 3\n")
+    assert refused(program, NET, CERT, "--save", file) == (2, "", f"desk: {file}: line 2: the network has no link XY\n")
+
+
+def test_without_a_file_the_last_line_has_the_edits(program: Program):
+    with desk(program, NET, CERT) as running:
+        running.enter()
+        running.post("/edit", link=AB, what="double")
+        assert running.end() == (130, "desk: ended by SIGTERM; the edits, as a script of mcf whatif: set AB 20 show\n")
+    with desk(program, NET, CERT) as running:
+        assert running.end(signal.SIGINT) == (130, "desk: interrupted\n")
+
+
+@pytest.mark.parametrize("words, line", [
+    (["polska.net", "triangle.cert"], "polska.net: mcf check: "), (["triangle.net", "polska.cert"], "on triangle.net: refused cert K"),
+    (["triangle.net", "triangle.routing"], "it is a routing, which has no bound"),
+    (["triangle.cert"], "triangle.cert: refused net N1 line 1"),
+    (["none.net"], "none.net: No such file"), (["triangle.net", "triangle.cert", "--gap", "0.1"], "are for the first solve"),
+    (["-"], "a desk reads files")])
+def test_what_is_no_network_or_certificate_of_it_is_refused_at_the_start(program: Program, words: list[str], line: str):
+    status, out, err = refused(program, *(EXAMPLES / word if "." in word and word[0] not in "-0" else word for word in words))
+    assert (status, out, err.count("\n")) == (2, "", 1) and err.startswith("desk: ")
+    assert line.rpartition("/")[2] in err.replace(f"{EXAMPLES}/", "") or words == ["polska.net", "triangle.cert"]
+
+
+@pytest.fixture(scope="module")
+def slow(program: Program, tmp_path_factory: pytest.TempPathFactory) -> Path:
+    """A network that takes long to solve."""
+    file = tmp_path_factory.mktemp("slow") / "slow.net"
+    file.write_bytes(subprocess.run([program.path, "gen", "5", "100", "600", "9000"], capture_output=True, check=True).stdout)
+    return file
+
+
+@pytest.mark.parametrize("kind, number", [
+    ("solve", signal.SIGINT), ("solve", signal.SIGKILL), ("certify", signal.SIGTERM), ("certify", signal.SIGKILL)])
+def test_children_end_with_the_desk(program: Program, slow: Path, kind: str, number: signal.Signals):
+    with desk(program, slow, "--gap", "0.000001") as running:
+        running.enter()
+        wait(lambda: "<progress" in running.news() and len(descendants(running.process.pid)) > 0)
+        if kind == "certify":
+            assert running.post("/stop")[0] == 200
+            assert "stopped; nothing was changed" in part(running.done(), "job")
+            running.post("/solve", kind="certify")
+            wait(lambda: any("mcf" in Path(f"/proc/{one}/comm").read_text() for one in alive(descendants(running.process.pid))))
+        children = descendants(running.process.pid)
+        assert running.post("/solve", kind="solve")[1].startswith("this is still under way: ")
+        status, told = running.end(number)
+        assert status == (-9 if number == signal.SIGKILL else 130) and told.count("\n") <= 1
+        wait(lambda: not alive(children), 20)
+
+
+def test_with_json_the_end_is_one_object(program: Program):
+    words = [DESK, NET, CERT, "--no-browser", "--json", "--mcf", program.path]
+    process = subprocess.Popen(words, stdout=subprocess.PIPE, stderr=subprocess.PIPE, text=True)
+    assert process.stderr is not None and process.stderr.readline().startswith("desk: http://127.0.0.1:")
+    process.send_signal(signal.SIGINT)
+    out, err = process.communicate(timeout=60)
+    assert (process.returncode, err) == (130, "desk: interrupted\n") and out.count("\n") == 1
+    assert json.loads(out)["error"] == {"kind": "interrupted", "code": None, "file": None, "line": None, "sentence": "interrupted"}
+
+
+def test_a_port_that_is_taken_is_told_in_one_line(program: Program):
+    with desk(program, NET, CERT) as running:
+        status, out, err = refused(program, NET, CERT, "--port", str(running.port))
+        assert (status, out, err) == (2, "", f"desk: port {running.port} of 127.0.0.1: Address already in use\n")
