@@ -16,6 +16,7 @@ Each certificate is handed out once the proved check has called it valid; one th
     help(mcf.Network)       made, changed and asked: solve, hops, throughput, certify, route, batch, sweep, sweepsolve, whatif, tighten
     help(mcf.Certificate)   bounds, tables, figures, JSON
     mcf.check(net, cert)    what the proved check says, as a value
+    mcf.study(net, ..)      many scenarios, here or on a cluster: matrices, failures, growth, routings, as a frame
     mcf.McfError            above all errors of runs: Refused, Invalid, Usage, ReadFault, WriteFault, NoMemory, Timeout, NoProgram
 
 Capacities and amounts are exact decimals in a unit of yours. The program is that of the environment's MCF, else the one that was
@@ -46,6 +47,7 @@ if TYPE_CHECKING:
     from .networks import Network, certify, check, read, solve
     from .numbers import decimal_of, fraction_of, millionths_of, rounded_down, rounded_up, whole_of
     from .program import Answer, Program, find_program
+    from .studies.frames import study
     from .scaled import LINK_MODES, Cell, Commodity, Counts, ScaledNetwork, scale
     from .values import (cells_of_path, excess, lengths, loads, lower, nodes_of_walk, routed, shares_of_bound, true_gap, upper, utilisation,
                          volume, weighted_distance)
@@ -56,7 +58,7 @@ __all__ = [
     "ReadFault", "Refused", "Routing", "ScaledNetwork", "Sweep", "TextError", "Timeout", "TotalCertificate", "Usage", "WhatIf",
     "WriteFault", "cells_of_path", "certify", "check", "decimal_of", "excess", "find_program", "fraction_of", "judge_of", "lengths",
     "load_text", "loads", "lower", "millionths_of", "nodes_of_walk", "read", "read_any", "read_certificate", "read_hops", "read_network",
-    "read_routing", "read_throughput", "rounded_down", "rounded_up", "routed", "save_text", "scale", "shares_of_bound", "solve",
+    "read_routing", "read_throughput", "rounded_down", "rounded_up", "routed", "save_text", "scale", "shares_of_bound", "solve", "study",
     "true_gap", "upper", "utilisation", "volume", "weighted_distance", "whole_of", "write_certificate", "write_network", "write_routing",
 ]
 
@@ -70,6 +72,7 @@ _MODULES = {
     "networks": "Network certify check read solve",
     "numbers": "decimal_of fraction_of millionths_of rounded_down rounded_up whole_of",
     "program": "Answer Program find_program",
+    "studies.frames": "study",
     "scaled": "LINK_MODES Cell Commodity Counts ScaledNetwork scale",
     "values": "cells_of_path excess lengths loads lower nodes_of_walk routed shares_of_bound true_gap upper utilisation volume "
               "weighted_distance",

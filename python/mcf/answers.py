@@ -12,11 +12,11 @@ import os
 from collections.abc import Callable, Iterator, Mapping
 from dataclasses import dataclass, field
 from fractions import Fraction
-from functools import cached_property
+from functools import cached_property, lru_cache
 from typing import TYPE_CHECKING, Any, ClassVar
 
 from . import certificate as core
-from . import values
+from . import values, version
 from .commands import Judgement
 from .errors import TextError
 from .given import name_of
@@ -227,9 +227,12 @@ class Answer:
         write(os.fspath(path), self.data)
 
     def to_json(self, *, tables: bool = True, indent: int | None = None) -> str:
-        """JSON of what it says: exact fractions as strings, floats beside. `tables` adds links, demands and paths."""
+        """JSON of what it says: exact fractions as strings, floats beside. `tables` adds links, demands and paths.
+
+        docs/json.md explains its properties, and `mcf.jsons.schema("answer")` has their grammar.
+        """
         said: dict[str, Any] = {
-            "kind": self.kind, "judged": self.judged.line if self.judged else None,
+            "version": version.version(), "commit": _commit(), "kind": self.kind, "judged": self.judged.line if self.judged else None,
             "judgement": self.judged.verdict if self.judged else NOT_JUDGED, "closed": self.closed, "links": self.rows.links,
             "modules": self.rows.modules, "phases": self.phases, "lower": _json(self.lower), "upper": _json(self.upper),
             "gap": _json(self.gap), "notes": list(self.notes)}
@@ -470,6 +473,12 @@ def _shown(value: Fraction, up: bool = False) -> str:
     whole = (rounded_up if up else rounded_down)(value.numerator, value.denominator)
     exact = f" ({value})" if value.denominator > 1 and len(str(value)) < 24 else ""
     return decimal_of(whole) + exact
+
+
+@lru_cache(maxsize=1)
+def _commit() -> str:
+    """The commit, which is asked for once."""
+    return version.commit()
 
 
 def _json(value: object) -> object:

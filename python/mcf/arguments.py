@@ -6,12 +6,12 @@ import argparse
 from collections.abc import Sequence
 from typing import Any, NoReturn
 
-from . import version
+from . import jsons, version
 from .errors import TextError
 
 
 class Arguments(argparse.ArgumentParser):
-    """A tool's words, with --version; names of options are not cut short."""
+    """A tool's words, with --version and --json; names of options are not cut short."""
 
     def __init__(self, prog: str, description: str | None, examples: str = ""):
         form = argparse.RawDescriptionHelpFormatter
@@ -19,10 +19,12 @@ class Arguments(argparse.ArgumentParser):
         self.register("action", None, _Once)
         self.register("action", "store", _Once)
         self.add_argument("--version", action=_Version, help="the version and the commit that it was built of, and nothing else")
+        # (`jsons` looks for it among the words before they are read, since what is wrong with them is told in the object too)
+        self.add_argument(jsons.OPTION, action=_Nothing, nargs=0, help="say all as one JSON object on standard output (docs/json.md)")
 
     def error(self, message: str) -> NoReturn:
         """Ends with one line."""
-        raise TextError(f"{message} ({self.prog} --help has the words)")
+        raise TextError(f"{message} ({self.prog} --help has the words)").at(kind="usage")
 
 
 class _Once(argparse.Action):
@@ -37,6 +39,16 @@ class _Once(argparse.Action):
             parser.error(f"{option} is given twice")
         self.given = option is not None
         setattr(namespace, self.dest, values)
+
+
+class _Nothing(argparse.Action):
+    """Keeps nothing of an option."""
+
+    def __init__(self, option_strings: Sequence[str], dest: str, nargs: int, help: str) -> None:
+        super().__init__(option_strings, argparse.SUPPRESS, nargs=nargs, default=argparse.SUPPRESS, help=help)
+
+    def __call__(self, *_: object) -> None:
+        pass
 
 
 class _Version(argparse._VersionAction):

@@ -11,20 +11,20 @@ from collections.abc import Mapping, Sequence
 from dataclasses import dataclass
 from fractions import Fraction
 
+from .children import Ended
 from .errors import Invalid, NoMemory, NoProgram, ReadFault, Refused, TextError, Usage, WriteFault
 from .given import Number, decimal_word, name_of, number_of
 from .limits import MAX_GAP
 from .numbers import MILLION
-from .program import find_program
-from .running import Ended, in_memory, require_program, require_status, run
+from .program import INVALID, REFUSED, find_program
+from .running import in_memory, require_program, require_status, run
+from .tokens import NATIVE
 
 FRONTS = {"solve": "mcf-certificate ", "tighten": "mcf-certificate ", "upgrade": "mcf-certificate ", "hops": "mcf-hops ",
           "throughput": "mcf-throughput ", "batch": "matrix ", "sweep": "sweep ", "sweepsolve": "sweep ", "whatif": "show ",
-          "print": "?SNDlib native format; type: network;"}
+          "print": NATIVE.decode()}
 _VALID = re.compile(r"valid (closed|open) (\w+) (\w+) lower (\d+)/([1-9]\d*) \S+ upper (\d+)/([1-9]\d*) \S+")
 _FEASIBLE = re.compile(r"feasible (\w+) (\w+) (\d+)/([1-9]\d*) \S+")
-_INVALID = re.compile(r"invalid2? (C\d+)")
-_REFUSED = re.compile(r"refused (\w+) (?:(\w+) line (\d+)|(TooLong)|(\d+))")
 
 
 @dataclass(frozen=True)
@@ -61,7 +61,7 @@ def judgement_of(line: str, unit: Fraction) -> Judgement | None:
         return Judgement("valid", None, valid[1] == "closed", valid[2], valid[3], lower, upper, line)
     if feasible := _FEASIBLE.fullmatch(line):
         return Judgement("feasible", None, None, feasible[1], feasible[2], Fraction(int(feasible[3]), int(feasible[4])), None, line)
-    if invalid := _INVALID.fullmatch(line):
+    if invalid := INVALID.fullmatch(line):
         return Judgement("invalid", invalid[1], None, None, None, None, None, line)
     return None
 
@@ -95,7 +95,7 @@ def ask(command: str, texts: Mapping[str, bytes], options: Sequence[str] = (), t
         words = [command, *options, "--", *(f"/proc/self/fd/{number}" for number in files)]
         ended = run([path, *words], files, timeout, name=f"mcf {command}")
     require_status(ended, path)
-    _require_answer(command, ended, path, words, texts)
+    require_answer(command, ended, path, words, texts)
     return ended
 
 
@@ -109,12 +109,12 @@ def program_path() -> str:
     return path
 
 
-def _require_answer(command: str, ended: Ended, path: str, words: list[str], texts: Mapping[str, bytes]) -> None:
+def require_answer(command: str, ended: Ended, path: str, words: list[str], texts: Mapping[str, bytes]) -> None:
     """The error of an end that is no answer."""
     line, status = ended.line, ended.status
     if status == 2 and line == "usage":
         raise Usage(f"mcf {command}: {_misfit(words)}")
-    if status == 3 and (refused := _REFUSED.fullmatch(line)):
+    if status == 3 and (refused := REFUSED.fullmatch(line)):
         raise _refusal(command, refused, texts)
     if status == 4 and line == "read fault":
         raise ReadFault(f"mcf {command}: a file could not be read to its end")
@@ -122,7 +122,7 @@ def _require_answer(command: str, ended: Ended, path: str, words: list[str], tex
         raise WriteFault(f"mcf {command}: the answer could not be written")
     if status == 6 and line == "memory":
         raise NoMemory(f"mcf {command}: out of memory")
-    if status == 1 and command in FRONTS and (invalid := _INVALID.fullmatch(line)):
+    if status == 1 and command in FRONTS and (invalid := INVALID.fullmatch(line)):
         raise Invalid(invalid[1], sentence_of(line, command, texts), line)
     judges = command.startswith("check")
     known = judgement_of(line, Fraction(1)) is not None if judges else line.startswith(FRONTS[command]) or _is_empty(command, ended)

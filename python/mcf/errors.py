@@ -6,9 +6,33 @@ is one line for people.
 
 from __future__ import annotations
 
+# (as in typing, which would have to be imported)
+TYPE_CHECKING = False
+if TYPE_CHECKING:
+    from typing import Self
+
 
 class TextError(ValueError):
-    """A text, a name or a program that is not what was expected; the message is one line for the user."""
+    """A text, a name or a program that is not what was expected; the message is one line for the user.
+
+    kind: a word for what sort of trouble it is, as docs/json.md lists them. code: that of a refusal or of a failed condition, as `N4` or
+    `C3`. file, line: where it lies. Each of these is None where it is not known.
+    """
+
+    kind: str = "text"
+    code: str | None = None
+    file: str | None = None
+    line: int | None = None
+
+    def at(self, file: str | None = None, line: int | None = None, *, kind: str | None = None, code: str | None = None) -> Self:
+        """The same, with what is known of it beside the message."""
+        self.file, self.line, self.code, self.kind = file, line, code, kind or self.kind
+        return self
+
+    def led(self, front: str, names: dict[str | None, str] | None = None) -> TextError:
+        """The same behind some words; `names` are those of files that have others here, as temporary ones."""
+        file = (names or {}).get(self.file, self.file)
+        return TextError(f"{front}{self}").at(file, self.line, kind=self.kind, code=self.code)
 
 
 class McfError(Exception):
@@ -75,3 +99,13 @@ class NoMemory(McfError):
 
 class Timeout(McfError, TimeoutError):
     """The time of `timeout=` was over; the program was ended, and nothing of it is left."""
+
+
+_KINDS: tuple[tuple[type[BaseException], str], ...] = (
+    (KeyboardInterrupt, "interrupted"), (Refused, "refused"), (Invalid, "invalid"), (Usage, "usage"), (ReadFault, "file"),
+    (WriteFault, "file"), (NoMemory, "memory"), (MemoryError, "memory"), (Timeout, "timeout"), (McfError, "program"), (OSError, "file"))
+
+
+def kind_of(fault: BaseException) -> str:
+    """The word for what sort of trouble a fault is."""
+    return fault.kind if isinstance(fault, TextError) else next((kind for of, kind in _KINDS if isinstance(fault, of)), "internal")

@@ -259,6 +259,13 @@ def _place_of(data: Mapping[str, Any], what: str) -> tuple[str, str] | None:
     return None
 
 
+def _number(value: Fraction) -> int | float | Fraction:
+    """A number as an int or a float, if that is exactly it, as `number_of` reads it; else the fraction itself."""
+    if value.denominator == 1:
+        return value.numerator
+    return float(value) if Fraction(str(float(value))) == value else value
+
+
 def graph_of(network: Network, directed: bool, rest: pandas.DataFrame | None) -> networkx.MultiGraph | networkx.MultiDiGraph:
     """The graph: nodes with `pos` where the network has their places, edges with their id as key and as `id`, and `capacity`."""
     graph = networkx.MultiDiGraph() if directed else networkx.MultiGraph()
@@ -266,8 +273,8 @@ def graph_of(network: Network, directed: bool, rest: pandas.DataFrame | None) ->
         graph.add_node(name_of(node.id), **({} if node.position is None else {"pos": node.position}))
     others = [{}] * len(network.links) if rest is None else rest.to_dict("records")
     for link, other in zip(network.links, others):
-        name, size = name_of(link.id), link.installed("largest")
-        own = {"id": name, "capacity": size.numerator if size.denominator == 1 else float(size)}
+        name = name_of(link.id)
+        own = {"id": name, "capacity": _number(link.installed("largest"))}
         graph.add_edge(name_of(link.source), name_of(link.target), key=name, **{str(key): value for key, value in other.items()}, **own)
     return graph
 

@@ -16,7 +16,7 @@ from pathlib import Path as File
 from .certificate import Routing, judge_of, load_text, read_any, save_text
 from .errors import TextError
 from .hints.hint import explained
-from .program import Program
+from .program import Program, refused_at
 from .ranges import Range
 
 _VALID = re.compile(r"valid (closed|open) \w+ \w+ lower (\d+)/([1-9]\d*) \S+ upper (\d+)/([1-9]\d*) \S+")
@@ -24,16 +24,10 @@ _FEASIBLE = re.compile(r"feasible \w+ \w+ (\d+)/([1-9]\d*) \S+")
 
 
 @dataclass(frozen=True)
-class Judged:
-    """A text with the line that `check`, `checkhops` or `checkthroughput` wrote of it."""
+class Said:
+    """The line that `check`, `checkhops` or `checkthroughput` wrote of a text that is valid or feasible."""
 
-    text: str
     line: str
-
-    @cached_property
-    def content(self) -> Routing:
-        """The certificate or routing."""
-        return read_any(self.text)
 
     @property
     def closed(self) -> bool:
@@ -56,6 +50,23 @@ class Judged:
         return Range(Fraction(a, b), Fraction(c, d))
 
 
+@dataclass(frozen=True)
+class Judged(Said):
+    """A text with the line of its judge."""
+
+    text: str
+
+    def __init__(self, text: str, line: str) -> None:
+        """A text and its line."""
+        super().__init__(line)
+        object.__setattr__(self, "text", text)
+
+    @cached_property
+    def content(self) -> Routing:
+        """The certificate or routing."""
+        return read_any(self.text)
+
+
 class NotValid(TextError):
     """A text that is not valid or feasible; `said` is the program's line."""
 
@@ -67,15 +78,21 @@ class NotValid(TextError):
 
 def judge(program: Program, net: str | File, text: str, command: str | None = None) -> Judged:
     """A text, once it is judged by the command of its kind, or by the one that is named; NotValid where it is not valid or feasible."""
-    judging = command or judge_of(text)
     with tempfile.TemporaryDirectory(prefix="mcf-judge-") as room:
         file = File(room, "cert")
         save_text(file, text)
-        answer = program.check(net, file, command=judging)
-        meaning = explained(answer.line, [judging, str(net), str(file)]) if answer.status in (1, 3, 4) else ""
+        return Judged(text, judge_there(program, net, file, command or judge_of(text)).line)
+
+
+def judge_there(program: Program, net: str | File, file: str | File, command: str) -> Said:
+    """What a command says of a file, which is not read here and may be large, likewise."""
+    answer = program.check(net, file, command=command)
     if answer.status != 0 or not (_VALID.fullmatch(answer.line) or _FEASIBLE.fullmatch(answer.line)):
-        raise NotValid(judging, answer.line or f"status {answer.status}", meaning)
-    return Judged(text, answer.line)
+        meaning = explained(answer.line, [command, str(net), str(file)]) if answer.status in (1, 3, 4) else ""
+        # (the name of the file that the text is from is the caller's)
+        fault = NotValid(command, answer.line or f"status {answer.status}", meaning)
+        raise refused_at(fault, answer.line, {"net": str(net)})
+    return Said(answer.line)
 
 
 def judge_file(program: Program, net: str | File, file: str | File, command: str | None = None) -> Judged:

@@ -1,6 +1,7 @@
 """The limits within which texts, networks and certificates lie: the names and numbers of `crates/mcf_limits/src/lib.rt`.
 
-A test compares both. Whatever a tool says of a limit, it takes from here.
+A test compares both. Whatever a tool says of a limit, it takes from here. `Wide` has those that the program with wide limits has
+otherwise: the ones of `crates/wide_limits/src/lib.rt`.
 """
 
 from __future__ import annotations
@@ -44,3 +45,15 @@ DEFAULT_PHASES: Final = 1000
 DEFAULT_WORKERS: Final = 4
 FEW_COMMODITIES: Final = 4000
 DEFAULT_STEP: Final = 8192
+
+
+class Wide:
+    """The limits of the program with wide limits, as far as they are others."""
+
+    MAX_NET_BYTES: Final = 256 << 20
+    MAX_CERT_BYTES: Final = 1 << 31
+    MAX_NODES: Final = 1000
+    MAX_DEMANDS: Final = 1_048_576
+    MAX_WORK: Final = 1 << 30
+    MAX_PATH_CELLS: Final = 999
+    DEFAULT_STEP: Final = 524_288

@@ -10,8 +10,8 @@ from collections.abc import Iterator
 from dataclasses import dataclass
 
 from .errors import TextError
+from .tokens import tokens
 
-_TOKEN = re.compile(r"#[^\n]*|[()]|[^ \t\r\n()#]+")
 _MATRIX = re.compile(r"^matrix ([^ \n]+)\n", re.MULTILINE)
 
 
@@ -27,21 +27,20 @@ class Section:
 
 def sections(text: str, start: int = 0) -> Iterator[Section]:
     """The names with parentheses behind them that a text has from a place on, in their order."""
-    name, opened, depth = "", 0, 0
-    for found in _TOKEN.finditer(text, start):
-        token = found[0]
-        if token[0] == "#":
+    name, first, opened, depth = "", 0, 0, 0
+    for token, line, place in tokens(text.encode("latin-1"), text.count("\n", 0, start) + 1, start):
+        if token.startswith(b"#"):
             continue
-        if token == "(":
-            opened, depth = (opened if depth else found.end()), depth + 1
-        elif token == ")":
+        if token == b"(":
+            opened, depth = (opened if depth else place + 1), depth + 1
+        elif token == b")":
             depth -= 1
         elif not depth:
-            name, begin = (token, found.start()) if not name else ("", 0)
+            name, first = (token.decode("latin-1"), line) if not name else ("", 0)
         if depth < 0 or (not depth and not name):
-            raise TextError(f"line {text.count(chr(10), 0, found.start()) + 1}: a name and parentheses are expected")
-        if token == ")" and not depth:
-            yield Section(name, opened, found.start(), text.count("\n", 0, begin) + 1)
+            raise TextError(f"line {line}: a name and parentheses are expected")
+        if token == b")" and not depth:
+            yield Section(name, opened, place, first)
             name = ""
     if name:
         raise TextError("the text is cut off")
@@ -85,7 +84,7 @@ def answers(text: str) -> dict[str, str]:
 def unit_of(net: str) -> str:
     """The unit that a network's META names, as people write it; nothing where it names none."""
     meta = next((net[section.start:section.end] for section in sections(net, net.find("\n") + 1) if section.name == "META"), "")
-    words = [word for word in _TOKEN.findall(meta) if word[0] != "#"]
+    words = [word.decode("latin-1") for word, _, _ in tokens(meta.encode("latin-1")) if not word.startswith(b"#")]
     unit = next((after for word, equals, after in zip(words, words[1:], words[2:]) if (word, equals) == ("unit", "=")), "")
     rate = re.fullmatch(r"([KMGT]?)BITPERSEC", unit)
     return f"{rate[1].replace('K', 'k')}bit/s" if rate else unit

@@ -2,15 +2,20 @@
 
 from __future__ import annotations
 
-from collections.abc import Iterator
+from collections.abc import Iterator, Sequence
 from contextlib import contextmanager
 from importlib.util import find_spec
 
 from .errors import TextError
+from .version import PACKAGE, TOP
+
+HAS_SETUP = (TOP / "tools/setup").is_file()
+IS_DEBIANS = PACKAGE.parent.name == "dist-packages" and PACKAGE.parent.parts[:3] != ("/", "usr", "local")
 
 PACKAGES = {
-    "defusedxml": "python3-defusedxml", "jinja2": "python3-jinja2", "matplotlib": "python3-matplotlib", "networkx": "python3-networkx",
-    "numpy": "python3-numpy", "pandas": "python3-pandas", "scipy": "python3-scipy", "tqdm": "python3-tqdm",
+    "dask": "python3-dask", "defusedxml": "python3-defusedxml", "distributed": "python3-distributed", "flask": "python3-flask",
+    "jinja2": "python3-jinja2", "matplotlib": "python3-matplotlib", "networkx": "python3-networkx", "numpy": "python3-numpy",
+    "pandas": "python3-pandas", "scipy": "python3-scipy", "tqdm": "python3-tqdm", "waitress": "python3-waitress",
 }
 
 
@@ -22,5 +27,15 @@ def needed() -> Iterator[None]:
     except ModuleNotFoundError as error:
         if (error.name or "").partition(".")[0] not in PACKAGES:
             raise
-        missing = [package for module, package in PACKAGES.items() if find_spec(module) is None]
-        raise TextError(f"Debian's packages are missing: {', '.join(missing)}; tools/setup installs them") from None
+        raise TextError(sentence([module for module in PACKAGES if find_spec(module) is None])).at(kind="packages") from None
+
+
+def sentence(modules: Sequence[str]) -> str:
+    """Which packages are missing, and what installs them where this package is: in a checkout or an archive, as Debian's, or by pip."""
+    debian = [PACKAGES[module] for module in modules]
+    if HAS_SETUP:
+        return f"Debian's packages are missing: {', '.join(debian)}; tools/setup installs them"
+    by_debian = f"apt-get install {' '.join(debian)}"
+    if IS_DEBIANS:
+        return f"Debian's packages are missing: {by_debian}"
+    return f"packages of Python are missing: pip install {' '.join(modules)}, or on Debian {by_debian}"

@@ -11,6 +11,7 @@ from typing import Callable, Iterable, TypeVar
 
 from .errors import TextError
 from .numbers import fraction_of
+from .tokens import NATIVE
 
 HEADER = "?SNDlib native format; type: network; version: 1.0"
 MODULES = ("largest", "none", "sum")
@@ -99,7 +100,7 @@ class Network:
 def read_network(text: str) -> Network:
     """The network of a canonical text; `Program.network` in `mcf.program` reads any network file by `mcf print`."""
     lines = text.split("\n")
-    if not lines[0].startswith("?SNDlib native format; type: network;") or lines[-1] != "":
+    if not lines[0].startswith(NATIVE.decode()) or lines[-1] != "":
         raise TextError("no canonical network text: write it by mcf print")
     nodes, at = _section(lines, 1, "NODES", _node)
     links, at = _section(lines, at, "LINKS", _link)

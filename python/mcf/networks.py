@@ -155,7 +155,8 @@ class Network:
         return Frames(self.nodes, links, demands_frame(self.rows, self._beside.demands, exact))
 
     def to_networkx(self) -> networkx.MultiGraph | networkx.MultiDiGraph:
-        """A multigraph, directed if the network is: nodes with `pos` if known, edges with their id as key and as `id`, and `capacity`.
+        """A multigraph, directed if the network is: nodes with `pos` if known, edges with their id as key and as `id`, and `capacity`,
+        which is an int, a float, or, where neither has all its digits, a Fraction.
 
         Demands have no place in it; `.demands` has them.
         """

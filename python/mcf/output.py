@@ -6,6 +6,7 @@ meets `main_of` already. A traceback is seen where the environment has MCF_TRACE
 
 from __future__ import annotations
 
+import atexit
 import contextlib
 import errno
 import io
@@ -19,7 +20,8 @@ from pathlib import Path
 from types import FrameType
 from typing import BinaryIO, NoReturn
 
-from .errors import TextError
+from . import jsons
+from .errors import McfError, TextError
 
 TROUBLE = 2
 INTERRUPTED = 130
@@ -39,7 +41,8 @@ def contents(path: str) -> bytes:
         with open(0 if path == "-" else path, "rb", closefd=path != "-") as file:
             return file.read()
     except OSError as fault:
-        raise TextError(f"{'standard input' if path == '-' else path}: {fault.strerror or fault}") from None
+        name = "standard input" if path == "-" else path
+        raise TextError(f"{name}: {fault.strerror or fault}").at(name, kind="file") from None
 
 
 @contextlib.contextmanager
@@ -64,21 +67,45 @@ def write(path: str, data: bytes) -> None:
 
 
 def require_output(path: str, sources: Iterable[str] = ()) -> None:
-    """Refuses, before any work, an output that cannot be written, or that is one of the sources by whichever name or link."""
+    """Refuses, before any work, an output that cannot be written, or that is one of the sources by whichever name or link.
+
+    With --json standard output is no place for another one.
+    """
     try:
         there = _status(path, 1)
         if not _is_direct(path, there):
             _require_place(Path(os.path.realpath(path)), path)
     except OSError as fault:
         raise _trouble(path, fault) from None
+    if jsons.asked() and (path in STANDARD or _is_file("/dev/stdout", there)):
+        raise TextError("with --json, standard output has the JSON object alone: name a file for the other output").at(kind="usage")
     same = next((source for source in sources if _is_file(source, there)), None)
     if same is not None:
         raise TextError(f"{path}: is read too{'' if same == path else f', as {same}'}: write to another file")
 
 
+def require_outputs(outputs: Iterable[str | None], sources: Iterable[str] = ()) -> None:
+    """Refuses by `require_output` each output that is named, and one that is written twice, by whichever name or link."""
+    read, named = list(sources), [output for output in outputs if output]
+    for at, output in enumerate(named):
+        require_output(output, read)
+        if any(_are_one(output, other) for other in named[:at]):
+            raise TextError(f"{output}: is written twice").at(kind="usage")
+
+
+def _are_one(output: str, other: str) -> bool:
+    """Whether two outputs have one place; the null device keeps nothing, so it has room for all."""
+    if output in STANDARD or other in STANDARD:
+        return output in STANDARD and other in STANDARD
+    place = os.path.realpath(output)
+    return place == os.path.realpath(other) and place != os.devnull
+
+
 def main_of(function: Callable[[], int], name: str | None = None) -> NoReturn:
     """Ends the process with the status of a tool's function, or with one line and status 2, or 130 where it was interrupted."""
     _open_closed_streams()
+    # (the first that is registered is the last that is called; behind it Python itself would end by a signal)
+    atexit.register(_ignore_signals)
     if not os.environ.get("MCF_TRACEBACK"):
         # (what an interrupt breaks off half made complains when it is let go)
         sys.unraisablehook = _unseen
@@ -86,37 +113,46 @@ def main_of(function: Callable[[], int], name: str | None = None) -> NoReturn:
         if signal.getsignal(number) != signal.SIG_IGN:
             signal.signal(number, _interrupt)
     status = status_of(function, name or Path(sys.argv[0]).name)
-    # (what was to be done is done, so a signal that comes now may end the process at once)
+    # (what was to be done is done, and a signal that comes now changes nothing of it: it ends the process at once, with that status)
     for number in _SIGNALS:
-        signal.signal(number, signal.SIG_DFL)
+        signal.signal(number, lambda *_: os._exit(status))
     for stream, at in ((sys.stdout, 1), (sys.stderr, 2)):
         _drop_unwritten(stream, at)
     sys.exit(status)
 
 
 def status_of(function: Callable[[], int], name: str) -> int:
-    """The status of a tool's function; where it raises, one line on standard error under the tool's name, and 2 or 130."""
+    """The status of a tool's function; where it raises, one line on standard error under the tool's name, and 2 or 130.
+
+    With --json among the words of the process all that it says is one JSON object on standard output.
+    """
+    jsons.begin(name, sys.argv[1:])
     try:
         try:
             status = function()
         except SystemExit as end:
             # (argparse ends so, and has said why)
             status = end.code if isinstance(end.code, int) else 0 if end.code is None else TROUBLE
+            jsons.drop()
+        jsons.end(status)
         sys.stdout.flush()
         return status
     except BaseException as fault:
         if os.environ.get("MCF_TRACEBACK"):
             raise
+        why, status = one_line(_why(fault)), INTERRUPTED if isinstance(fault, KeyboardInterrupt) else TROUBLE
         with contextlib.suppress(OSError):
-            print(f"{name}: {one_line(_why(fault))}", file=sys.stderr, flush=True)
-        return INTERRUPTED if isinstance(fault, KeyboardInterrupt) else TROUBLE
+            print(f"{name}: {why}", file=sys.stderr, flush=True)
+        with contextlib.suppress(OSError, ValueError):
+            jsons.fail(fault, status, why)
+        return status
 
 
 def _why(fault: BaseException) -> str:
     """What is said of an end."""
     if isinstance(fault, KeyboardInterrupt):
         return str(fault) or "interrupted"
-    if isinstance(fault, TextError):
+    if isinstance(fault, (TextError, McfError)):
         return str(fault)
     if isinstance(fault, OSError):
         return f"{os.fsdecode(fault.filename) if isinstance(fault.filename, (str, bytes)) else 'output'}: {fault.strerror or fault}"
@@ -127,7 +163,8 @@ def _why(fault: BaseException) -> str:
 
 def _trouble(path: str, fault: OSError) -> TextError:
     """A fault of the output."""
-    return TextError(f"{'standard output' if path in STANDARD else path}: {fault.strerror or fault}")
+    file = "standard output" if path in STANDARD else path
+    return TextError(f"{file}: {fault.strerror or fault}").at(file, kind="file")
 
 
 def _opened(path: str) -> contextlib.AbstractContextManager[BinaryIO]:
@@ -210,6 +247,12 @@ def _interrupt(number: int, _: FrameType | None) -> None:
         # (not SIG_IGN, which a child that is started just now would keep, so that it could not be ended)
         signal.signal(other, _go_on)
     raise KeyboardInterrupt("interrupted" if number == signal.SIGINT else f"ended by {signal.Signals(number).name}")
+
+
+def _ignore_signals() -> None:
+    """Lets the process end as it was about to."""
+    for number in _SIGNALS:
+        signal.signal(number, signal.SIG_IGN)
 
 
 def _unseen(_: object) -> None:

@@ -4,24 +4,30 @@ from __future__ import annotations
 
 import errno
 import os
+import re
 import shutil
 import signal
 import subprocess
 import sysconfig
 import tempfile
+from collections.abc import Mapping, Sequence
 from dataclasses import dataclass
 from functools import cached_property
 from pathlib import Path
+from typing import TypeVar
 
 from . import children
 from .certificate import save_text
 from .errors import TextError
-from .hints.hint import explained
+from .hints.hint import explained, files_of
 from .network import Network, read_network
 
 PACKAGES, ROOT = Path(__file__).resolve().parents[1:3]
 BUILD = "./mcf there builds it, which takes from 20 minutes to an hour since all is proved first; or name one by --mcf, or by MCF"
 
+_Fault = TypeVar("_Fault", bound=TextError)
+REFUSED = re.compile(r"refused (\w+) (?:(\w+) line (\d+)|(TooLong)|(\d+))")
+INVALID = re.compile(r"invalid2? (C\d+)")
 TINY = ("?SNDlib native format; type: network; version: 1.0\nNODES (\n  A\n  B\n)\nLINKS (\n  L ( A B ) 1 0 0 0 ( )\n)\n"
         "DEMANDS (\n  D ( A B ) 1 1 UNLIMITED\n)\n")
 
@@ -48,21 +54,22 @@ class Program:
     def run(self, *words: str, seconds: float | None = None) -> Answer:
         """Runs a command; TextError where the program cannot be started or takes longer than so many seconds."""
         if not os.access(self.path, os.X_OK):
-            raise TextError(f"{self.path}: {os.strerror(errno.EACCES if os.path.exists(self.path) else errno.ENOENT)}")
+            why = os.strerror(errno.EACCES if os.path.exists(self.path) else errno.ENOENT)
+            raise TextError(f"{self.path}: {why}").at(self.path, kind="program")
         try:
-            # (the starter's hints are for a person who called it, and so is the hour in which it builds the program)
-            done = children.run([self.path, *words], seconds, environment={**os.environ, "MCF_HINTS": "0", "MCF_BUILD": "0"})
+            # (the hour in which the starter builds the program is for a person who called it)
+            done = children.run([self.path, *words], seconds, environment={"MCF_BUILD": "0"}, errors=None)
         except OSError as error:
-            raise TextError(f"{self.path}: {error.strerror}") from error
+            raise TextError(f"{self.path}: {error.strerror}").at(self.path, kind="program") from error
         except subprocess.TimeoutExpired as error:
-            raise TextError(f"mcf {words[0]} was not done in {seconds:.3g} seconds") from error
-        return Answer(done.returncode, done.stdout.decode("latin-1"))
+            raise TextError(f"mcf {words[0]} was not done in {seconds:.3g} seconds").at(kind="timeout") from error
+        return Answer(done.status, done.text)
 
     def ask(self, *words: str, statuses: tuple[int, ...] = (0,), seconds: float | None = None) -> str:
         """The text that a command wrote; TextError, with its line and what that means, where the status is another one."""
         answer = self.run(*words, seconds=seconds)
         if answer.status not in statuses:
-            raise TextError(f"mcf {words[0]}: {explained(answer.line, [*words]) if answer.line else _silent(answer.status)}")
+            raise _no_answer(words, answer)
         return answer.text
 
     def network(self, file: str | Path) -> Network:
@@ -89,6 +96,24 @@ class Program:
         return int(header[-1])
 
 
+def _no_answer(words: Sequence[str], answer: Answer) -> TextError:
+    """The error of a command that ended without an answer."""
+    fault = TextError(f"mcf {words[0]}: {explained(answer.line, [*words]) if answer.line else _silent(answer.status)}")
+    return refused_at(fault, answer.line, files_of([*words])) if answer.line else fault.at(kind="program")
+
+
+def refused_at(fault: _Fault, said: str, files: Mapping[str, str]) -> _Fault:
+    """The error of a line by which the program refuses one of some files, or calls the certificate invalid, with what the line tells."""
+    if refused := REFUSED.fullmatch(said):
+        code = "work" if refused[5] else refused[4] or refused[2]
+        return fault.at(files.get(refused[1]), int(refused[3]) if refused[3] else None, kind="refused", code=code)
+    if invalid := INVALID.fullmatch(said):
+        return fault.at(files.get("cert2" if said.startswith("invalid2") else "cert"), kind="invalid", code=invalid[1])
+    if said == "read fault":
+        return fault.at(next((file for file in files.values() if not os.access(file, os.R_OK)), None), kind="file")
+    return fault.at(kind="memory" if said == "memory" else "program")
+
+
 def find_program(path: str | None = None) -> Program:
     """The program: the path given, else that of the environment's MCF, else the one that was built; TextError where there is none.
 
@@ -96,8 +121,22 @@ def find_program(path: str | None = None) -> Program:
     """
     found = path or os.environ.get("MCF") or built_program(ROOT)
     if not os.path.isfile(found):
-        raise TextError(f"{found}: no such program; name it by --mcf, or by MCF in the environment")
+        raise TextError(f"{found}: no such program; name it by --mcf, or by MCF in the environment").at(found, kind="program")
     return Program(os.path.abspath(found))
+
+
+def find_wide_program(beside: Program) -> Program | None:
+    """The program with wide limits: that of the environment's MCF_WIDE, else `mcf-wide` beside another program, else the one that was built
+    in the repository; None where there is none."""
+    named = os.environ.get("MCF_WIDE")
+    if named and not os.path.isfile(named):
+        raise TextError(f"{named}: no such program; MCF_WIDE names the program with wide limits")
+    built = ROOT / ".built/mcf-wide"
+    places = [Path(named)] if named else [Path(beside.path).with_name("mcf-wide"), *([built] if (ROOT / "crates").is_dir() else [])]
+    found = next((place for place in places if place.is_file()), None)
+    if found == built and is_old(built, ROOT / "crates"):
+        raise TextError(f"{built} is older than its sources: ./mcf-wide in {ROOT} builds it anew; or name one by MCF_WIDE")
+    return Program(os.path.abspath(found)) if found else None
 
 
 def built_program(root: Path) -> str:
@@ -106,12 +145,14 @@ def built_program(root: Path) -> str:
         there = root / "program/mcf"
         found = str(there) if there.is_file() else installed_program(PACKAGES) or shutil.which("mcf")
         if found is None:
-            raise TextError("there is no program mcf here or on the path: name one by --mcf, or by MCF in the environment")
+            why = "there is no program mcf here or on the path: name one by --mcf, or by MCF in the environment"
+            raise TextError(why).at(kind="program")
         return found
     built = [file for file in (root / "crates/mcf/out/mcf", root / ".built/mcf") if file.is_file()]
     fresh = next((file for file in built if not is_old(file, root / "crates")), None)
     if fresh is None:
-        raise TextError(f"the program in {root} {'is older than its sources' if built else 'was not built yet'}: {BUILD}")
+        why = "is older than its sources" if built else "was not built yet"
+        raise TextError(f"the program in {root} {why}: {BUILD}").at(kind="program")
     return str(fresh)
 
 

@@ -145,6 +145,12 @@ def shortfall(carried: Fraction, best_of_all: Range) -> Range:
     return Range(1 - carried / least, 1 - carried / most) if least else Range(Fraction(0), Fraction(most > 0))
 
 
+def span(ranges: Iterable[Range]) -> Range:
+    """The least range that has all of these in it."""
+    some = list(ranges)
+    return Range(min(one.lower for one in some), max(one.upper for one in some))
+
+
 def in_order(cases: Iterable[Case], greatest_first: bool = False) -> tuple[Case, ...]:
     """The cases by their lower ends and then by their upper ones; equal ones stay in their order."""
     return tuple(sorted(cases, key=lambda case: (case.range.lower, case.range.upper), reverse=greatest_first))

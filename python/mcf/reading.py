@@ -7,7 +7,7 @@ from dataclasses import replace
 from typing import Any
 
 from .commands import ask
-from .convert import files, native
+from .convert import native
 from .convert.model import Notes
 from .convert.model import Refused as NoNetwork
 from .convert.work import Task, convert
@@ -17,6 +17,7 @@ from .network import read_network
 from .networks import Network
 from .output import one_line
 from .running import in_memory
+from .tokens import NATIVE
 
 # options of `mcf.read`, and their names in the converter's task
 _OPTIONS = {"capacity": "capacity", "capacity_default": "missing", "unit": "unit", "from_unit": "from_unit", "round": "decimals",
@@ -30,7 +31,7 @@ def read_files(paths: list[str], options: dict[str, Any]) -> Network:
     if unknown is not None:
         raise ValueError(f"there is no option {unknown!r}; there are {', '.join(_OPTIONS)}")
     data = _contents(paths[0])
-    if len(paths) == 1 and not options and data.startswith(files.NATIVE):
+    if len(paths) == 1 and not options and data.startswith(NATIVE):
         return _of_text(data, paths[0])
     converted, notes = _converted(paths, options)
     mode = "directed" if any(_ONE_WAY in note for note in notes) else "undirected"

@@ -6,12 +6,15 @@ A wheel, a Debian package and an archive have both in files of their own; in a c
 from __future__ import annotations
 
 import os
+import re
 import subprocess
 from pathlib import Path
 
 PACKAGE = Path(__file__).resolve().parent
 TOP = PACKAGE.parents[1]
 UNKNOWN = "unknown"
+_OID = re.compile(r"# branch\.oid ([0-9a-f]{8})")
+_CHANGED = re.compile(r"^[12u] ", re.MULTILINE)
 
 
 def version() -> str:
@@ -32,13 +35,15 @@ def commit_of(top: Path) -> str:
     """The commit of a checkout, by git."""
     if not (top / ".git").exists():
         return UNKNOWN
-    words = ["git", "--no-optional-locks", "-C", str(top), "describe", "--always", "--dirty", "--abbrev=8", "--exclude=*"]
+    # (`describe --dirty` would lock the index, and leave the lock there where it is killed)
+    words = ["git", "--no-optional-locks", "-C", str(top), "status", "--porcelain=v2", "--branch", "--untracked-files=no"]
     elsewhere = {name: value for name, value in os.environ.items() if not name.startswith("GIT_")}
     try:
         ran = subprocess.run(words, capture_output=True, text=True, check=False, env=elsewhere)
     except OSError:
         return UNKNOWN
-    return ran.stdout.strip() if ran.returncode == 0 else UNKNOWN
+    found = _OID.match(ran.stdout) if ran.returncode == 0 else None
+    return UNKNOWN if found is None else f"{found[1]}{'-dirty' if _CHANGED.search(ran.stdout) else ''}"
 
 
 def told() -> str:

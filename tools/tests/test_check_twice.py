@@ -296,15 +296,22 @@ def test_its_limits_are_those_of_the_program(root: Path) -> None:
     assert [scope[name] for name in ("NET_BYTES", "CERT_BYTES", "UNITS", "TOTAL", "HOPS")] == [
         limits.MAX_NET_BYTES, limits.MAX_CERT_BYTES, limits.MAX_UNITS, limits.MAX_TOTAL, limits.MAX_HOPS]
     assert f"len(token) <= {limits.MAX_WORD_BYTES}" in load_text(root / "tools/check_twice")
-    assert f"2 <= len(row) <= {2 + limits.MAX_PATH_CELLS}" in load_text(root / "tools/check_twice")
+    assert '2 <= len(row) <= SECTIONS["NODES"] + 1 ' in load_text(root / "tools/check_twice") and limits.MAX_NODES == 1 + limits.MAX_PATH_CELLS
     assert [most[name] for name in ("gap", "phases", "room", "load", "threshold")] == [
         limits.MAX_GAP, limits.MAX_PHASES, limits.MAX_UNITS, limits.MAX_LENGTH, limits.MAX_LENGTH]
 
 
+def test_its_wide_limits_are_those_of_the_wide_program(root: Path) -> None:
+    scope, wide = names_of(root), limits.Wide
+    scope["widen"]()
+    assert scope["SECTIONS"] == {"NODES": wide.MAX_NODES, "LINKS": limits.MAX_LINKS, "DEMANDS": wide.MAX_DEMANDS}
+    assert (scope["NET_BYTES"], scope["CERT_BYTES"], wide.MAX_NODES) == (wide.MAX_NET_BYTES, wide.MAX_CERT_BYTES, 1 + wide.MAX_PATH_CELLS)
+
+
 def test_it_stands_alone_and_is_short(root: Path) -> None:
     source = load_text(root / "tools/check_twice")
-    # (three kinds of certificates, and its own ends)
-    assert source.count("\n") < 340
+    # (three kinds of certificates, two sets of limits, and its own ends)
+    assert source.count("\n") < 350
     imported = set(re.findall(r"^\s*(?:from|import) (\w+)", source, re.M))
     assert imported <= sys.stdlib_module_names and "sys.path" not in source
 

@@ -94,6 +94,21 @@ def test_rounding_to_nothing_is_said():
     assert said[0].endswith("demand ATLAM5_ATLAng: 0.00123456789 to 0, which leaves it out")
 
 
+def test_rounding_of_many_numbers_is_said_in_one_line(tmp_path: Path):
+    rows = [f"D{at},A,B,{at}.00{at + 1}" for at in range(9)]
+    (tmp_path / "d.csv").write_text("\n".join(["id,source,target,amount", *rows, "small,B,A,0.001"]) + "\n")
+    (tmp_path / "l.csv").write_text("id,source,target,capacity\nL,A,B,1.2345\n")
+    text, said = convert(str(tmp_path / "l.csv"), str(tmp_path / "d.csv"), "-", "--to", "net", "--round", "2")
+    line = "rounded: 11 numbers to 2 decimals, the first of link L: 1.2345 to 1.23; rounded to 0 and so left out: demand D0, demand small"
+    assert [one for one in said if one.startswith("rounded")] == [line]
+    assert rows_of_demands(text) == ["0", "1", "2", "3", "4.01", "5.01", "6.01", "7.01", "8.01", "0"]
+
+
+def rows_of_demands(text: str) -> list[str]:
+    """The amounts of the rows of demands."""
+    return [row.split()[6] for row in rows(text, "DEMANDS")]
+
+
 def test_topology_zoo_has_places_labels_and_raw_speeds():
     text, said = convert("zoo.graphml", "-", "--to", "net", "--unit", "Mbit", "--capacity-default", "2.4G")
     assert rows(text, "NODES") == [

@@ -19,6 +19,12 @@ def test_limits_are_those_of_the_program(root: Path) -> None:
     assert there == {name: _value(word) for name, word in found.items()}
 
 
+def test_wide_limits_are_those_of_the_wide_program(root: Path) -> None:
+    wide = dict(re.findall(r"^pub const (\w+): \w+ = ([0-9_ <]+);", (root / "crates/wide_limits/src/lib.rt").read_text(), re.M))
+    others = {name: _value(word) for name, word in wide.items() if _value(word) != getattr(mcf.limits, name)}
+    assert others == {name: value for name, value in vars(mcf.limits.Wide).items() if name.isupper()}
+
+
 def _value(word: str) -> int:
     """The value of a constant, which is a number or one that is shifted."""
     number, _, shift = word.partition("<<")
@@ -51,4 +57,7 @@ def test_the_second_checker_keeps_the_limits(root: Path) -> None:
     assert f'SECTIONS = {{"NODES": {MAX_NODES}, "LINKS": {MAX_LINKS}, "DEMANDS": {MAX_DEMANDS}}}' in text
     assert f'"gap": {MAX_GAP // 10**6} * MILLION, "phases": {MAX_PHASES}, "room": 2**{MAX_UNITS.bit_length() - 1}' in text
     assert f'"load": 2**{MAX_LENGTH.bit_length() - 1}' in text and f"len(token) <= {MAX_WORD_BYTES}" in text
-    assert f"2 <= len(row) <= {MAX_PATH_CELLS + 2}" in text
+    assert MAX_PATH_CELLS + 2 == MAX_NODES + 1 and '2 <= len(row) <= SECTIONS["NODES"] + 1' in text
+    wide = mcf.limits.Wide
+    assert f'WIDE_SECTIONS = {{"NODES": {wide.MAX_NODES}, "LINKS": {MAX_LINKS}, "DEMANDS": {wide.MAX_DEMANDS}}}' in text
+    assert f"{wide.MAX_NET_BYTES >> 20} << 20, 1 << {wide.MAX_CERT_BYTES.bit_length() - 1}" in text

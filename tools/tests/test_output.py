@@ -14,7 +14,7 @@ from pathlib import Path
 import pytest
 
 from mcf.errors import TextError
-from mcf.output import one_line, require_output, write, writing
+from mcf.output import one_line, require_output, require_outputs, write, writing
 from mcf.version import commit_of
 
 ROOT = Path(__file__).resolve().parents[2]
@@ -117,6 +117,17 @@ def test_an_output_that_is_read_is_refused(tmp_path: Path, how: str) -> None:
     with pytest.raises(TextError, match="is read too"):
         require_output(str(other), [str(tmp_path / "c"), str(source)])
     require_output(str(tmp_path / "c"), [str(source)])
+
+
+def test_an_output_that_is_written_twice_is_refused(tmp_path: Path) -> None:
+    one, link = tmp_path / "one", tmp_path / "link"
+    link.symlink_to(one)
+    for other in (one, link, tmp_path / ".." / tmp_path.name / "one"):
+        with pytest.raises(TextError, match="is written twice"):
+            require_outputs([str(one), None, str(other)])
+    with pytest.raises(TextError, match="is written twice"):
+        require_outputs(["/dev/stdout", "-"])
+    require_outputs(["-", str(one), None, str(tmp_path / "two"), "/dev/null", "/dev/null"])
 
 
 def test_standard_streams_are_files_too(tmp_path: Path) -> None:

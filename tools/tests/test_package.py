@@ -16,9 +16,9 @@ import mcf
 from mcf.cli import certify
 from mcf.needs import PACKAGES, needed
 
-TOOLS = ("certify", "convert", "release", "report", "route", "survey")
+TOOLS = ("certify", "convert", "desk", "release", "report", "route", "show", "study", "survey")
 OLD = ("certificate", "errors", "network", "numbers", "program", "scaled", "values")
-CORE = (*OLD, "commands", "given", "limits", "running")
+CORE = (*OLD, "children", "commands", "given", "jsons", "limits", "output", "running", "tokens")
 API = ("answers", "asking", "frames", "networks", "plots", "reading")
 # names that mcf has of the API now, and mcf_texts of the core; errors that the old name never had
 MOVED = ("Certificate", "HopCertificate", "Network", "Routing", "TotalCertificate")
@@ -124,8 +124,10 @@ def test_help_needs_no_package(root: Path, name: str) -> None:
 
 
 @pytest.mark.parametrize("name, words", [
-    ("certify", ["triangle.net"]), ("convert", ["triangle.net", "none.graphml"]), ("report", ["triangle.net", "triangle.cert", "--csv", "-"]),
-    ("route", ["triangle.net", "--by", "hops"]), ("survey", ["triangle.net", "triangle.cert", "--failures"])])
+    ("certify", ["triangle.net"]), ("convert", ["triangle.net", "none.graphml"]), ("desk", ["triangle.net"]),
+    ("report", ["triangle.net", "triangle.cert", "--csv", "-"]), ("route", ["triangle.net", "--by", "hops"]), ("show", ["triangle.net"]),
+    ("study", ["triangle.net", "--store", "/tmp/none.db"]),
+    ("survey", ["triangle.net", "triangle.cert", "--failures"])])
 def test_missing_packages_are_named_in_one_line(root: Path, name: str, words: list[str]) -> None:
     done = subprocess.run([sys.executable, "-I", "-S", "-B", str(root / "tools" / name), *words], cwd=root / "examples", capture_output=True,
                           text=True, check=False)

@@ -15,6 +15,8 @@ import pytest
 
 from mcf import Program, TextError
 from mcf.release.archive import archive, built_program, files_of, try_archive, version_of
+from mcf.release.pages import scripts
+from mcf.release.sources import sources
 from mcf.release.elf import glibc, is_program, libraries, symbol_versions
 from mcf.version import commit_of
 
@@ -40,8 +42,12 @@ def test_archive_has_what_a_receiver_needs(root: Path, tmp_path: Path) -> None:
         assert (top / file).is_file(), file
     assert (top / "program/mcf").read_bytes() == STANDS_IN.read_bytes()
     programs = {str(file.relative_to(top)) for file in top.rglob("*") if file.is_file() and file.stat().st_mode & 0o111}
-    assert programs == {"mcf", "program/mcf"}
+    tools = {f"tools/{name.removeprefix('mcf-')}" for name in scripts(root)}
+    assert programs == {"mcf", "program/mcf", *tools, "tools/check_twice", "tools/setup"} and "tools/show" in tools
     assert not list(top.rglob("__pycache__"))
+    package = {str(file.relative_to(root / "python/mcf")) for file in sources(root, "python/mcf").values()}
+    here = {str(file.relative_to(top / "python/mcf")) for file in (top / "python/mcf").rglob("*") if file.is_file()}
+    assert here == {name for name in package if not name.startswith(("build/", "release/")) and name != "cli/release.py"} | {"COMMIT"}
 
 
 def test_checksums_are_of_every_other_file(root: Path, tmp_path: Path) -> None:
@@ -108,7 +114,7 @@ def test_kind_of_program() -> None:
 
 def test_an_archive_that_does_not_work_is_not_kept(root: Path, tmp_path: Path) -> None:
     name, data = archive(root, STANDS_IN, 0)
-    with pytest.raises(TextError, match="mcf check, mcf solve$"):
+    with pytest.raises(TextError, match=r"mcf check, mcf solve$"):
         try_archive(name, data, version_of(root))
     words = [str(root / "tools/release"), "archive", "--mcf", str(STANDS_IN), "--to", str(tmp_path / "dist")]
     ran = subprocess.run(words, capture_output=True, text=True)
@@ -156,6 +162,19 @@ def test_errors_are_one_line(root: Path, words: list[str]) -> None:
     assert ran.returncode == 2 and re.fullmatch(r"tools/release: [^\n]+ is no program for Linux on x86-64\n", ran.stderr)
 
 
+def require_tools_work(top: Path, room: Path) -> None:
+    """That the tools of an archive run with its own program and package, from any folder, and say what they stand on."""
+    env = {"PATH": "/usr/bin:/bin"}
+    net, cert = str(top / "examples/triangle.net"), str(top / "examples/triangle.cert")
+    for tool, words in (("show", [net, cert]), ("report", [net, cert, "--html", "a.html"]), ("survey", [net, cert, "--grow", "1.1"]),
+                        ("convert", [net, "a.net"]), ("certify", [net, "--output", "best.cert"]), ("route", [net, "--by", "hops", "--no-best"]),
+                        ("check_twice", [net, cert])):
+        ran = subprocess.run([str(top / "tools" / tool), *words], cwd=room, env=env, capture_output=True, text=True, check=False)
+        assert ran.returncode == 0, (tool, ran.stderr)
+    alone = subprocess.run(["/usr/bin/python3", "-I", "-S", "-B", str(top / "tools/show"), net], capture_output=True, text=True, check=False)
+    assert alone.returncode == 2 and alone.stderr.endswith("; tools/setup installs them\n")
+
+
 def test_release_of_the_program_works_where_it_is_unpacked(program: Program, root: Path, tmp_path: Path) -> None:
     to = tmp_path / "dist"
     ran = subprocess.run([str(root / "tools/release"), "archive", "--mcf", program.path, "--to", str(to)], capture_output=True, text=True)
@@ -168,6 +187,7 @@ def test_release_of_the_program_works_where_it_is_unpacked(program: Program, roo
     starter = Program(str(top / "mcf"))
     certificate = starter.solve(root / "examples/triangle.net", "--workers", "1")
     assert certificate == (root / "examples/triangle.cert").read_text()
+    require_tools_work(top, tmp_path)
     (tmp_path / "bin").mkdir()
     (tmp_path / "bin/mcf").symlink_to(top / "mcf")
     env = {**os.environ, "PATH": f"{tmp_path}/bin:{os.environ['PATH']}", "MCF_HINTS": "1"}

@@ -106,6 +106,14 @@ def test_each_tool_of_the_package_tells_its_version(fresh: Root) -> None:
     assert {fresh.said(tool, "--version") for tool in TOOLS} == {f"mcf {version} ({commit})\n"}
 
 
+def test_missing_packages_are_said_as_debian_installs_them(fresh: Root) -> None:
+    place = fresh.top / "usr/lib/python3/dist-packages"
+    code = f"import sys; sys.path.insert(0, {str(place)!r}); sys.argv = ['show', 'x.net']; from mcf.cli.show import main; main()"
+    ran = subprocess.run(["/usr/bin/python3", "-I", "-S", "-B", "-c", code], capture_output=True, text=True, check=False)
+    assert (ran.returncode, ran.stdout) == (2, "")
+    assert ran.stderr.startswith("show: Debian's packages are missing: apt-get install python3-") and "tools/setup" not in ran.stderr
+
+
 def test_the_package_is_installed_and_purged_without_a_trace(fresh: Root) -> None:
     room = fresh.room / "layers"
     code = """

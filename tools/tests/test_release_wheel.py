@@ -18,6 +18,7 @@ from mcf import Program
 from mcf.release.elf import glibc
 from mcf.release.pages import scripts
 from mcf.release.staged import Release
+from mcf.trees.kernel import name as kernel_name
 from mcf.version import commit_of
 
 for module, package in (("hatchling", "python3-hatchling"), ("shtab", "python3-shtab"), ("build_manpages", "python3-argparse-manpage")):
@@ -99,7 +100,7 @@ def test_each_module_and_file_of_the_package_is_in_the_wheel(root: Path) -> None
     names = {name.removeprefix("python/") for name in listed.stdout.splitlines()}
     left = {name for name in names if not name.startswith(("mcf/build/", "mcf/release/")) and name != "mcf/cli/release.py"}
     with zipfile.ZipFile(BytesIO(wheel(Release(root, STANDS_IN, EPOCH))[1])) as zipped:
-        assert {name for name in zipped.namelist() if name.startswith("mcf/")} == left | {"mcf/VERSION", "mcf/COMMIT"}
+        assert {name for name in zipped.namelist() if name.startswith("mcf/")} == left | {"mcf/VERSION", "mcf/COMMIT", f"mcf/trees/{kernel_name()}"}
 
 
 def test_the_same_files_give_the_same_bytes(small_repository: Path) -> None:
@@ -161,6 +162,26 @@ def test_each_tool_of_the_wheel_tells_its_version(installed: Installed, tool: st
     assert installed.said(tool, "--version") == f"mcf {installed.version}\n"
     assert installed.said(tool, "--help").startswith("usage: ")
     assert (installed.python.parents[1] / f"share/man/man1/{tool}.1").is_file()
+
+
+def test_missing_packages_are_said_as_pip_installs_them(installed: Installed) -> None:
+    place = next((installed.python.parents[1] / "lib").glob("python*/site-packages"))
+    code = f"import sys; sys.path.insert(0, {str(place)!r}); sys.argv = ['show', 'triangle.net']; from mcf.cli.show import main; main()"
+    ran = installed.run("python", "-I", "-S", "-B", "-c", code)
+    assert (ran.returncode, ran.stdout) == (2, "") and ran.stderr.count("\n") == 1 and "tools/setup" not in ran.stderr
+    assert ran.stderr.startswith("show: packages of Python are missing: pip install ") and "apt-get install python3-" in ran.stderr
+
+
+def test_an_editable_installation_is_the_checkout(small_repository: Path, root: Path, tmp_path: Path) -> None:
+    python = tmp_path / "venv/bin/python"
+    subprocess.run(["/usr/bin/python3", "-m", "venv", "--system-site-packages", str(tmp_path / "venv")], check=True)
+    words = [str(python), "-m", "pip", "install", "-q", "--no-index", "--no-build-isolation", "--disable-pip-version-check", "-e"]
+    done = subprocess.run([*words, str(small_repository / "python")], capture_output=True, text=True, check=False)
+    assert done.returncode == 0, done.stdout + done.stderr
+    where = subprocess.run([str(python), "-I", "-c", "import mcf; print(mcf.__file__)"], capture_output=True, text=True, check=True).stdout
+    assert where == f"{small_repository}/python/mcf/__init__.py\n"
+    told = subprocess.run([str(python.parent / "mcf-show"), "--version"], capture_output=True, text=True, check=True).stdout
+    assert told.startswith(f"mcf {(root / 'VERSION').read_text().strip()} ({commit_of(small_repository)}")
 
 
 def test_a_source_distribution_builds_the_wheel_for_every_system(root: Path, tmp_path: Path) -> None:

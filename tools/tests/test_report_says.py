@@ -21,12 +21,13 @@ import pytest
 
 pytest.importorskip("hypothesis", reason="python3-hypothesis is missing: tools/setup --tests")
 
-from hypothesis import given  # noqa: E402
+from hypothesis import assume, given  # noqa: E402
 from hypothesis import strategies as st  # noqa: E402
 
 from mcf import Node, Program, TextError, load_text, read_any, read_network, scale  # noqa: E402
 from mcf.network import Network  # noqa: E402
 from mcf.matrices import answers, matrices, unit_of, with_demands  # noqa: E402
+from mcf.ranges import Range  # noqa: E402
 from mcf.report import drawing, layout, page, sentences, shown, tables  # noqa: E402
 from mcf.report.figures import Figures  # noqa: E402
 from mcf.report.summary import Summary, batch_sentence  # noqa: E402
@@ -189,7 +190,7 @@ def test_a_certificate_of_a_total() -> None:
     ],
 )  # fmt: skip
 def test_the_sentence_of_a_total(low: tuple[int, int], high: tuple[int, int], sentence: str) -> None:
-    assert sentences._total(Fraction(*low), Fraction(*high), Fraction(3)) == sentence
+    assert sentences._total(Range(Fraction(*low), Fraction(*high)), Fraction(3)) == sentence
 
 
 @pytest.mark.parametrize(
@@ -311,6 +312,8 @@ def test_every_number_of_the_table_is_that_of_the_texts(texts: tuple[str, str]) 
 @given(networks())
 def test_every_utilisation_of_the_page_is_that_of_the_texts(texts: tuple[str, str]) -> None:
     found, alone = figures(*texts), Texts(*texts)
+    # (bounds that contradict each other are of no certificate that the program called valid, and no page shows them)
+    assume(found.upper is None or found.lower <= found.upper)
     text = page_of(found)
     part = text.partition("<h2>Utilisation</h2>")[2].partition("<h2>Demands and paths</h2>")[0]
     seen = [unescape(cell) for cell in re.findall(r'px"></span>([^<]*)</td>', part)]

@@ -92,6 +92,27 @@ def test_the_program_ends_with_its_caller_and_nothing_is_left(root: Path, tmp_pa
     until(lambda: not list(tmp_path.iterdir()))
 
 
+TOOLS = {"certify": ["ta2.net", "--output", "out"], "route": ["ta2.net", "--by", "hops", "--output", "out"],
+         "survey": ["germany50.net", "germany50.cert", "--failures", "--exact", "--jobs", "2"]}
+
+
+@pytest.mark.parametrize("tool", TOOLS)
+def test_programs_and_tools_that_a_tool_started_end_with_it_when_it_is_killed(root: Path, tmp_path: Path, program: Program, tool: str) -> None:
+    for name in ("ta2.net", "germany50.net"):
+        (tmp_path / name).symlink_to(root / "examples" / name)
+    if tool == "survey":
+        (tmp_path / "germany50.cert").write_text(program.solve(tmp_path / "germany50.net", "--phases", "1"))
+    words = [str(root / "tools" / tool), *TOOLS[tool], "--mcf", program.path]
+    running = subprocess.Popen(words, cwd=tmp_path, stdout=subprocess.DEVNULL, stderr=subprocess.DEVNULL)
+    # (of survey, the program that a certify runs)
+    least = 3 if tool == "survey" else 1
+    until(lambda: len(below(running.pid)) >= least and any(runs(number, program) for number in below(running.pid)))
+    children = below(running.pid)
+    running.kill()
+    assert running.wait() == -signal.SIGKILL
+    until(lambda: not any(Path(f"/proc/{number}").exists() for number in children))
+
+
 def test_a_timeout_ends_the_program(root: Path, program: Program, tmp_path: Path, monkeypatch: pytest.MonkeyPatch) -> None:
     monkeypatch.setenv("TMPDIR", str(tmp_path))
     network, before = mcf.read(root / "examples/ta2.net"), below(os.getpid())
@@ -182,6 +203,41 @@ def test_texts_in_memory_are_read_by_their_descriptors() -> None:
     assert run(["/bin/sh", "-c", "ls /proc/self/fd | wc -l"]).line == "4"
 
 
+def test_what_no_system_runs_is_told_and_not_taken_for_a_script(tmp_path: Path) -> None:
+    marked = tmp_path / "marked"
+    (tmp_path / "text").write_text(f"touch {marked}\n")
+    with pytest.raises(mcf.NoProgram, match="Permission denied"):
+        run([str(tmp_path / "text")])
+    (tmp_path / "text").chmod(0o755)
+    with pytest.raises(mcf.NoProgram, match="Exec format error"):
+        run([str(tmp_path / "text")])
+    with pytest.raises(mcf.TextError, match="Exec format error"):
+        Program(str(tmp_path / "text")).run("print")
+    assert not marked.exists()
+
+
+def test_an_interrupt_while_a_child_is_started_ends_it(monkeypatch: pytest.MonkeyPatch) -> None:
+    real, started = subprocess.Popen, []
+
+    def interrupted(*words: object, **options: object) -> object:
+        """Starts a child, and is interrupted before it hands the child out."""
+        started.append(real(*words, **options))  # type: ignore[call-overload]
+        os.kill(os.getpid(), signal.SIGINT)
+        return started[0]
+    monkeypatch.setattr("mcf.children.subprocess.Popen", interrupted)
+    before = signal.getsignal(signal.SIGINT)
+    with pytest.raises(KeyboardInterrupt):
+        run(["/bin/sleep", "100"])
+    assert started[0].returncode == -signal.SIGKILL and signal.getsignal(signal.SIGINT) is before
+
+
+def test_who_is_ended_gently_may_tidy_up(tmp_path: Path) -> None:
+    tidy = f"trap 'echo tidy > {tmp_path}/end; exit 3' TERM; touch {tmp_path}/began; while :; do sleep 0.05; done"
+    with pytest.raises(mcf.Timeout):
+        run(["/bin/sh", "-c", tidy], timeout=2, gently=True)
+    assert (tmp_path / "began").exists() and (tmp_path / "end").read_text() == "tidy\n"
+
+
 def test_what_ended_is_told() -> None:
     assert run(["/bin/sh", "-c", "echo a; echo b; echo c >&2; exit 3"]) == type(run(["/bin/true"]))(3, b"a\nb\n", b"c\n")
     assert run(["/bin/sh", "-c", "kill -15 $$"]).status == -15
@@ -190,7 +246,7 @@ def test_what_ended_is_told() -> None:
 
 
 def test_where_there_is_no_setpriv_a_program_runs_all_the_same(monkeypatch: pytest.MonkeyPatch) -> None:
-    monkeypatch.setattr("mcf.running._setpriv", lambda: None)
+    monkeypatch.setattr("mcf.children._setpriv", lambda: None)
     assert run(["/bin/echo", "yes"]).line == "yes"
     with pytest.raises(mcf.NoProgram, match="No such file"):
         run(["/nonexistent"])

@@ -43,6 +43,16 @@ def test_a_checkout_has_the_commit_and_says_what_was_changed(small_repository: P
     assert both(small_repository) == (f"mcf {version} ({commit}-dirty)\n",) * 2
 
 
+def test_a_lock_of_git_is_neither_needed_nor_made(small_repository: Path) -> None:
+    commit, lock = head(small_repository), small_repository / ".git/index.lock"
+    (small_repository / "LICENSE-MIT").touch()
+    lock.write_text("")
+    assert commit_of(small_repository) == commit
+    lock.unlink()
+    index = (small_repository / ".git/index").stat().st_mtime_ns
+    assert both(small_repository)[1].endswith(f"({commit})\n") and (small_repository / ".git/index").stat().st_mtime_ns == index
+
+
 def test_without_git_the_commit_is_unknown(small_repository: Path, monkeypatch: pytest.MonkeyPatch) -> None:
     version = (small_repository / "VERSION").read_text().strip()
     monkeypatch.setenv("PATH", "")
@@ -60,12 +70,18 @@ def test_a_release_has_its_commit_in_a_file(small_repository: Path) -> None:
     assert both(small_repository) == (f"mcf {(small_repository / 'VERSION').read_text().strip()} (01234567)\n",) * 2
 
 
-@pytest.mark.parametrize("tool", ["certify", "convert", "release", "report", "route", "survey"])
+@pytest.mark.parametrize("tool", ["certify", "convert", "release", "report", "route", "show", "survey"])
 def test_each_tool_tells_version_and_commit_without_any_package(root: Path, tool: str) -> None:
     words = ["/usr/bin/python3", "-I", "-S", "-B", str(root / "tools" / tool), "--version"]
     ran = subprocess.run(words, capture_output=True, text=True, check=False)
     assert (ran.returncode, ran.stderr) == (0, "")
     assert ran.stdout == f"mcf {(root / 'VERSION').read_text().strip()} ({commit_of(root)})\n"
+
+
+def test_pages_name_version_and_commit(root: Path) -> None:
+    page = pytest.importorskip("mcf.report.page", reason="python3-jinja2 is missing: tools/setup")
+    text = page.render("survey.html", title="x", surveyed=[], grown=[], about="y")
+    assert f"<footer>Made by mcf {(root / 'VERSION').read_text().strip()} ({commit_of(root)}).</footer>" in text
 
 
 def test_the_citation_has_the_version(root: Path) -> None:

@@ -4,10 +4,14 @@ from __future__ import annotations
 
 import argparse
 from collections.abc import Sequence
-from typing import Any, NoReturn
+from typing import TYPE_CHECKING, Any, NoReturn
 
+from mcf import jsons
 from mcf.arguments import Arguments
 from mcf.output import main_of
+
+if TYPE_CHECKING:
+    from mcf.convert.model import Network
 
 EXAMPLES = """
 formats read (told by their contents, also within gzip): SNDlib native and XML (networks, and single files of
@@ -29,7 +33,7 @@ examples:
   convert polska.net polska.graphml                         for Gephi and the like
   convert polska.net new.net --capacity-of Link_0_2 622 --close Link_0_10 --times-demand Gdansk_Krakow 1.5
 
-Whatever is dropped, renamed, merged, added, changed or rounded is said on standard error, one line each. Names that a
+Whatever is dropped, renamed, merged, added or changed is said on standard error, one line each, and what is rounded in one. Names that a
 spreadsheet takes as formulas, as =1+1, stand in a CSV with an apostrophe in front, which reading takes off.
 
 status: 0 written; 2 not written, and why in one line; 130 interrupted
@@ -108,17 +112,31 @@ def run() -> int:
     from mcf.convert.model import Notes
     from mcf.convert.numbers import number
     from mcf.convert.tables import columns_of
-    from mcf.convert.work import Task, convert
+    from mcf.convert.work import Task, convert, target_of
     from mcf.needs import needed
 
-    notes = Notes(quiet=words.pop("quiet"))
+    notes = Notes(quiet=words.pop("quiet") or jsons.asked())
     words["base"] = words.pop("net")
     words["columns"] = columns_of(words["columns"], [*words["base"], *words["sources"]])
     words["edits"] = [Edit(*edit) for edit in words["edits"] or ()]
     words |= {name: number(words[name], f"--{name}") for name in ("scale", "gravity")}
-    with needed():
-        convert(Task(**words), notes)
+    task = Task(**words)
+    try:
+        with needed():
+            network = convert(task, notes)
+    finally:
+        for verb, text in notes.said if jsons.asked() else ():
+            jsons.note(f"{verb}: {text}")
+    jsons.put(output=task.target, format=task.written or target_of(task.target),
+              changes=[{"change": verb, "text": text} for verb, text in notes.said], **_about(network))
     return 0
+
+
+def _about(network: Network) -> dict[str, object]:
+    """What the network is, for the JSON object."""
+    return {"links_mode": network.links_mode or "undirected", "bits": network.bits,
+            "nodes": len(network.nodes), "links": len(network.links),
+            "matrices": [{"matrix": matrix.name, "demands": len(matrix.demands)} for matrix in network.matrices]}
 
 
 def main() -> NoReturn:

@@ -1,6 +1,6 @@
 """Makes of the program that was built what others install without a toolchain, each with its checksum:
 
-  archive   mcf-VERSION-x86_64-linux.tar.gz: the program with help and hints, documents and examples
+  archive   mcf-VERSION-x86_64-linux.tar.gz: the program with help and hints, the tools, documents and examples
   wheel     mcf_certified_flow-VERSION-py3-none-manylinux_X_Y_x86_64.whl: the program as mcf, the tools and the Python package, for pip
   deb       mcf_VERSION_amd64.deb: all that for Debian, which installs what the tools stand on
 """
@@ -8,11 +8,10 @@
 from __future__ import annotations
 
 import hashlib
-import sys
 from pathlib import Path
 from typing import NoReturn
 
-from mcf import TextError
+from mcf import TextError, jsons
 from mcf.arguments import Arguments
 from mcf.output import main_of, write
 from mcf.release.archive import built_program, try_archive, version_of
@@ -58,7 +57,7 @@ def release_of(program: Path | None) -> Release:
     """What is released: the program given or built here, which works in an archive."""
     found = program or built_program(ROOT)
     if not found.is_file() or not is_program(found):
-        raise TextError(f"{found} is no program for Linux on x86-64")
+        raise TextError(f"{found} is no program for Linux on x86-64").at(str(found), kind="program")
     release = Release(ROOT, found, commit_seconds(ROOT))
     try_archive(*pack(ROOT, found, release.seconds), version_of(ROOT))
     return release
@@ -81,14 +80,20 @@ def released() -> int:
         parser.error(f"{others[0]} is not made: the kinds are {', '.join(KINDS)}")
     release = release_of(words.mcf)
     makers = {"archive": archive, "wheel": wheel, "deb": deb}
-    status = 0
+    made: list[dict[str, object]] = []
+    missing: list[dict[str, object]] = []
     for kind in [kind for kind in KINDS if kind in (words.kinds or KINDS)]:
         try:
-            print(keep(words.to, *makers[kind](release)), flush=True)
+            name, data = makers[kind](release)
         except MissingPackages as why:
-            print(f"tools/release: no {kind}: {why}", file=sys.stderr)
-            status = 1
-    return status
+            jsons.note(f"no {kind}: {why}", "tools/release")
+            missing.append({"kind": kind, "why": str(why)})
+        else:
+            file = keep(words.to, name, data)
+            jsons.say(str(file))
+            made.append({"kind": kind, "file": file, "bytes": len(data), "sha256": hashlib.sha256(data).hexdigest()})
+    jsons.put(files=made, missing=missing)
+    return 1 if missing else 0
 
 
 def main() -> NoReturn:

@@ -8,9 +8,10 @@ from collections.abc import Callable
 from pathlib import Path
 from typing import NoReturn
 
+from mcf import jsons
 from mcf.arguments import Arguments
 from mcf.errors import TextError
-from mcf.output import STANDARD, main_of, require_output
+from mcf.output import STANDARD, main_of, require_outputs
 
 EXAMPLES = """
 examples:
@@ -82,12 +83,8 @@ def _require_files(words: argparse.Namespace) -> None:
     """Refuses, before any work, outputs that cannot be written, or that are read or written twice."""
     sources = [name for name in (words.net, words.certificate, words.second, words.net2, words.list) if name]
     if sources.count("-") > 1:
-        raise TextError("standard input is one file alone")
-    targets = [name for name in (words.html, words.csv, words.paths) if name]
-    for at, target in enumerate(targets):
-        require_output(target, sources)
-        if any(os.path.realpath(target) == os.path.realpath(other) for other in targets[:at]):
-            raise TextError(f"{target}: is written twice")
+        raise TextError("standard input is one file alone").at(kind="usage")
+    require_outputs([words.html, words.csv, words.paths], sources)
 
 
 def _say(words: argparse.Namespace) -> Callable[[str], None]:
@@ -96,8 +93,8 @@ def _say(words: argparse.Namespace) -> Callable[[str], None]:
 
     def say(text: str) -> None:
         """Prints a sentence."""
-        if not taken:
-            print(text)
+        if not taken or jsons.asked():
+            jsons.say(text)
 
     return say
 

@@ -19,14 +19,15 @@ Examples:
 from __future__ import annotations
 
 import argparse
-import sys
 from typing import NoReturn
 
-from mcf import LINK_MODES, MODULES, find_program
+from mcf import LINK_MODES, MODULES, find_program, jsons
 from mcf.arguments import Arguments
 from mcf.asked import seconds
+from mcf.inputs import as_files
 from mcf.needs import needed
 from mcf.output import main_of, require_output, write
+from mcf.ranges import shortfall
 from mcf.route.lengths import COSTS, LENGTHS, METHODS
 
 
@@ -68,11 +69,14 @@ def routed() -> int:
     require_output(output, [given.net])
     with needed():
         from mcf.route.run import Question, route
-    question = Question(given.net, given.by, given.links, given.modules, given.lengths, given.cost, given.paths, given.seconds, not given.no_best)
-    found = route(find_program(given.mcf), question)
+    with as_files(given.net) as (net,):
+        question = Question(net, given.by, given.links, given.modules, given.lengths, given.cost, given.paths, given.seconds, not given.no_best)
+        found = route(find_program(given.mcf), question)
     write(output, found.text.encode("latin-1"))
     for note in [found.line, *found.notes]:
-        print(f"route: {note}", file=sys.stderr)
+        jsons.note(note, "route")
+    jsons.put(by=given.by, output=output, judged=found.line, carried=found.judged.lower, best=found.best,
+              shortfall=lambda: found.best and shortfall(found.judged.lower, found.best))
     return 0
 
 

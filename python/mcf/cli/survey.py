@@ -8,13 +8,16 @@ from fractions import Fraction
 from pathlib import Path
 from typing import TYPE_CHECKING, NoReturn
 
-from mcf import TextError, find_program, fraction_of
+from mcf import TextError, find_program, fraction_of, jsons
 from mcf.arguments import Arguments
+from mcf.inputs import STANDARD_INPUT, texts_as_files
+from mcf.matrices import is_batch
 from mcf.needs import needed
-from mcf.output import main_of, require_output, write
+from mcf.output import main_of, require_outputs, write
 from mcf.ranges import status
 
 if TYPE_CHECKING:
+    from mcf import Program
     from mcf.survey.cases import Settings
 
 EXAMPLES = """
@@ -26,9 +29,11 @@ examples:
   survey polska.net polska.cert --grow 1.2 --grow 1.5           growth alone
   survey big.net big.cert --failures --quick                    what the certificate alone says, in a moment
   survey polska.net polska.cert --failures --exact              which of two failures that are nearly the same is worse
+  survey polska.net day.certs --list day.list --matrix noon --failures    a matrix that batch answered; - is standard input
 
 Each change is routed anew by `mcf solve`, with the certificate's links and modules, unless --quick says not to; `mcf check`
-judges each certificate before its bounds are used. The fraction is of every demand: at 1 or more all of them fit.
+judges each certificate before its bounds are used. The fraction is of every demand: at 1 or more all of them fit. For nodes,
+pairs, links that fail together, many matrices and many machines there is tools/study.
 
 What is known of each change is a range: a fraction that is carried, and one that no routing exceeds. A failure is called the
 worst, or a link the most worth doubling, where its range does not overlap any other one; else all that may be it are named, or it
@@ -47,7 +52,9 @@ def options() -> Arguments:
     """The grammar of the words."""
     parser = Arguments("survey", __doc__, EXAMPLES)
     parser.add_argument("net", metavar="NET", help="the network")
-    parser.add_argument("certificate", metavar="CERT", help="a certificate of it")
+    parser.add_argument("certificate", metavar="CERT", help="a certificate of it, or what batch wrote")
+    parser.add_argument("--list", metavar="LIST", help="the list of matrices that batch answered")
+    parser.add_argument("--matrix", metavar="NAME", help="the matrix of it that is surveyed")
     parser.add_argument("--failures", action="store_true", help="each single link closed")
     parser.add_argument("--double", action="store_true", help="each single link with twice its capacity")
     parser.add_argument(
@@ -101,25 +108,41 @@ def surveyed() -> int:
         parser.error("--phases and --step are for `mcf solve`, which --exact does not ask")
     if words.jobs < 1:
         parser.error("--jobs is at least 1")
-    outputs: list[str | None] = [words.csv, words.html]
-    for output in filter(None, outputs):
-        require_output(output, (words.net, words.certificate))
+    inputs = [words.net, words.certificate, *filter(None, [words.list])]
+    if inputs.count("-") > 1:
+        parser.error(f"{STANDARD_INPUT} is one file alone")
+    require_outputs([words.csv, words.html], inputs)
     return run(words, kinds)
 
 
 def run(words: argparse.Namespace, kinds: list[str]) -> int:
-    """Makes the surveys, writes them, and says the status."""
+    """Makes the surveys of a network and its certificate, or of a matrix and the one that batch wrote for it."""
+    with needed():
+        from mcf.report.work import Reader, answered, listed_in
+    program = find_program(words.mcf)
+    reader = Reader(program)
+    given = reader.source(words.net), reader.source(words.certificate)
+    if words.matrix is not None and not is_batch(given[1].text):
+        raise TextError(f"--matrix names a matrix of what batch wrote, and {given[1].name} is a single answer")
+    listed = listed_in(reader.source(words.list)) if words.list else None
+    texts = [(one.name, one.text.encode("latin-1")) for one in answered(given, listed, words.matrix)]
+    with texts_as_files(*texts) as (net, certificate):
+        return surveys_of(words, kinds, program, net, certificate)
+
+
+def surveys_of(words: argparse.Namespace, kinds: list[str], program: Program, net: str, certificate: str) -> int:
+    """Makes the surveys of two files, writes them, and says the status."""
     with needed():
         from mcf.report.work import judged_figures
         from mcf.survey.cases import Ground, based, survey
         from mcf.survey.page import survey_page
+        from mcf.survey.values import growth_values, survey_values
         from mcf.survey.words import grown, grown_sentence, sentence, survey_table
     growths = [fraction_of(word) for word in words.grow]
     if not all(growths):
-        raise TextError("--grow is more than 0")
-    program = find_program(words.mcf)
-    figures, judgement = judged_figures(program, words.net, words.certificate)
-    ground = Ground(program, words.net, words.certificate, figures, judgement)
+        raise TextError("--grow is more than 0").at(kind="usage")
+    figures, judgement = judged_figures(program, net, certificate)
+    ground = Ground(program, net, certificate, figures, judgement)
     settings = settings_of(words, growths[0] if kinds and growths else Fraction(1))
     base = based(ground, settings) if kinds or words.gap or words.exact else ground.base
     alone = [] if kinds else grown(base, growths)
@@ -127,11 +150,13 @@ def run(words: argparse.Namespace, kinds: list[str]) -> int:
     if words.csv:
         write(words.csv, survey_table(surveys, alone).encode("latin-1", "replace"))
     if words.html:
-        title = words.title or Path(os.fsencode(words.net).decode("utf-8", "replace")).stem
+        title = words.title or words.matrix or Path(os.fsencode(words.net).decode("utf-8", "replace")).stem
         write(words.html, survey_page(title, figures.scaled, surveys, alone).encode("utf-8", "replace"))
     if words.csv != "-" and words.html != "-":
         for text in [*(sentence(one) for one in surveys), *(grown_sentence(*one) for one in alone)]:
-            print(text[0].upper() + text[1:])
+            jsons.say(text[0].upper() + text[1:])
+    jsons.put(judged=judgement.line, base=base, outputs=[*filter(None, (words.csv, words.html))],
+              surveys=lambda: [survey_values(one) for one in surveys], growths=lambda: [growth_values(*one) for one in alone])
     # (a network without links has no changes; then it counts whether all demands fit as it is)
     return status([case.range for one in surveys for case in one.cases] + [bounds for _, bounds in alone] or [base])
 

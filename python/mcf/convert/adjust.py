@@ -3,7 +3,7 @@
 from __future__ import annotations
 
 from collections.abc import Callable
-from dataclasses import dataclass, replace
+from dataclasses import dataclass, field, replace
 from fractions import Fraction
 
 from ..limits import MAX_DECIMALS, MAX_DEMANDS, MAX_LINKS, MAX_MATRICES, MAX_NODES, MAX_TOTAL, MAX_UNITS
@@ -46,8 +46,10 @@ def adjusted(network: Network, changes: Changes, notes: Notes) -> Network:
     if changes.merge or changes.merge_both:
         matrices = [Matrix(m.name, merged(m.demands, changes.merge_both, notes)) for m in matrices]
     if changes.decimals is not None:
-        links = [_rounded_link(link, changes.decimals, notes) for link in links]
-        matrices = [Matrix(m.name, [_rounded_demand(d, m.name, changes.decimals, notes) for d in m.demands]) for m in matrices]
+        rounding = _Rounding(changes.decimals)
+        links = [rounding.link(link) for link in links]
+        matrices = [Matrix(m.name, [rounding.demand(d, m.name) for d in m.demands]) for m in matrices]
+        rounding.tell(notes)
     return replace(network, links=links, matrices=matrices)
 
 
@@ -72,25 +74,48 @@ def merged(demands: list[Demand], both: bool, notes: Notes) -> list[Demand]:
     return [_demand_of(g[0], sum((d.amount for d in g), Fraction(0))) if len(g) > 1 else g[0] for g in groups.values()]
 
 
-def _rounded_link(link: Link, decimals: int, notes: Notes) -> Link:
-    def change(value: Fraction) -> Fraction:
-        new = rounded(value, decimals)
+@dataclass
+class _Rounding:
+    """Numbers rounded to so many decimals; which they were, and which demands became nothing."""
+
+    decimals: int
+    changed: list[str] = field(default_factory=list)
+    nothing: list[str] = field(default_factory=list)
+
+    def link(self, link: Link) -> Link:
+        """A link with its capacities rounded."""
+        return _link_with(link, lambda value: self._value(value, f"link {link.name}"))
+
+    def demand(self, demand: Demand, matrix: str) -> Demand:
+        """A demand with its amount rounded."""
+        what = f"matrix {matrix}: demand {demand.name}" if matrix else f"demand {demand.name}"
+        new = self._value(demand.amount, what)
+        if new == demand.amount and is_fine(demand.unit) and is_fine(demand.value):
+            return demand
+        if new == 0 != demand.amount:
+            self.nothing.append(what)
+        return _demand_of(demand, new)
+
+    def _value(self, value: Fraction, what: str) -> Fraction:
+        new = rounded(value, self.decimals)
         if new != value:
-            notes.say("rounded", f"link {link.name}: {brief(value)} to {plain(new)}")
+            self.changed.append(f"{what}: {brief(value)} to {plain(new)}")
         return new
 
-    return _link_with(link, change)
+    def tell(self, notes: Notes) -> None:
+        """One line: the number that was rounded, or how many were and which is the first; and the demands that are left out by it."""
+        if not self.changed:
+            return
+        many = len(self.changed)
+        text = self.changed[0] if many == 1 else f"{many} numbers to {self.decimals} decimals, the first of {self.changed[0]}"
+        left = ", which leaves it out" if many == 1 else f"; rounded to 0 and so left out: {_listed(self.nothing)}"
+        notes.say("rounded", text + (left if self.nothing else ""))
 
 
-def _rounded_demand(demand: Demand, matrix: str, decimals: int, notes: Notes) -> Demand:
-    new = rounded(demand.amount, decimals)
-    if new == demand.amount and is_fine(demand.unit) and is_fine(demand.value):
-        return demand
-    if new != demand.amount:
-        where = f"matrix {matrix}: " if matrix else ""
-        nothing = ", which leaves it out" if new == 0 else ""
-        notes.say("rounded", f"{where}demand {demand.name}: {brief(demand.amount)} to {plain(new)}{nothing}")
-    return _demand_of(demand, new)
+def _listed(names: list[str]) -> str:
+    """The first three names of a list, and how many others there are."""
+    rest = len(names) - 3
+    return ", ".join(names[:3]) + (f" and {rest} more" if rest > 0 else "")
 
 
 def require_fit(network: Network, linked: bool, limited: bool) -> None:

@@ -10,10 +10,10 @@ import zlib
 from pathlib import Path
 
 from .. import output
+from ..tokens import NATIVE
 from .model import Notes, Refused
 
 MAX_BYTES = 1 << 28
-NATIVE = b"?SNDlib native format; type: network;"
 MARKS = (
     (codecs.BOM_UTF8, "utf-8", "UTF-8"),
     (codecs.BOM_UTF32_LE, "utf-32-le", "UTF-32"),

@@ -108,16 +108,16 @@ class Notes:
 
     out: TextIO = field(default_factory=lambda: sys.stderr)
     quiet: bool = False
-    count: int = 0
+    said: list[tuple[str, str]] = field(default_factory=list)
 
     def say(self, verb: str, text: str) -> None:
         """One line, with every character in it that would break the line escaped."""
-        self.count += 1
+        self.said.append((verb, text))
         if not self.quiet:
             print(f"{verb}: {one_line(text)}", file=self.out)
 
     def take(self, later: Notes) -> None:
         """Says what was noted elsewhere meanwhile."""
-        self.count += later.count
+        self.said += later.said
         if not self.quiet and isinstance(later.out, io.StringIO):
             self.out.write(later.out.getvalue())

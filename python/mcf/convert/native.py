@@ -12,13 +12,13 @@ from ..errors import TextError
 from ..limits import MAX_WORD_BYTES
 from ..numbers import fraction_of
 from ..scaled import LINK_MODES
+from ..tokens import NATIVE
+from ..tokens import tokens as tokens_of
 from ..units import unit_of
-from .files import NATIVE
 from .model import Demand, Link, Matrix, Network, Node, Notes, Refused, Source
 from .numbers import plain
 from .words import told, word_of
 
-TOKEN = re.compile(rb"#[^\n]*|[()]|[^ \t\r\n()#]+|\n")
 MODE = re.compile(rb"\b(?:un|bi)?directed\b", re.IGNORECASE)
 HEADER = "?SNDlib native format; type: network; version: 1.0"
 SECTIONS = ("NODES", "LINKS", "DEMANDS")
@@ -71,12 +71,8 @@ def tokens(path: str, data: bytes, line: int = 1) -> Tokens:
     comments: list[tuple[int, str]] = []
 
     def found() -> Iterator[tuple[str, int]]:
-        at = line
-        for match in TOKEN.finditer(data):
-            token = match.group()
-            if token == b"\n":
-                at += 1
-            elif token.startswith(b"#"):
+        for token, at, _ in tokens_of(data, line):
+            if token.startswith(b"#"):
                 comments.extend((at, mode.decode().lower()) for mode in MODE.findall(token))
             elif len(token) > MAX_WORD_BYTES:
                 raise Refused(f"{path} line {at}: a word of {len(token)} bytes: at most {MAX_WORD_BYTES} are read")

@@ -64,12 +64,12 @@ def target_of(path: str) -> str:
     )
 
 
-def convert(task: Task, notes: Notes) -> None:
-    """Reads the files, and writes the one."""
+def convert(task: Task, notes: Notes) -> Network:
+    """Reads the files, and writes the one; the network that was written, of which a list or a table has a part."""
     kind = task.written or target_of(task.target)
     _require_files(task)
     _require_use(task, kind)
-    sources = _in_one_unit(_read_all(task, notes), task, notes)
+    sources = in_one_unit(_read_all(task, notes), task, notes)
     base, sources = sources[: len(task.base)], sources[len(task.base) :]
     many = kind == "list" or (kind == "demands" and all(not s.links for s in sources))
     network = assemble.together(sources, base, notes, many)
@@ -86,6 +86,7 @@ def convert(task: Task, notes: Notes) -> None:
     _tell(network, kind, notes)
     _tell_meta(sources, kind, notes)
     files.write(task.target, text)
+    return network
 
 
 def _read_all(task: Task, notes: Notes) -> list[Source]:
@@ -145,7 +146,7 @@ def _tell_links(sources: list[Source], task: Task, notes: Notes) -> None:
         notes.say("links", f"{mode}; a comment in line {line} of {source.path} says {word}: --links {word} reads them so")
 
 
-def _in_one_unit(sources: list[Source], task: Task, notes: Notes) -> list[Source]:
+def in_one_unit(sources: list[Source], task: Task, notes: Notes) -> list[Source]:
     """All numbers in the unit that is asked for, or else in that of the links, or of the first file that says one."""
     given = Fraction(UNITS[task.from_unit]) if task.from_unit else None
     linked = next((s for s in sources if s.links), None)
@@ -207,7 +208,12 @@ def _text(network: Network, kind: str, notes: Notes) -> str:
 
 def read(path: str, task: Task, notes: Notes) -> Source:
     """What a file has, in whichever format."""
-    form, raw, path = _form(path, task), files.contents(path), files.label(path)
+    return read_bytes(files.label(path), files.contents(path), task, notes, _form(path, task))
+
+
+def read_bytes(path: str, raw: bytes, task: Task, notes: Notes, form: Form | None = None) -> Source:
+    """What the bytes of a file have; the path is for people, and by its ending tells tables."""
+    form = form or _form(path, task)
     data = files.without_mark(path, raw, notes)
     kind = task.kind or files.kind_of(path, data)
     if kind == "xml":

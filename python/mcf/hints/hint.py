@@ -56,6 +56,14 @@ def explained(line: str, words: list[str]) -> str:
     return f"{line}: {row.sentence}" if row else line
 
 
+def files_of(words: list[str]) -> dict[str, str]:
+    """The files of a command's words, by the names that the program's lines have for them; none where the words are not in the grammar."""
+    try:
+        return {name.lower(): file for name, file in read(words).words.items()}
+    except Misfit:
+        return {}
+
+
 def _is_text(word: str) -> bool:
     """Whether a word is UTF-8, as it was given."""
     return not any("\udc80" <= letter <= "\udcff" for letter in word)

@@ -4,7 +4,8 @@ from __future__ import annotations
 
 import os
 
-HEADER = b"?SNDlib native format; type: network;"
+from ..tokens import NATIVE
+
 MARK = b"\xef\xbb\xbf"
 _CONVERT = "which tools/convert FROM TO makes a network file of"
 
@@ -37,11 +38,11 @@ def kind_of(front: bytes) -> str:
         return f"begins with a byte order mark, {_CONVERT}"
     if text.startswith((b"mcf-certificate", b"mcf-routing", b"mcf-hops", b"mcf-throughput")):
         return "is a certificate or routing, and the network's file stands first"
-    if text.startswith(HEADER):
+    if text.startswith(NATIVE):
         return "has a blank or an empty line before its header"
     if text.startswith(b"?SNDlib"):
         return "is of SNDlib, and no network in the native format, as its first line says"
-    return "does not begin with ?SNDlib native format; type: network;"
+    return f"does not begin with {NATIVE.decode()}"
 
 
 def _markup(text: bytes) -> str:

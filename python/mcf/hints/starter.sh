@@ -7,8 +7,10 @@ tell_version() {
     if [ -f "$here/python/mcf/COMMIT" ]; then
         commit=$(cat "$here/python/mcf/COMMIT")
     elif [ -e "$here/.git" ]; then
+        # (`describe --dirty` would lock the index, and leave the lock there where it is killed)
         commit=$(env -u GIT_DIR -u GIT_WORK_TREE -u GIT_INDEX_FILE \
-            git --no-optional-locks -C "$here" describe --always --dirty --abbrev=8 '--exclude=*' 2>/dev/null)
+            git --no-optional-locks -C "$here" status --porcelain=v2 --branch --untracked-files=no 2>/dev/null |
+            sed -n 's/^# branch\.oid \([0-9a-f]\{8\}\).*/\1/p; /^[12u] /{s/.*/-dirty/p;q;}' | tr -d '\n')
     fi
     printf '%s %s (%s)\n' "${name:-mcf}" "$(cat "$here/VERSION")" "${commit:-unknown}"
 }

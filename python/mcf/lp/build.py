@@ -93,12 +93,12 @@ def shares_of_demands(scaled: ScaledNetwork, pairs: Pairs, pool: Pool, whole: Wh
             left[pair].append((walk, weight))
     rows = []
     for commodity, pair, turned in zip(scaled.commodities, pairs.of_commodity.tolist(), pairs.turned.tolist()):
-        taken = _take(left[pair], whole.units * commodity.amount)
+        taken = take(left[pair], whole.units * commodity.amount)
         rows.append([(walk[::-1] if turned else walk, weight) for walk, weight in taken])
     return rows
 
 
-def _take(left: list[tuple[Walk, int]], wanted: int) -> list[tuple[Walk, int]]:
+def take(left: list[tuple[Walk, int]], wanted: int) -> list[tuple[Walk, int]]:
     """Takes a weight, or what there is, from the end of a list of paths with their weights."""
     taken = []
     while wanted and left:

@@ -11,6 +11,7 @@ import numpy as np
 from scipy.sparse import csc_matrix
 
 from mcf import TextError
+from mcf.needs import HAS_SETUP
 
 from .arrays import Array
 
@@ -49,7 +50,7 @@ def load_clp() -> ctypes.CDLL:
             call = getattr(library, f"Clp_{function}")
             call.restype, call.argtypes = result, list(arguments)
         return library
-    raise TextError("CLP is missing: run tools/setup, or install coinor-libclp1")
+    raise TextError(f"CLP is missing: {'run tools/setup, or install coinor-libclp1' if HAS_SETUP else 'install coinor-libclp1, as by apt-get'}")
 
 
 class Model:

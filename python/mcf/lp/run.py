@@ -12,7 +12,7 @@ from tqdm import tqdm
 from mcf import Program, ScaledNetwork, TextError, decimal_of, write_certificate
 from mcf.certificate import Certificate, Routing
 
-from ..judged import Judged, judge
+from ..judged import Judged, Said, judge
 from .build import DEFAULT_GAP, certificate_of, gap_in, in_form, with_gap
 from .clp import load_clp
 from .kinds import SOLVE, Kind
@@ -40,7 +40,7 @@ class Request:
 class Result:
     """A certificate with the line of its judge; why it is not the linear program's, where it is not; and why that stopped."""
 
-    judged: Judged
+    judged: Said
     wanted: int
     trouble: str | None
     stopped: str
@@ -48,6 +48,7 @@ class Result:
     @property
     def text(self) -> str:
         """The certificate's text."""
+        assert isinstance(self.judged, Judged)
         return self.judged.text
 
     @property

@@ -16,11 +16,12 @@ from mcf import Program, TextError
 from mcf.program import is_old
 from mcf.version import commit_of
 
-from .pages import titled
-from .sources import sources
+from .pages import scripts, titled
+from .sources import package, sources
 
-# whole folders, and files by name or pattern, that are shipped as they stand
-SHIPPED = ("VERSION", "LICENSE-APACHE", "LICENSE-MIT", "docs", "examples", "python/mcf/*.py", "python/mcf/hints", "tools/mcf_texts")
+# whole folders, and files by name, that are shipped as they stand, beside the package and the tools
+SHIPPED = ("VERSION", "LICENSE-APACHE", "LICENSE-MIT", "docs", "examples", "tools/mcf_texts")
+BESIDE_TOOLS = ("check_twice", "setup")
 
 
 def version_of(root: Path) -> str:
@@ -44,6 +45,9 @@ def files_of(root: Path, program: Path) -> dict[str, tuple[int, bytes]]:
     files = {"mcf": (0o755, (root / "python/mcf/release/starter.sh").read_bytes()), "program/mcf": (0o755, program.read_bytes()),
              "README.md": (0o644, (root / "python/mcf/release/README.md").read_bytes())}
     files |= {name: (0o644, file.read_bytes()) for name, file in sources(root, *SHIPPED).items()}
+    files |= {f"python/mcf/{name}": (0o644, file.read_bytes()) for name, file in package(root).items()}
+    tools = [*(name.removeprefix("mcf-") for name in scripts(root)), *BESIDE_TOOLS]
+    files |= {f"tools/{name}": (0o755, (root / "tools" / name).read_bytes()) for name in tools}
     files["python/mcf/COMMIT"] = (0o644, f"{commit_of(root)}\n".encode())
     files["docs/mcf.1"] = (0o644, titled(files["docs/mcf.1"][1].decode(), version_of(root)).encode())
     sums = "".join(f"{hashlib.sha256(files[name][1]).hexdigest()}  {name}\n" for name in sorted(files))
@@ -78,6 +82,7 @@ def try_archive(name: str, data: bytes, version: str) -> None:
             "mcf --help": starter.ask("--help").startswith("mcf - "),
             "mcf check": starter.check(net, certificate).text.startswith("valid closed undirected largest "),
             "mcf solve": starter.solve(net, "--workers", "1", seconds=60) == Path(certificate).read_text(),
+            "tools/show --version": Program(str(top / "tools/show")).ask("--version").startswith(f"mcf {version} ("),
         }
     wrong = [what for what, is_right in answers.items() if not is_right]
     if wrong:

@@ -14,11 +14,9 @@ from mcf.errors import TextError
 from .archive import version_of
 from .missing import require
 from .pages import scripts, shared_files
-from .sources import sources
-from .staged import Release, environment, last_line, place, staged
+from .sources import package, sources
+from .staged import Release, environment, kernel_in, last_line, place, staged
 
-# what is for the repository alone
-_LEFT_OUT = ("build/", "release/", "cli/release.py")
 _TESTS = "python3-pytest"
 _DOCUMENTS = ("docs/guide.md", "docs/formats.md", "docs/certify.md", "docs/formats")
 _SCRIPT = "#!/usr/bin/python3\nimport sys\n\nfrom {module} import {function}\n\nsys.exit({function}())\n"
@@ -49,10 +47,10 @@ def deb(release: Release) -> tuple[str, bytes]:
 def lay_out(release: Release, top: Path) -> None:
     """The folder that debhelper works in."""
     staged(release, top)
-    for name, file in sources(release.root, "python/mcf").items():
-        inner = name.removeprefix("python/mcf/")
-        if not inner.startswith(_LEFT_OUT):
-            place(top / "package/mcf" / inner, file.read_bytes())
+    for name, file in package(release.root).items():
+        place(top / "package/mcf" / name, file.read_bytes())
+    for name, data in kernel_in(release).items():
+        place(top / "package/mcf" / name, data)
     for name in ("VERSION", "COMMIT"):
         place(top / "package/mcf" / name, (top / name).read_bytes())
     for name, entry in scripts(release.root).items():

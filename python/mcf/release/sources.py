@@ -10,6 +10,16 @@ from pathlib import Path
 from mcf.errors import TextError
 
 
+# of the package, what is for the repository alone
+FOR_THE_REPOSITORY = ("build/", "release/", "cli/release.py")
+
+
+def package(root: Path) -> dict[str, Path]:
+    """The files of the package that are for others too, each by its path in it."""
+    inner = {name.removeprefix("python/mcf/"): file for name, file in sources(root, "python/mcf").items()}
+    return {name: file for name, file in inner.items() if not name.startswith(FOR_THE_REPOSITORY)}
+
+
 def sources(root: Path, *names: str) -> dict[str, Path]:
     """The files below folders, or by names or patterns, each by its path from the top of the repository."""
     known = _tracked(root)

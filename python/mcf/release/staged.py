@@ -3,6 +3,7 @@
 from __future__ import annotations
 
 import os
+import tempfile
 from dataclasses import dataclass
 from pathlib import Path
 
@@ -35,6 +36,17 @@ def staged(release: Release, top: Path) -> None:
         place(top / name, (release.root / name).read_bytes())
     place(top / "COMMIT", f"{release.commit}\n".encode())
     place(top / "program/mcf", release.program.read_bytes(), 0o755)
+    for name, data in kernel_in(release).items():
+        place(top / "mcf" / name, data)
+
+
+def kernel_in(release: Release) -> dict[str, bytes]:
+    """The compiled kernel of mcf.trees by its path in the package; none where no compiler is, and then it is made at first use."""
+    from mcf.trees.kernel import SOURCE, compiled, name
+    with tempfile.TemporaryDirectory() as room:
+        made = Path(room, name())
+        known = SOURCE.read_bytes() == (release.root / "python/mcf/trees/kernel.c").read_bytes()
+        return {f"trees/{name()}": made.read_bytes()} if known and compiled(made) else {}
 
 
 def place(file: Path, data: bytes, mode: int = 0o644) -> None:

@@ -10,7 +10,7 @@ from typing import Any
 
 import jinja2
 
-from mcf import ScaledNetwork
+from mcf import ScaledNetwork, version
 
 from . import sentences, shown
 from .drawing import CLASSES, CLOSED, OVER, UNUSED, Drawing, drawing
@@ -209,8 +209,8 @@ def batch_page(title: str, rows: list[Summary], sentence: str, unit: str) -> str
 
 
 def render(template: str, **values: Any) -> str:
-    """A page of a template."""
-    return _templates().get_template(template).render(colours=LEGEND, **values)
+    """A page of a template, which names the version and the commit that made it."""
+    return _templates().get_template(template).render(colours=LEGEND, made_by=version.told(), **values)
 
 
 def about(scaled: ScaledNetwork, demands: bool = True) -> str:

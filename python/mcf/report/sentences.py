@@ -4,6 +4,7 @@ from __future__ import annotations
 
 from fractions import Fraction
 
+from ..ranges import Answer, Range, fits
 from .figures import Figures
 from .shown import amount, amount_down, amount_up, counted, name, percent, percent_down, percent_up
 
@@ -13,24 +14,30 @@ OPTIMUM = "this is the exact optimum"
 def verdict(figures: Figures) -> str:
     """What holds, in a sentence: lower fractions are rounded down, upper ones up."""
     if figures.is_total:
-        return _total(figures.lower, figures.upper or figures.total, figures.total)
+        return _total(Range(figures.lower, figures.total if figures.upper is None else figures.upper), figures.total)
     text = _fraction(figures)
     return text.replace("no routing", "no routing within the hop limits") if figures.keeps_limits else text
 
 
 def _fraction(figures: Figures) -> str:
     """Where all demands are carried by the same fraction."""
-    low, high = figures.lower, figures.upper
-    if low == 0:
+    if not figures.lower:
         return _nothing(figures)
-    if high is None or not figures.is_certificate:
-        return _routing(low, high)
-    if low == high:
-        return _exact(low)
-    if low >= 1:
-        return f"Every demand fits{_spare(low)}; no routing gives more than {percent_up(high - 1)} to spare."
-    if high < 1:
-        return f"Not every demand fits: {_carried(low, 'each')}, and no routing carries more than {percent_up(high)}."
+    if figures.upper is None:
+        return f"{_front(figures.lower)}; whether other paths carry more is not known, since a routing has no bound."
+    bounds = Range(figures.lower, figures.upper)
+    return _certified(bounds) if figures.is_certificate else _routed(bounds)
+
+
+def _certified(bounds: Range) -> str:
+    """What a certificate shows."""
+    low, high, answer = bounds.lower, bounds.upper, fits(bounds)
+    if answer is Answer.YES:
+        most = f", and no routing gives more: {OPTIMUM}" if bounds.exact else f"; no routing gives more than {percent_up(high - 1)} to spare"
+        return f"Every demand fits{_spare(low)}{most}."
+    if answer is Answer.NO:
+        most = f"more: {OPTIMUM}" if bounds.exact else f"more than {percent_up(high)}"
+        return f"Not every demand fits: {_carried(low, 'each')}, and no routing carries {most}."
     closer = "A smaller gap or more phases bring both closer."
     return f"Not decided: {_carried(low)}, and no routing carries more than {percent_up(high)}. {closer}"
 
@@ -43,22 +50,16 @@ def _spare(low: Fraction) -> str:
     return " with nothing to spare" if low == 1 else f" with {percent_down(low - 1)} to spare"
 
 
-def _exact(low: Fraction) -> str:
-    """Where both fractions are the same."""
-    if low >= 1:
-        return f"Every demand fits{_spare(low)}, and no routing gives more: {OPTIMUM}."
-    return f"Not every demand fits: {_carried(low, 'each')}, and no routing carries more: {OPTIMUM}."
+def _front(low: Fraction) -> str:
+    """What paths carry by themselves."""
+    return f"Every demand fits{_spare(low)} on these paths" if low >= 1 else f"These paths carry {percent_down(low)} of every demand"
 
 
-def _routing(low: Fraction, high: Fraction | None) -> str:
-    """Where there are paths alone, and perhaps a bound from elsewhere."""
-    front = (
-        f"Every demand fits{_spare(low)} on these paths" if low >= 1 else f"These paths carry {percent_down(low)} of every demand"
-    )
-    if high is None:
-        return f"{front}; whether other paths carry more is not known, since a routing has no bound."
-    most = f"gives more than {percent_up(high - 1)} to spare" if low >= 1 else f"carries more than {percent_up(high)}"
-    return f"{front}; no routing {most}."
+def _routed(bounds: Range) -> str:
+    """What paths show beside the bound of a certificate of the same network."""
+    high = bounds.upper
+    most = f"gives more than {percent_up(high - 1)} to spare" if bounds.lower >= 1 else f"carries more than {percent_up(high)}"
+    return f"{_front(bounds.lower)}; no routing {most}."
 
 
 def _nothing(figures: Figures) -> str:
@@ -71,17 +72,17 @@ def _nothing(figures: Figures) -> str:
     return f"{some} no way over links with capacity{limit}, the greatest of them {greatest}: no part of every demand can be carried."
 
 
-def _total(low: Fraction, high: Fraction, total: Fraction) -> str:
+def _total(bounds: Range, total: Fraction) -> str:
     """Where each demand is carried in part: the total is rounded down, its bound up."""
-    if low == total:
+    low, high = bounds.lower, bounds.upper
+    answer = fits(bounds.divided(total)) if total else Answer.YES
+    if answer is Answer.YES:
         return f"Every demand is carried whole, {amount(total)} in all."
     front = f"{amount_down(low)} of {amount(total)} in all ({percent_down(low / total) if low else '0.0 %'})"
-    if low == high:
-        return f"Not every demand fits: these paths carry {front}, and no routing carries more: {OPTIMUM}."
-    if high >= total:
+    if answer is Answer.OPEN:
         return f"Not decided whether every demand fits: these paths carry {front}."
-    most = f"{amount_up(high)} ({percent_up(high / total)})"
-    return f"Not every demand fits: these paths carry {front}, and no routing carries more than {most}."
+    most = f"more: {OPTIMUM}" if bounds.exact else f"more than {amount_up(high)} ({percent_up(high / total)})"
+    return f"Not every demand fits: these paths carry {front}, and no routing carries {most}."
 
 
 def growth(figures: Figures) -> str:

@@ -8,9 +8,10 @@ from collections.abc import Callable, Iterable
 from dataclasses import dataclass
 from pathlib import Path
 
-from mcf import Program, TextError, judge_of, load_text, output, scale
+from mcf import Program, TextError, jsons, judge_of, load_text, output, scale
 from mcf.judged import Judged, NotValid, judge
 from mcf.matrices import answers, is_batch, matrices, unit_of, with_demands
+from mcf.network import Network
 from mcf.output import contents
 from mcf.scaled import ScaledNetwork
 
@@ -19,6 +20,7 @@ from .page import batch_page, report_page, sides_of
 from .sentences import verdict
 from .summary import Summary, batch_sentence
 from .tables import batch_table, links_table, paths_table
+from .values import matrix_values, names_of, side_values
 
 
 @dataclass(frozen=True)
@@ -63,12 +65,22 @@ class Reader:
                 text = found.content
                 scaled = self._scaled(file, net, text.links, text.modules)
             except NotValid as why:
-                raise TextError(f"{certificate.name} on {net.name}: {why}") from None
+                raise why.led(f"{certificate.name} on {net.name}: ", {str(file): net.name, None: certificate.name}) from None
             except TextError as why:
-                raise TextError(f"{net.name}: {why}") from None
+                raise why.led(f"{net.name}: ", {str(file): net.name}) from None
         figures = Figures(scaled, text)
         _require_same(figures, found)
         return Shown(figures, f"mcf {judge_of(certificate.text)}: {found.line}", unit_of(net.text))
+
+    def rows(self, net: Source) -> Network:
+        """The rows of a network, which the proved program reads; TextError, with the refusal, where it does not."""
+        with tempfile.TemporaryDirectory(prefix="mcf-report-") as room:
+            file = Path(room, "net")
+            file.write_bytes(net.text.encode("latin-1"))
+            try:
+                return self._program.network(file)
+            except TextError as why:
+                raise why.led(f"{net.name}: ", {str(file): net.name}) from None
 
     def _scaled(self, file: Path, net: Source, links: str, modules: str) -> ScaledNetwork:
         """The network of a text that was accepted, under options."""
@@ -95,7 +107,7 @@ def judged_figures(program: Program, net: str, certificate: str) -> tuple[Figure
     except NotValid as why:
         kind = judge_of(text)
         other = f"; it is one for mcf {kind}, and only those of mcf solve and routings are taken" if kind != "check" else ""
-        raise TextError(f"{certificate} on {net}: {why}{other}") from None
+        raise TextError(f"{certificate} on {net}: {why}{other}").at(why.file or (certificate if why.code else None), why.line, kind=why.kind, code=why.code) from None
     return Figures(scale(program.network(net), found.content.links, found.content.modules), found.content), found
 
 
@@ -103,7 +115,7 @@ def write_report(program: Program, words: argparse.Namespace, title: str, say: C
     """Writes the page and the tables that are asked for, and says the sentences."""
     reader = Reader(program)
     net, first = reader.source(words.net), reader.source(words.certificate)
-    listed = _listed(reader.source(words.list)) if words.list else None
+    listed = listed_in(reader.source(words.list)) if words.list else None
     if is_batch(first.text) and words.matrix is None:
         _write_batch(reader, net, first, listed, words, title, say)
         return
@@ -111,19 +123,19 @@ def write_report(program: Program, words: argparse.Namespace, title: str, say: C
         raise TextError(f"--matrix names a matrix of what batch wrote, and {first.name} is a single answer")
     other = reader.source(words.net2) if words.net2 else net
     pairs = [(net, first)] + ([(other, reader.source(words.second))] if words.second else [])
-    both = [reader.shown(*_of_matrix(pair, listed, words.matrix)) for pair in pairs]
+    both = [reader.shown(*answered(pair, listed, words.matrix)) for pair in pairs]
     _write_sides(_beside(both), words, title, say)
 
 
-def _listed(source: Source) -> dict[str, str]:
+def listed_in(source: Source) -> dict[str, str]:
     """The matrices of a list."""
     try:
         return matrices(source.text)
     except TextError as why:
-        raise TextError(f"{source.name}: {why}") from None
+        raise why.led(f"{source.name}: ") from None
 
 
-def _of_matrix(pair: tuple[Source, Source], listed: dict[str, str] | None, name: str | None) -> tuple[Source, Source]:
+def answered(pair: tuple[Source, Source], listed: dict[str, str] | None, name: str | None) -> tuple[Source, Source]:
     """A network and an answer; of what batch wrote, those of the matrix that is named."""
     net, answer = pair
     if not is_batch(answer.text):
@@ -168,6 +180,7 @@ def _write_sides(both: list[Shown], words: argparse.Namespace, title: str, say: 
         write(words.paths, paths_table(both[-1].figures))
     for front, one in zip(("Before: ", "After: ") if len(both) > 1 else ("",), both):
         say(front + verdict(one.figures))
+    jsons.put(title=title, outputs=_outputs(words), sides=lambda: [side_values(one.figures, one.said, one.unit) for one in both])
 
 
 def _write_batch(reader: Reader, net: Source, batch: Source, listed: dict[str, str] | None, words: argparse.Namespace, title: str,
@@ -183,6 +196,12 @@ def _write_batch(reader: Reader, net: Source, batch: Source, listed: dict[str, s
     if words.csv:
         write(words.csv, batch_table(rows))
     say(sentence)
+    jsons.put(title=title, outputs=_outputs(words), unit=unit_of(net.text), matrices=lambda: list(map(matrix_values, rows)), without=names_of(without))
+
+
+def _outputs(words: argparse.Namespace) -> list[str]:
+    """The files that are asked for."""
+    return [name for name in (words.html, words.csv, words.paths) if name]
 
 
 def summaries(reader: Reader, net: Source, batch: Source, listed: dict[str, str] | None) -> list[Summary]:

@@ -25,11 +25,11 @@ from .shown import few_digits_up
 
 
 def split_over_few(scaled: ScaledNetwork, ways: Ways, count: int, deadline: float,
-                   notes: list[str]) -> tuple[int, list[list[tuple[Walk, int]]]]:
+                   notes: list[str], quiet: bool = False) -> tuple[int, list[list[tuple[Walk, int]]]]:
     """Phases, and the whole weights of each commodity's paths, of the best split over so many shortest paths."""
     library = load_clp()
     pairs = pairs_of(scaled)
-    pool = _pool(scaled, pairs, ways, count, notes)
+    pool = _pool(scaled, pairs, ways, count, notes, quiet)
     capacities = [cell.capacity for cell in scaled.cells]
     program = FractionProgram(library, pairs, AllPaths(pairs, Arcs(scaled)), np.array(capacities, np.float64), pool)
     optimum = program.optimise(deadline, lambda found: None, grow=False)
@@ -47,12 +47,12 @@ def split_over_few(scaled: ScaledNetwork, ways: Ways, count: int, deadline: floa
     return whole.phases, shares_of_demands(scaled, pairs, pool, whole)
 
 
-def _pool(scaled: ScaledNetwork, pairs: Pairs, ways: Ways, count: int, notes: list[str]) -> Pool:
+def _pool(scaled: ScaledNetwork, pairs: Pairs, ways: Ways, count: int, notes: list[str], quiet: bool) -> Pool:
     """The shortest paths of each pair."""
     pool = Pool(len(pairs.amount))
     distances: dict[int, list[int | None]] = {}
     fewer = 0
-    for pair in tqdm(range(len(pairs.amount)), desc="paths", disable=None, leave=False):
+    for pair in tqdm(range(len(pairs.amount)), desc="paths", disable=quiet or None, leave=False):
         source, target = int(pairs.source[pair]), int(pairs.target[pair])
         if target not in distances:
             distances[target] = ways.distances_to(target)

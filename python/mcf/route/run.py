@@ -15,6 +15,7 @@ from mcf.lp.rounding import fullest
 from mcf.lp.run import Request, certify
 
 from ..judged import Judged, judge
+from ..ranges import Range
 from .few_paths import split_over_few
 from .lengths import whole_lengths
 from .shortest import Walk, Ways
@@ -41,10 +42,11 @@ class Question:
 
 @dataclass(frozen=True)
 class Routed:
-    """A routing with the line of `mcf check` on it, and what else is to be said."""
+    """A routing with the line of `mcf check` on it, what else is to be said, and the bounds of the best one where they were asked for."""
 
     judged: Judged
     notes: list[str]
+    best: Range | None = None
 
     @property
     def text(self) -> str:
@@ -61,17 +63,24 @@ def route(program: Program, question: Question) -> Routed:
     """The routing of a network by a method."""
     deadline = time.monotonic() + question.seconds
     scaled = _scaled(program, question)
-    lengths = whole_lengths(scaled, question.lengths if question.by in ("ecmp", "k-paths") else question.by, question.cost)
     notes: list[str] = []
-    if question.by == "k-paths":
-        phases, rows = split_over_few(scaled, Ways(scaled, lengths), question.paths, deadline, notes)
-    else:
-        phases, rows = _whole(scaled, list(_shares(scaled, Ways(scaled, lengths), question.by == "ecmp")), notes)
-    routing = _routing(scaled, program.form, phases, rows)
+    routing = ruled(scaled, program.form, question.by, question.lengths, question.cost, question.paths, deadline, notes)
     judged = judge(program, question.net, write_routing(routing), "check")
-    if question.beside_best:
-        notes.append(_below(program, question, judged.lower))
-    return Routed(judged, notes)
+    best = _best(program, question, notes) if question.beside_best else None
+    if best is not None:
+        notes.append(below_the_best(judged.lower, best))
+    return Routed(judged, notes, best)
+
+
+def ruled(scaled: ScaledNetwork, form: int, by: str, lengths: str, cost: str, paths: int, deadline: float, notes: list[str],
+          quiet: bool = False) -> Routing:
+    """The routing of a network in units by a method; `lengths` and `paths` are as in a question."""
+    ways = Ways(scaled, whole_lengths(scaled, lengths if by in ("ecmp", "k-paths") else by, cost))
+    if by == "k-paths":
+        phases, rows = split_over_few(scaled, ways, paths, deadline, notes, quiet)
+    else:
+        phases, rows = _whole(scaled, list(_shares(scaled, ways, by == "ecmp", quiet)), notes)
+    return _routing(scaled, form, phases, rows)
 
 
 def _scaled(program: Program, question: Question) -> ScaledNetwork:
@@ -82,10 +91,10 @@ def _scaled(program: Program, question: Question) -> ScaledNetwork:
     return scaled
 
 
-def _shares(scaled: ScaledNetwork, ways: Ways, equal_cost: bool) -> Iterator[Shares]:
+def _shares(scaled: ScaledNetwork, ways: Ways, equal_cost: bool, quiet: bool = False) -> Iterator[Shares]:
     """The paths of each commodity with their shares of it."""
     distances: dict[int, list[int | None]] = {}
-    for number, commodity in enumerate(tqdm(scaled.commodities, desc="paths", disable=None, leave=False)):
+    for number, commodity in enumerate(tqdm(scaled.commodities, desc="paths", disable=quiet or None, leave=False)):
         if commodity.target not in distances:
             distances[commodity.target] = ways.distances_to(commodity.target)
         far = distances[commodity.target]
@@ -123,10 +132,11 @@ def _routing(scaled: ScaledNetwork, form: int, phases: int, rows: list[list[tupl
     return routing
 
 
-def _below(program: Program, question: Question, carried: Fraction) -> str:
-    """By how much a fraction is below the best, which a certificate bounds."""
+def _best(program: Program, question: Question, notes: list[str]) -> Range | None:
+    """The bounds of a certificate of the best; where there is none, a note says why."""
     request = Request(question.net, question.links, question.modules, None, question.seconds, None)
     try:
-        return below_the_best(carried, certify(program, request).judged.range)
+        return certify(program, request).judged.range
     except TextError as error:
-        return f"how far below the best it is, is not known: {error}"
+        notes.append(f"how far below the best it is, is not known: {error}")
+        return None

@@ -4,7 +4,6 @@ from __future__ import annotations
 
 import os
 import re
-import subprocess
 import sys
 import tempfile
 import time
@@ -241,11 +240,10 @@ def _certified(ground: Ground, net: Path, *words: str) -> str:
     # (as a module of this package, wherever that is; -P: not one of the folder that the user is in)
     command = [sys.executable, "-P", "-B", "-m", "mcf.cli.certify", str(net), *words, "--mcf", ground.program.path]
     places = [str(Path(__file__).resolve().parents[2]), *filter(None, [os.environ.get("PYTHONPATH")])]
-    done = run(command, errors=subprocess.PIPE, environment={**os.environ, "PYTHONPATH": os.pathsep.join(places)})
-    if done.returncode not in (0, 1):
-        lines = done.stderr.decode("utf-8", "replace").splitlines()
-        raise TextError(lines[-1] if lines else f"certify ended with status {done.returncode}")
-    return done.stdout.decode("latin-1")
+    done = run(command, environment={"PYTHONPATH": os.pathsep.join(places)}, gently=True)
+    if done.status not in (0, 1):
+        raise TextError(done.trouble or f"certify ended with status {done.status}")
+    return done.text
 
 
 def changed(network: Network, at: int, capacity: Fraction) -> Network:

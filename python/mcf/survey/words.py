@@ -9,13 +9,12 @@ from mcf import decimal_of, rounded_down, rounded_up
 
 from ..names import cell_of
 from ..ranges import Answer, Extreme, Range, best, fits, gains, most_gain, worst
-from ..report.shown import counted, decimal, name, percent_down, percent_up
+from ..report.extremes import few, fraction_words, worst_words
+from ..report.shown import counted, decimal, name, percent_up
 from ..report.tables import table
 from .cases import Case, Survey
 
 COLUMNS = ("change", "link", "source", "target", "capacity", "lower", "upper", "kept_lower", "kept_upper", "fits")
-FEW = 3
-"""How many of many links are named."""
 
 
 def grown(base: Range, growths: list[Fraction]) -> list[tuple[Fraction, Range]]:
@@ -40,21 +39,12 @@ def _failures(survey: Survey) -> str:
         front = f"not all demands fit after {lost} of {every}" + (f", and after {left} it is not decided" if left else "")
     elif left:
         front = f"it is not decided whether all demands fit after {left} of {every}"
-    return f"{front}. {_worst(worst(survey.cases))}; without failures it is {_range(survey.base)}."
+    return f"{front}. {_worst(survey)}; without failures it is {fraction_words(survey.base)}."
 
 
-def _worst(found: Extreme[Case]) -> str:
+def _worst(survey: Survey) -> str:
     """Which failure is the worst, and what it leaves."""
-    left = _range(found.range)
-    if found.alone:
-        return f"The worst is that of {_titles(found.cases)}: {left}"
-    if found.equal:
-        return f"The worst are those of {_titles(found.cases)}, which are equally bad: {left}"
-    if found.sure:
-        return f"None is worse than that of {_titles(found.sure)}, and whether others are as bad is not decided: {left}"
-    if found.is_open:
-        return f"Which is the worst is not decided: it leaves {left}"
-    return f"The worst is one of {len(found.cases)}, and not decided between them, which are those of {_titles(found.cases)}: {left}"
+    return worst_words(worst(survey.cases), _titles, "that of ", "those of ")
 
 
 def _doublings(survey: Survey) -> str:
@@ -62,9 +52,9 @@ def _doublings(survey: Survey) -> str:
     base = survey.base
     answers = {gains(case.range, base) for case in survey.cases}
     if answers == {Answer.NO}:
-        return f"doubling any one link gains nothing: it is {_range(base)} with it and without."
+        return f"doubling any one link gains nothing: it is {fraction_words(base)} with it and without."
     found = best(survey.cases)
-    with_it, without = _range(found.range), _range(base)
+    with_it, without = fraction_words(found.range), fraction_words(base)
     if Answer.YES in answers:
         return f"{_best(found)}: {with_it} with it, and {without} without."
     most = most_gain(found.range, base)
@@ -87,10 +77,7 @@ def _best(found: Extreme[Case]) -> str:
 
 def _titles(cases: Sequence[Case]) -> str:
     """The links of cases, the first few of many."""
-    names = [_title(case) for case in cases]
-    if len(names) > FEW + 1:
-        names = [*names[:FEW], counted(len(names) - FEW, "other")]
-    return f"{', '.join(names[:-1])} and {names[-1]}" if len(names) > 1 else names[0]
+    return few([_title(case) for case in cases])
 
 
 def _title(case: Case) -> str:
@@ -98,19 +85,10 @@ def _title(case: Case) -> str:
     return f"{name(case.link.id)} ({name(case.link.source)} – {name(case.link.target)})"
 
 
-def _range(bounds: Range) -> str:
-    """From where to where the fraction lies, in percent."""
-    if bounds.upper == 0:
-        return "some demand has no way at all"
-    if bounds.lower == 0:
-        return f"at most {percent_up(bounds.upper)} of every demand"
-    return f"{percent_down(bounds.lower)} to {percent_up(bounds.upper)} of every demand"
-
-
 def grown_sentence(growth: Fraction, bounds: Range) -> str:
     """What becomes of the fraction where demands grow."""
     words = {Answer.YES: "all of them fit", Answer.NO: "they do not all fit", Answer.OPEN: "it is not decided whether they fit"}
-    return f"With all demands times {_plain(growth)} {words[fits(bounds)]}: {_range(bounds)}."
+    return f"With all demands times {_plain(growth)} {words[fits(bounds)]}: {fraction_words(bounds)}."
 
 
 def _plain(value: Fraction) -> str:
