@@ -32,6 +32,16 @@ class Range:
         """Whether the value is known."""
         return self.lower == self.upper
 
+    @property
+    def is_nothing(self) -> bool:
+        """Whether some demand has nothing carried of it, whatever the routing."""
+        return not self.upper
+
+    @property
+    def shows_nothing(self) -> bool:
+        """Whether no part of every demand is shown to be carried."""
+        return not self.lower
+
     def within(self, gap: Fraction) -> bool:
         """Whether the upper end is at most that part above the lower one."""
         return self.upper <= self.lower * (1 + gap)
@@ -98,7 +108,27 @@ class Extreme(Generic[Case]):
 
 def fits(of: Range) -> Answer:
     """Whether all demands fit, which they do where the value is at least 1."""
-    return Answer.YES if of.lower >= 1 else Answer.NO if of.upper < 1 else Answer.OPEN
+    return fits_by(of.lower, of.upper)
+
+
+def fits_by(carried: Fraction, most: Fraction | None = None, whole: Fraction = Fraction(1)) -> Answer:
+    """Whether all demands fit, by what paths carry of each and what no routing exceeds, which is not known of a routing alone.
+
+    whole: what is carried where all fit: 1, or of a total the sum of all demands.
+    """
+    if carried >= whole:
+        return Answer.YES
+    return Answer.NO if most is not None and most < whole else Answer.OPEN
+
+
+def are_equal(pairs: Iterable[tuple[Fraction | None, Fraction | None]]) -> bool:
+    """Whether the two numbers of each pair are one, as where a bound was computed twice."""
+    return all(one == other for one, other in pairs)
+
+
+def spare(carried: Fraction) -> Fraction | None:
+    """By what part paths carry more than all demands; None where they do not carry all."""
+    return carried - 1 if fits_by(carried) is Answer.YES else None
 
 
 def worst(cases: Sequence[Case]) -> Extreme[Case]:

@@ -2,8 +2,10 @@
 
 from __future__ import annotations
 
+import ast
 from dataclasses import dataclass
 from fractions import Fraction
+from pathlib import Path
 
 import pytest
 
@@ -182,3 +184,36 @@ def test_ranges_are_joined_and_divided(one: Named, other: Named, growth: Fractio
         assert grown.lower <= one.value / growth <= grown.upper
     assert not one.range.within(growth) or one.range.upper <= one.value * (1 + growth)
     assert not one.range.exact or one.value == one.range.lower
+
+
+# -- nothing else compares bounds
+
+BOUNDS = {"lower", "upper", "low", "high", "bounds", "carried", "range"}
+WITHOUT = ("build", "convert", "hints", "lp", "release", "trees")
+"""What says nothing of bounds to people: the linear programs look for them, and the rest has none."""
+
+
+def names_in(node: ast.expr) -> set[str]:
+    """The names and attributes of an expression."""
+    found = {one.id for one in ast.walk(node) if isinstance(one, ast.Name)}
+    return found | {one.attr for one in ast.walk(node) if isinstance(one, ast.Attribute)}
+
+
+def compared(file: Path) -> list[str]:
+    """The places of a module where something is compared by its size or its value with a bound."""
+    tree = ast.parse(file.read_text())
+    by_value = (ast.Lt, ast.LtE, ast.Gt, ast.GtE, ast.Eq, ast.NotEq)
+    found = [one for one in ast.walk(tree) if isinstance(one, ast.Compare) and any(isinstance(op, by_value) for op in one.ops)]
+    return [f"{file.name} line {one.lineno}: {ast.unparse(one)}" for one in found if names_in(one) & BOUNDS]
+
+
+def test_the_search_finds_a_comparison(tmp_path: Path) -> None:
+    (tmp_path / "x.py").write_text("def f(a, low):\n    return a.upper is None or low >= 1\n")
+    assert compared(tmp_path / "x.py") == ["x.py line 2: low >= 1"]
+
+
+def test_no_other_module_compares_bounds() -> None:
+    package = Path(__file__).resolve().parents[2] / "python/mcf"
+    modules = [file for file in package.rglob("*.py") if file.relative_to(package).parts[0] not in (*WITHOUT, "ranges.py")]
+    assert len(modules) > 80
+    assert [place for file in modules for place in compared(file)] == []

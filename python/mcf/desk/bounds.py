@@ -8,11 +8,11 @@ from fractions import Fraction
 
 from ..errors import McfError
 from ..ranges import Answer, Range, fits
-from ..report.shown import joined, percent_down, percent_up
+from ..report.extremes import TONES, fraction_words
+from ..report.shown import joined
 
 _BOUNDS = re.compile(r"(?:(?:valid|sweep|show)\b.* )?lower (\d+/[1-9]\d*) (\S+) upper (\d+/[1-9]\d*) (\S+)")
 VERDICTS = {Answer.YES: "All demands fit", Answer.NO: "Not all demands fit", Answer.OPEN: "Not decided whether all demands fit"}
-TONES = {Answer.YES: "good", Answer.NO: "bad", Answer.OPEN: "open"}
 SHORT = {Answer.YES: "yes", Answer.NO: "no", Answer.OPEN: "not decided"}
 
 
@@ -62,8 +62,4 @@ def bounds_of(line: str) -> Bounds:
 
 def spread(of: Range) -> str:
     """From where to where the fraction of every demand lies, in percent."""
-    if of.upper == 0:
-        return "some demand has no way at all"
-    if of.lower == 0:
-        return joined(f"at most {percent_up(of.upper)} of every demand")
-    return joined(f"{percent_down(of.lower)} to {percent_up(of.upper)} of every demand")
+    return joined(fraction_words(of))

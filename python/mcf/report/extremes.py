@@ -4,8 +4,11 @@ from __future__ import annotations
 
 from collections.abc import Callable, Sequence
 
-from ..ranges import Case, Extreme, Range
+from ..ranges import Answer, Case, Extreme, Range
 from .shown import counted, percent_down, percent_up
+
+TONES = {Answer.YES: "good", Answer.NO: "bad", Answer.OPEN: "open"}
+"""The colour of an answer on pages."""
 
 FEW = 3
 """How many of many names are named."""
@@ -13,9 +16,9 @@ FEW = 3
 
 def fraction_words(bounds: Range) -> str:
     """From where to where the fraction lies, in percent."""
-    if bounds.upper == 0:
+    if bounds.is_nothing:
         return "some demand has no way at all"
-    if bounds.lower == 0:
+    if bounds.shows_nothing:
         return f"at most {percent_up(bounds.upper)} of every demand"
     return f"{percent_down(bounds.lower)} to {percent_up(bounds.upper)} of every demand"
 

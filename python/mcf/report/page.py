@@ -12,8 +12,10 @@ import jinja2
 
 from mcf import ScaledNetwork, version
 
+from ..ranges import fits_by, spare
 from . import sentences, shown
 from .drawing import CLASSES, CLOSED, OVER, UNUSED, Drawing, drawing
+from .extremes import TONES
 from .figures import DemandFigures, Figures, LinkFigures
 from .layout import layout
 from .summary import Summary
@@ -62,7 +64,7 @@ class Side:
         """The colour of the sentence."""
         low, high = self.figures.lower, self.figures.upper
         all_of_it = Fraction(self.figures.total if self.figures.is_total else 1)
-        return "good" if low >= all_of_it else "open" if high is None or high >= all_of_it else "bad"
+        return TONES[fits_by(low, high, all_of_it)]
 
     @property
     def growth(self) -> str:
@@ -78,8 +80,9 @@ class Side:
         cards = [("Carried of every demand", shown.percent_down(low) if low else "0.0 %")]
         if high is not None:
             cards.append(("No routing carries more than", shown.percent_up(high)))
-        if low >= 1:
-            cards.append(("Headroom of all demands", shown.percent_down(low - 1) if low > 1 else "0.0 %"))
+        left = spare(low)
+        if left is not None:
+            cards.append(("Headroom of all demands", shown.percent_down(left)))
         cards.append(("Maximum link utilisation", sentences.peak(self.figures) if self.figures.text.phases else "–"))
         cards.append(("All demands together", f"{shown.amount(self.figures.total)} {self.unit}".strip()))
         return cards

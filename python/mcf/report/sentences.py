@@ -4,7 +4,7 @@ from __future__ import annotations
 
 from fractions import Fraction
 
-from ..ranges import Answer, Range, fits
+from ..ranges import Answer, Range, fits, fits_by, spare
 from .figures import Figures
 from .shown import amount, amount_down, amount_up, counted, name, percent, percent_down, percent_up
 
@@ -47,18 +47,21 @@ def _carried(low: Fraction, what: str = "every demand") -> str:
 
 
 def _spare(low: Fraction) -> str:
-    return " with nothing to spare" if low == 1 else f" with {percent_down(low - 1)} to spare"
+    left = spare(low)
+    return f" with {percent_down(left)} to spare" if left else " with nothing to spare"
 
 
 def _front(low: Fraction) -> str:
     """What paths carry by themselves."""
-    return f"Every demand fits{_spare(low)} on these paths" if low >= 1 else f"These paths carry {percent_down(low)} of every demand"
+    if fits_by(low) is Answer.YES:
+        return f"Every demand fits{_spare(low)} on these paths"
+    return f"These paths carry {percent_down(low)} of every demand"
 
 
 def _routed(bounds: Range) -> str:
     """What paths show beside the bound of a certificate of the same network."""
     high = bounds.upper
-    most = f"gives more than {percent_up(high - 1)} to spare" if bounds.lower >= 1 else f"carries more than {percent_up(high)}"
+    most = f"gives more than {percent_up(high - 1)} to spare" if fits(bounds) is Answer.YES else f"carries more than {percent_up(high)}"
     return f"{_front(bounds.lower)}; no routing {most}."
 
 

@@ -13,6 +13,7 @@ from mcf.judged import Judged, NotValid, judge
 from mcf.matrices import answers, is_batch, matrices, unit_of, with_demands
 from mcf.network import Network
 from mcf.output import contents
+from mcf.ranges import are_equal
 from mcf.scaled import ScaledNetwork
 
 from .figures import Figures
@@ -95,7 +96,8 @@ def _require_same(figures: Figures, found: Judged) -> None:
     low, high = figures.lower, figures.upper
     units = 10**figures.scaled.decimals if figures.is_total else 1
     bounds = found.range if figures.is_certificate else None
-    if low * units != found.lower or (bounds is not None and (high is None or high * units != bounds.upper)):
+    pairs = [(low * units, found.lower)] + ([(None if high is None else high * units, bounds.upper)] if bounds else [])
+    if not are_equal(pairs):
         raise TextError(f"internal error: the figures are not those that the check tells: {found.line}")
 
 

@@ -19,6 +19,7 @@ from mcf.lp.prices import Bounds
 from mcf.lp.problem import Arcs, Pairs, pairs_of
 from mcf.lp.rounding import Rounding
 from mcf.lp.search import AllPaths
+from mcf.ranges import Range, least_loss
 
 from .shortest import Walk, Ways
 from .shown import few_digits_up
@@ -41,9 +42,10 @@ def split_over_few(scaled: ScaledNetwork, ways: Ways, count: int, deadline: floa
     aim = _aim(amounts, capacities, matrix.T.tocsr(), np.array(pool.pair), optimum.last_prices, optimum.carried)
     rounding = Rounding(matrix, np.array(pool.pair), amounts, capacities, optimum.flows)
     whole = rounding.best(aim, aim, max(deadline, time.monotonic() + 1))
-    if whole.lower < aim:
-        part = few_digits_up(1 - whole.lower / aim)
-        notes.append(f"in whole units it is by at most {part} of it below the best split over these paths, as the linear program has it")
+    lost = least_loss(Range(whole.lower, whole.lower), Range(aim, aim))
+    if lost:
+        notes.append(f"in whole units it is by at most {few_digits_up(lost)} of it below the best split over these paths, as the linear "
+                     "program has it")
     return whole.phases, shares_of_demands(scaled, pairs, pool, whole)
 
 

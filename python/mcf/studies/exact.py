@@ -26,10 +26,10 @@ from ..lp.problem import Arcs, Pairs, Walk
 from ..lp.rounding import Whole
 from ..lp.start import pool_of, start_phases, step_for
 from ..network import Network
-from ..scaled import ScaledNetwork, scale
+from ..scaled import ScaledNetwork
 from .children import Program
 from .scenarios import Asked
-from .work import Found, judged, solved
+from .work import Found, judged, scaled_of, solved
 
 MOST_WALKS = 8
 """How many walks of two nodes are kept: those that carried something last."""
@@ -71,11 +71,8 @@ _known: OrderedDict[tuple[str, str, str], Known] = OrderedDict()
 
 def exact(mcf: Program, network: Network, text: bytes, asked: Asked, ground: str, _: str) -> Found:
     """What is known of a network, to a millionth or to the gap that is asked for; refused as `mcf solve` does."""
-    try:
-        scaled = scale(network, asked.links, asked.modules)
-    except TextError:
-        return solved(mcf, text, asked)
-    if not scaled.commodities:
+    scaled = scaled_of(network, asked)
+    if scaled is None:
         return solved(mcf, text, asked)
     known = _known_of((ground, asked.links, asked.modules))
     try:

@@ -16,6 +16,8 @@ from .. import version
 from ..commands import judgement_of, sentence_of
 from ..errors import TextError
 from ..network import Demand, Network, read_network, write_network
+from ..ranges import Range
+from ..scaled import ScaledNetwork, scale
 from .children import Answer, Ended, Program, program
 from .scenarios import Asked, Change, changed, demands_of, unpacked
 
@@ -52,7 +54,8 @@ class Task:
 class Found:
     """What is known of one network: a verdict, the line of its judge or the refusal, bounds as fractions, and the certificate.
 
-    The certificate is packed once it is sent. The verdict is closed, open or feasible, as the line of the judge has it; or it was refused, or failed; or nothing was left to route.
+    The certificate is packed once it is sent. The verdict is closed, open or feasible, as the line of the judge has it; or it was refused,
+    or failed; or nothing was left to route.
     """
 
     verdict: str
@@ -64,7 +67,7 @@ class Found:
     @property
     def carries_nothing(self) -> bool:
         """Whether its bounds say that nothing is carried of some demand."""
-        return bool(self.upper) and Fraction(self.upper) == 0
+        return bool(self.upper) and Range(Fraction(self.lower), Fraction(self.upper)).is_nothing
 
 
 @dataclass(frozen=True)
@@ -141,6 +144,15 @@ def _otherwise(routing: str) -> Callable[[Program, Network, bytes, Asked, str, s
         return exact
     from .rules import by_rule
     return by_rule
+
+
+def scaled_of(network: Network, asked: Asked) -> ScaledNetwork | None:
+    """A network in units; None where it is refused, or has nothing to carry, of which `mcf solve` then tells."""
+    try:
+        scaled = scale(network, asked.links, asked.modules)
+    except TextError:
+        return None
+    return scaled if scaled.commodities else None
 
 
 def solved(mcf: Program, text: bytes, asked: Asked) -> Found:
