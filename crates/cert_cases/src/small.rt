@@ -12,7 +12,9 @@ use std::alloc::{AllocError, Global};
 /// Which path rows a certificate has.
 #[derive(Clone, Copy)]
 pub enum Paths {
+    /// None.
     Missing,
+    /// One row that goes over the link once.
     Once,
     /// One row that goes over the link twice.
     Twice,
@@ -25,31 +27,52 @@ pub enum Paths {
 /// Which rows of potentials a certificate has.
 #[derive(Clone, Copy)]
 pub enum Rows {
+    /// None.
     Missing,
+    /// One row, of the demand's source.
     Source,
+    /// That row twice.
     SourceTwice,
+    /// A row of the source, and one of the target.
     BothEnds,
 }
 
 /// The numbers of a certificate of one link from A to B, with one demand.
 #[derive(Clone, Copy)]
 pub struct Case {
+    /// The capacity of the link, in units.
     pub cap: u64,
+    /// Whether the link goes both ways.
     pub both: bool,
+    /// The amount of the demand, in units.
     pub amount: u64,
+    /// How many phases the certificate says.
     pub phases: u32,
+    /// The first number of its scale.
     pub scale_cap: u64,
+    /// The second number of its scale.
     pub scale_load: u64,
+    /// Its path rows.
     pub paths: Paths,
+    /// The weight of each path row, in units.
     pub weight: u64,
+    /// How many rows of lengths it has, each of the link.
     pub length_rows: u32,
+    /// The length in each of them.
     pub size: u64,
+    /// Its rows of potentials.
     pub rows: Rows,
+    /// The potential of A in each of them.
     pub near: u64,
+    /// The potential of B in each of them.
     pub far: u64,
+    /// Its lower fraction.
     pub lower: Printed,
+    /// Its upper fraction.
     pub upper: Printed,
+    /// Its gap, in millionths.
     pub gap: u64,
+    /// Whether it says that it is closed.
     pub closed: bool,
 }
 

@@ -41,18 +41,22 @@ pub enum Fault {
 /// The verdict on a certificate, with its fractions.
 #[derive(Clone, Copy)]
 pub enum Verdict {
+    /// All conditions hold: the fractions of its routing and of its bound, and whether they lie within the gap.
     Valid {
         lower: Frac,
         upper: Frac,
         closed: bool,
     },
+    /// The first condition that fails.
     Invalid(Fault),
 }
 
 /// Why a routing has no fraction.
 #[derive(Clone, Copy, Debug, PartialEq, Eq)]
 pub enum RouteEnd {
+    /// The first condition that fails.
     Invalid(Fault),
+    /// Memory ran out.
     Memory,
 }
 

@@ -15,6 +15,8 @@ pub enum Refusal {
 /// Why a text was not read to its end.
 #[derive(Clone, Copy)]
 pub enum ReadEnd {
+    /// The network or the text is refused.
     Refused(Refusal),
+    /// Memory ran out.
     Memory,
 }

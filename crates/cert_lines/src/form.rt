@@ -4,6 +4,8 @@
 /// second.
 #[derive(Clone, Copy, Debug, PartialEq, Eq)]
 pub enum Form {
+    /// By the id of its link, so a link has one cell.
     First,
+    /// By a sign for the way that it goes, and the id of its link.
     Second,
 }

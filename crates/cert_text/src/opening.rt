@@ -19,7 +19,9 @@ use unit_scale::{
 /// What a text is of: a certificate, or a routing alone.
 #[derive(Clone, Copy, Debug, PartialEq, Eq)]
 pub enum Kind {
+    /// A routing with a bound.
     Certificate,
+    /// A routing alone.
     Routing,
 }
 
@@ -35,16 +37,22 @@ pub enum Known {
 /// What a first line says.
 #[derive(Clone, Copy, Debug, PartialEq, Eq)]
 pub struct Opening {
+    /// What the text is of.
     pub kind: Kind,
+    /// How the text spells cells.
     pub form: Form,
 }
 
 /// The kind of a text, its form, and how links and modules are read.
 #[derive(Clone, Copy, Debug, PartialEq, Eq)]
 pub struct CertHead {
+    /// What the text is of.
     pub kind: Kind,
+    /// How it spells cells.
     pub form: Form,
+    /// How links are read.
     pub links: LinkMode,
+    /// What modules add to capacities.
     pub modules: ModuleMode,
 }
 

@@ -23,7 +23,9 @@ use unit_scale::Scaled;
 /// What a text is of: a routing alone, or a whole certificate.
 #[derive(Drop)]
 pub enum Paper {
+    /// A routing alone.
     Routing(Routing),
+    /// A whole certificate.
     Full(Proof),
 }
 

@@ -12,7 +12,9 @@ use text_lines::split_line;
 /// What is left of a text, and the number of its first line.
 #[derive(Clone, Copy)]
 pub struct Place<'a> {
+    /// The number of the next line, from 1 on.
     pub at: u32,
+    /// The bytes from that line on.
     pub rest: &'a [u8],
 }
 

@@ -7,7 +7,7 @@ use crate::post::Mate;
 use std::sync::atomic::AtomicBool;
 use std::thread::{Threads, join_mut};
 
-/// Stays beside another thread, unless that was done.
+// Stays beside another thread, unless that was done.
 fn stay_once<J: Job>(mate: &mut Option<Mate<'_, J>>, closed: &AtomicBool) {
     if let Some(mate) = mate.take() {
         mate.stay(closed);

@@ -63,7 +63,7 @@ impl<'a, J: Job> Crew<'a, J> {
     }
 }
 
-/// Works on the job here.
+// Works on the job here.
 fn work_one<J: Job>(job: &mut Option<J>)
     requires { Waits J.asks job.old }
     ensures { IsWorked J.does job.old job.new }
@@ -74,7 +74,7 @@ fn work_one<J: Job>(job: &mut Option<J>)
     }
 }
 
-/// Works on all jobs here.
+// Works on all jobs here.
 fn work_all<J: Job>(jobs: &mut [Option<J>])
     requires { (k : ℕ) (d : _) → k < length jobs.old → Waits J.asks (slice_index_or jobs.old k d) }
     ensures { (k : ℕ) (d : _) → k < length jobs.old
@@ -85,7 +85,7 @@ fn work_all<J: Job>(jobs: &mut [Option<J>])
     }
 }
 
-/// Hands the job over, unless the thread that is to take it has gone: then it stays.
+// Hands the job over, unless the thread that is to take it has gone: then it stays.
 fn hand_over<J: Job>(end: &mut End<'_, J>, job: &mut Option<J>) -> bool
     requires { Waits J.asks job.old }
     ensures out { IsTrue result → (end.new.out ≡ true) × IsOut job.old end.new.seat.me.0 × (job.new ≡ None) }
@@ -104,7 +104,7 @@ fn hand_over<J: Job>(end: &mut End<'_, J>, job: &mut Option<J>) -> bool
     }
 }
 
-/// Works on all jobs: on each of the first with the thread of an end, and on the others here, after a call of `lead`.
+// Works on all jobs: on each of the first with the thread of an end, and on the others here, after a call of `lead`.
 #[cycle(work_from)]
 fn work_from<J: Job, T, F: FnMut() -> T>(
     ends: &mut [End<'_, J>],
@@ -129,7 +129,7 @@ fn work_from<J: Job, T, F: FnMut() -> T>(
     }
 }
 
-/// Works on the job with the thread of the end, and on the rest meanwhile.
+// Works on the job with the thread of the end, and on the rest meanwhile.
 #[cycle(work_from)]
 fn hand_and_lead<J: Job, T, F: FnMut() -> T>(
     end: &mut End<'_, J>,

@@ -23,11 +23,11 @@ const AWAY: u64 = 3;
 
 const TAKEN: u64 = 4;
 
-/// How often the owner looks for a job that is under way before it gives it up: minutes of the processor, which take longer where that is
-/// busy.
+// How often the owner looks for a job that is under way before it gives it up: minutes of the processor, which take longer where that is
+// busy.
 const LOOKS: u64 = SOON + 200_000;
 
-/// How often a thread has a job or looks for one in vain before it goes for good, which no run comes to.
+// How often a thread has a job or looks for one in vain before it goes for good, which no run comes to.
 const ROUNDS: u64 = 1 << 32;
 
 /// A seat at a post.
@@ -131,17 +131,17 @@ impl<'a, J: Job> End<'a, J> {
         }
     }
 
-    /// Whether the job that is out waits for its thread. No proof rests on what this tells.
+    // Whether the job that is out waits for its thread. No proof rests on what this tells.
     fn is_waiting(&self) -> bool {
         self.post.word() == HANDED
     }
 
-    /// Whether the job that is out may be taken back. No proof rests on what this tells.
+    // Whether the job that is out may be taken back. No proof rests on what this tells.
     fn is_done(&self) -> bool {
         self.post.word() == DONE
     }
 
-    /// Takes back the job that is out, if no thread has begun it.
+    // Takes back the job that is out, if no thread has begun it.
     fn recall(&mut self) -> Option<J>
         requires { self.old.out ≡ true }
         ensures job { IfSome result (IsAsGiven J.asks self.old.seat.me) }
@@ -155,7 +155,7 @@ impl<'a, J: Job> End<'a, J> {
         shared.exchange(&mut self.seat, 0, None)
     }
 
-    /// Takes back what was made of the job that is out, if that is done.
+    // Takes back what was made of the job that is out, if that is done.
     fn take_back(&mut self) -> Option<J>
         requires { self.old.out ≡ true }
         ensures made { IfSome result (IsMade J.does self.old.seat.me) }
@@ -169,7 +169,7 @@ impl<'a, J: Job> End<'a, J> {
         shared.exchange(&mut self.seat, 0, None)
     }
 
-    /// Waits for what a thread makes of the job that is out and under way. `None` where it has been under way for all looks.
+    // Waits for what a thread makes of the job that is out and under way. `None` where it has been under way for all looks.
     fn wait_back(&mut self) -> Option<J>
         requires { self.old.out ≡ true }
         ensures { IfSome result (IsMade J.does self.old.seat.me) }
@@ -216,12 +216,12 @@ impl<'a, J: Job> Mate<'a, J> {
         shared.compare_exchange::<Unchanged>(&mut self.seat, 0, FREE, AWAY) == FREE
     }
 
-    /// Whether a job waits. No proof rests on what this tells.
+    // Whether a job waits. No proof rests on what this tells.
     fn has_job(&self) -> bool {
         self.post.word() == HANDED
     }
 
-    /// Works on the job that waits, if one does.
+    // Works on the job that waits, if one does.
     fn serve(&mut self) -> bool {
         let shared = &self.post.table.shared;
         if shared.compare_exchange::<TakeJob>(&mut self.seat, 0, HANDED, TAKEN) != HANDED {
@@ -235,12 +235,12 @@ impl<'a, J: Job> Mate<'a, J> {
         true
     }
 
-    /// Whether it is told to go, and goes: not while a job waits.
+    // Whether it is told to go, and goes: not while a job waits.
     fn goes_at(&mut self, closed: &AtomicBool) -> bool {
         closed.load(Ordering::SeqCst) && (self.go() || self.post.word() == DONE)
     }
 
-    /// Works on the next job, or goes where it is told to or looks for one in vain: whether it stays.
+    // Works on the next job, or goes where it is told to or looks for one in vain: whether it stays.
     fn serve_next(&mut self, closed: &AtomicBool) -> bool {
         for looks in 0..SOON {
             if self.has_job() && self.serve() {

@@ -15,7 +15,7 @@ use flow_paths::Dual;
 use std::alloc::{AllocError, Global};
 use std::thread::Threads;
 
-/// Which nodes are on the side at the place.
+// Which nodes are on the side at the place.
 fn marks_at(alloc: Global, nodes: u16, own: &[&Dual], place: Place) -> Result<Vec<bool>, AllocError>
     requires { IsPlace nodes (seen own.now) place }
     ensures len { IfOk result (λ v. length v.items ≡ nodes) }
@@ -28,7 +28,7 @@ fn marks_at(alloc: Global, nodes: u16, own: &[&Dual], place: Place) -> Result<Ve
     }
 }
 
-/// The dual that was chosen.
+// The dual that was chosen.
 fn chosen_dual(
     alloc: Global,
     net: &Net,

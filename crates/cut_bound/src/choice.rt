@@ -11,7 +11,9 @@ use std::cmp::Ordering;
 /// A row of potentials: that of a dual, both by number.
 #[derive(Clone, Copy)]
 pub struct RowPlace {
+    /// The number of the dual, from 0 on.
     pub dual: usize,
+    /// The number of the row among its potentials, from 0 on.
     pub row: usize,
 }
 
@@ -27,26 +29,33 @@ pub enum Place {
 /// A cut with the capacity of what leaves it and the amount of who crosses.
 #[derive(Clone, Copy)]
 pub struct SummedCut {
+    /// Where it is.
     pub place: Place,
+    /// The capacity of all cells that leave it, in units.
     pub leaving: u64,
+    /// The amount of all commodities that have to leave it, in units.
     pub crossing: u64,
 }
 
 /// Which bound is the best so far: the own one of a dual, by number, or that of a cut.
 #[derive(Clone, Copy)]
 pub enum Choice {
+    /// That of the dual of this number.
     Own(usize),
+    /// That of a cut.
     Cut(Place),
 }
 
 /// The best so far, with its value.
 #[derive(Drop)]
 pub struct Best {
+    /// The bound: no routing carries a greater fraction.
     pub value: Frac,
+    /// Where it comes from.
     pub choice: Choice,
 }
 
-/// What leaves over who crosses.
+// What leaves over who crosses.
 fn value_of(cut: &SummedCut) -> Frac
     requires { IsCrossed cut.now }
     ensures { result ≡ value_of cut.now }
@@ -54,7 +63,7 @@ fn value_of(cut: &SummedCut) -> Frac
     Frac::new(u128::from(cut.leaving), u128::from(cut.crossing))
 }
 
-/// Takes the cut where some commodity crosses and its value is below the best so far.
+// Takes the cut where some commodity crosses and its value is below the best so far.
 fn consider(best: &mut Best, cut: &SummedCut)
     ensures { best.new ≡ kept best.old cut.now }
 {
@@ -88,7 +97,7 @@ pub fn consider_all(best: &mut Best, cuts: &[SummedCut])
     }
 }
 
-/// Of two cuts the lesser, the first of equals.
+// Of two cuts the lesser, the first of equals.
 fn lesser(first: SummedCut, second: SummedCut) -> SummedCut
     requires first { IsCrossed first }
     requires second { IsCrossed second }
@@ -101,7 +110,7 @@ fn lesser(first: SummedCut, second: SummedCut) -> SummedCut
     first
 }
 
-/// The first of the least so far, with one cut more.
+// The first of the least so far, with one cut more.
 fn least_with(least: Option<SummedCut>, cut: SummedCut) -> Option<SummedCut>
     requires { IfSome least IsCrossed }
     ensures value { result ≡ least_with least cut }

@@ -15,7 +15,7 @@ use flow_model::{Cell, Net};
 use mcf_limits::{MAX_CELLS, MAX_NODES, MAX_UNITS};
 use std::alloc::{AllocError, Global};
 
-/// The cuts out of each node, or into each.
+// The cuts out of each node, or into each.
 fn cuts_one_way(
     alloc: Global,
     net: &Net,
@@ -41,7 +41,7 @@ fn cuts_one_way(
     Ok(cuts)
 }
 
-/// One of the first, one of the second, and so on.
+// One of the first, one of the second, and so on.
 fn woven(
     alloc: Global,
     first: &[SummedCut],
@@ -78,7 +78,7 @@ pub fn node_cuts(
     woven(alloc, &out, &into)
 }
 
-/// The row's numbers above its least, each once, ascending.
+// The row's numbers above its least, each once, ascending.
 fn levels_of(alloc: Global, values: &[u64]) -> Result<Vec<u64>, AllocError>
     ensures levels { IfOk result (λ v. AreLevels values.now v.items) }
     ensures few { IfOk result (λ v. length v.items ≤ length values.now) }
@@ -93,7 +93,7 @@ fn levels_of(alloc: Global, values: &[u64]) -> Result<Vec<u64>, AllocError>
     Ok(levels)
 }
 
-/// How many levels are at most the value.
+// How many levels are at most the value.
 fn rank_of(levels: &[u64], value: u64) -> u16
     requires few { length levels.now ≤ MAX_NODES }
     requires ascending { IsStrictlyIncreasing levels.now }
@@ -106,7 +106,7 @@ fn rank_of(levels: &[u64], value: u64) -> u16
     }
 }
 
-/// The rank of each node: how many levels are at most its potential.
+// The rank of each node: how many levels are at most its potential.
 fn ranks_of(alloc: Global, levels: &[u64], values: &[u64]) -> Result<Vec<u16>, AllocError>
     requires few { length levels.now ≤ MAX_NODES }
     requires ascending { IsStrictlyIncreasing levels.now }
@@ -122,7 +122,7 @@ fn ranks_of(alloc: Global, levels: &[u64], values: &[u64]) -> Result<Vec<u16>, A
     Ok(ranks)
 }
 
-/// The fronts of the row at these levels, with the sums at one place more each.
+// The fronts of the row at these levels, with the sums at one place more each.
 fn cuts_at(
     alloc: Global,
     row: RowPlace,

@@ -16,17 +16,18 @@ use mcf_limits::{MAX_CELLS, MAX_UNITS, MAX_WORKERS};
 use std::alloc::{AllocError, Global};
 use std::thread::Threads;
 
-/// A thread is started for no fewer steps than these, one for each cell and each demand of each row: they take some tenths of
-/// a millisecond, which is more than its start does.
+// A thread is started for no fewer steps than these, one for each cell and each demand of each row: they take some tenths of
+// a millisecond, which is more than its start does.
 const STEPS_OF_A_START: usize = 65_536;
 
 /// The first of the least fronts of a row, where some commodity crosses one.
 #[derive(Clone, Copy)]
 pub struct RowLeast {
+    /// The front; `None` where no commodity crosses one.
     pub cut: Option<SummedCut>,
 }
 
-/// What the fronts of the row come to.
+// What the fronts of the row come to.
 fn least_front(
     alloc: Global,
     net: &Net,
@@ -47,7 +48,7 @@ fn least_front(
     })
 }
 
-/// That of the row of that number, or nothing where memory is lacking.
+// That of the row of that number, or nothing where memory is lacking.
 fn slot_of(
     alloc: Global,
     net: &Net,
@@ -65,7 +66,7 @@ fn slot_of(
     }
 }
 
-/// Fills the slots of rows, of which the first has the number `first`. Those for which memory is lacking are left blank.
+// Fills the slots of rows, of which the first has the number `first`. Those for which memory is lacking are left blank.
 fn fill_slots(
     alloc: Global,
     net: &Net,
@@ -85,7 +86,7 @@ fn fill_slots(
     }
 }
 
-/// How many of so many rows one thread is to take, where each takes so many steps.
+// How many of so many rows one thread is to take, where each takes so many steps.
 fn share_of(rt: &impl Threads, rows: usize, steps: usize) -> usize
     ensures { 1 ≤ result }
 {
@@ -93,7 +94,7 @@ fn share_of(rt: &impl Threads, rows: usize, steps: usize) -> usize
     share.max(STEPS_OF_A_START / steps.max(1)).max(1)
 }
 
-/// Fills the slot of each row, in several threads where that pays. Those for which memory is lacking are left blank.
+// Fills the slot of each row, in several threads where that pays. Those for which memory is lacking are left blank.
 fn fill_all<R: Threads + Sync>(
     rt: &R,
     alloc: Global,
@@ -121,7 +122,7 @@ fn fill_all<R: Threads + Sync>(
     );
 }
 
-/// Considers what stands in the slots, one after the other. `Err` is for a blank one.
+// Considers what stands in the slots, one after the other. `Err` is for a blank one.
 fn consider_slots(best: &mut Best, slots: &[Option<RowLeast>]) -> Result<(), AllocError>
     ensures { OnOk result (AreConsidered slots.now best.old best.new) }
 {

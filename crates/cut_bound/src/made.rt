@@ -11,7 +11,7 @@ use flow_model::{Cell, Groups, Net};
 use flow_paths::Dual;
 use std::alloc::{AllocError, Global};
 
-/// Whether a node is on the side of the cut out of the other, or into it.
+// Whether a node is on the side of the cut out of the other, or into it.
 fn is_on_side(v: u16, node: u16, into: bool) -> bool
     ensures { result ≡ node_side into node v }
 {
@@ -63,7 +63,7 @@ fn side_length(side: &[bool], cell: &Cell) -> u64
     u64::from(does_leave(side, cell))
 }
 
-/// 1 for each cell that leaves the side, 0 for every other.
+// 1 for each cell that leaves the side, 0 for every other.
 fn with_side_lengths(alloc: Global, net: &Net, side: &[bool]) -> Result<Dual, AllocError>
     requires { length side.now ≡ net.now.nodes }
     ensures { IfOk result (λ dual. dual ≡ record {
@@ -89,7 +89,7 @@ fn potential(both: bool, from_side: bool, on_side: bool) -> u64
     }
 }
 
-/// The potentials in the row of a source.
+// The potentials in the row of a source.
 fn side_values(
     alloc: Global,
     both: bool,
@@ -124,7 +124,7 @@ pub fn side_dual(alloc: Global, net: &Net, both: bool, side: &[bool]) -> Result<
     Ok(dual)
 }
 
-/// The length rows of a dual.
+// The length rows of a dual.
 fn copied_lengths(alloc: Global, dual: &Dual) -> Result<Dual, AllocError>
     ensures { IfOk result (λ copy. copy ≡ record { lengths = dual.now.lengths; potentials = [] }) }
 {

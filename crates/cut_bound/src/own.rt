@@ -16,7 +16,7 @@ use gap_fraction::Frac;
 use std::alloc::{AllocError, Global};
 use std::cmp::Ordering;
 
-/// The sum of amount times distance.
+// The sum of amount times distance.
 fn distance(alloc: Global, net: &Net, dual: &Dual) -> Result<u128, AllocError>
     requires { IsDualOf net.now dual.now }
     ensures value { IfOk result (λ n.
@@ -38,7 +38,7 @@ pub fn own_value(alloc: Global, net: &Net, dual: &Dual) -> Result<Frac, AllocErr
     Ok(Frac::new(num, den))
 }
 
-/// Takes the dual of that number where its value is below the best so far.
+// Takes the dual of that number where its value is below the best so far.
 fn consider_own(best: &mut Best, value: Frac, i: usize)
     ensures { best.new
         ≡ (if fraction_le best.old.value value then best.old else record { value = value; choice = Own i }) }
@@ -68,7 +68,7 @@ pub fn best_own(alloc: Global, net: &Net, own: &[&Dual]) -> Result<Best, AllocEr
     Ok(best)
 }
 
-/// Appends the places of a dual's rows.
+// Appends the places of a dual's rows.
 fn push_rows(rows: &mut Vec<RowPlace>, own: &[&Dual], dual: usize) -> Result<(), AllocError>
     requires { dual < length own.now }
     ensures rows { OnOk result (map (row_at (seen own.now)) rows.new.items

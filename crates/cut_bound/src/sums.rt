@@ -67,7 +67,7 @@ fn arc_of(cell: &Cell, into: bool) -> Arc
     }
 }
 
-/// Adds up what each cell adds to the cuts round its ends.
+// Adds up what each cell adds to the cuts round its ends.
 fn add_arcs(cells: &[Cell], into: bool, table: &mut [u64])
     requires total { total_capacity cells.now ≤ MAX_CELLS * MAX_UNITS }
     requires cells { All (IsCell (length table.old)) cells.now }
@@ -116,7 +116,7 @@ fn span_of(ranks: &[u16], cell: &Cell) -> Span
     }
 }
 
-/// Adds up what begins and what ends at each rank.
+// Adds up what begins and what ends at each rank.
 fn add_spans(ranks: &[u16], cells: &[Cell], starts: &mut [u64], ends: &mut [u64])
     requires total { total_capacity cells.now ≤ MAX_CELLS * MAX_UNITS }
     requires cells { All (IsCell (length ranks.now)) cells.now }
@@ -134,7 +134,7 @@ fn add_spans(ranks: &[u16], cells: &[Cell], starts: &mut [u64], ends: &mut [u64]
     }
 }
 
-/// The running sums of what begins, less what ends.
+// The running sums of what begins, less what ends.
 fn running_sums(alloc: Global, starts: &[u64], ends: &[u64]) -> Result<Vec<u64>, AllocError>
     requires same { length ends.now ≡ length starts.now }
     requires steps { (level : ℕ → ℕ) × AreSteps level starts.now ends.now }

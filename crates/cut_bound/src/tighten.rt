@@ -19,7 +19,7 @@ use std::alloc::{AllocError, Global};
 use std::cmp::Ordering;
 use std::thread::Threads;
 
-/// The fraction of every amount that a routing carries.
+// The fraction of every amount that a routing carries.
 fn carried_fraction(routing: &Routing) -> Frac
     requires { HasFraction routing.now }
     ensures { result ≡ lower_of routing.now }
@@ -28,7 +28,7 @@ fn carried_fraction(routing: &Routing) -> Frac
     Frac::new(num, u128::from(routing.scale_load))
 }
 
-/// The one that carries more, the first of equals.
+// The one that carries more, the first of equals.
 fn greater(first: Routing, second: Routing) -> Routing
     requires first { HasFraction first }
     requires second { HasFraction second }
@@ -41,7 +41,7 @@ fn greater(first: Routing, second: Routing) -> Routing
     first
 }
 
-/// Of one or two the one that carries most, the first of equals.
+// Of one or two the one that carries most, the first of equals.
 fn greatest(first: Routing, second: Option<Routing>) -> Routing
     requires first { HasFraction first }
     requires second { IfSome second HasFraction }
@@ -53,7 +53,7 @@ fn greatest(first: Routing, second: Option<Routing>) -> Routing
     }
 }
 
-/// The routing of a certificate.
+// The routing of a certificate.
 fn routing_of(proof: Option<Proof>) -> Option<Routing>
     ensures { result ≡ option_map (λ p. p.routing) proof }
 {
@@ -63,7 +63,7 @@ fn routing_of(proof: Option<Proof>) -> Option<Routing>
     }
 }
 
-/// The best dual of one or two certificates and of their cuts.
+// The best dual of one or two certificates and of their cuts.
 fn least_dual<R: Threads + Sync>(
     rt: &R,
     alloc: Global,
@@ -82,7 +82,7 @@ fn least_dual<R: Threads + Sync>(
     }
 }
 
-/// The certificate of this routing and this dual.
+// The certificate of this routing and this dual.
 fn made_of(
     alloc: Global,
     net: &Net,

@@ -17,14 +17,18 @@ use std::snapshot::Snapshot;
 /// A way over a positive cell.
 #[derive(Clone, Copy, Debug, PartialEq, Eq)]
 pub struct Arc {
+    /// The number of the cell.
     pub cell: u16,
+    /// The node where it ends.
     pub to: u16,
 }
 
 /// The nodes that a cell joins. One without capacity joins its tail to itself, which is no way to another node.
 #[derive(Clone, Copy)]
 pub struct CellEnds {
+    /// The node where it begins.
     pub tail: u16,
+    /// The node where it ends.
     pub head: u16,
 }
 
@@ -58,7 +62,7 @@ impl Model for Graph {
         (IsTrue g.goes_back ↔ GoBothWays g.net.value.cells) };
 }
 
-/// The arc over this cell from the node, if one may go over it from there.
+// The arc over this cell from the node, if one may go over it from there.
 fn arc_of(cell: &Cell, number: u16, from: u16) -> Option<Arc>
     ensures { option_to_list result ≡ arcs_over cell.now number from }
 {
@@ -79,14 +83,14 @@ fn arc_of(cell: &Cell, number: u16, from: u16) -> Option<Arc>
     }
 }
 
-/// Whether each cell goes both ways.
+// Whether each cell goes both ways.
 fn go_both_ways(cells: &[Cell]) -> bool
     ensures { IsTrue result ↔ GoBothWays cells.now }
 {
     cells.iter().all(|cell| cell.both)
 }
 
-/// The ends of a cell.
+// The ends of a cell.
 fn ends_of(cell: &Cell) -> CellEnds
     ensures { result ≡ ends_of cell.now }
 {
@@ -97,7 +101,7 @@ fn ends_of(cell: &Cell) -> CellEnds
     }
 }
 
-/// Whether one goes from one node to the other over a cell with these ends, which is open back too if `both`.
+// Whether one goes from one node to the other over a cell with these ends, which is open back too if `both`.
 #[inline(always)]
 fn leads(ends: CellEnds, both: bool, from: u16, to: u16) -> bool
     ensures { IsTrue result → ((from ≡ ends.tail) × (to ≡ ends.head))
@@ -110,7 +114,7 @@ fn leads(ends: CellEnds, both: bool, from: u16, to: u16) -> bool
     first == from && last == to && (both || ahead)
 }
 
-/// The ends of each cell.
+// The ends of each cell.
 fn all_ends(alloc: Global, cells: &[Cell]) -> Result<Vec<CellEnds>, AllocError>
     ensures { IfOk result (λ ends. ends.items ≡ map ends_of cells.now) }
 {
@@ -121,7 +125,7 @@ fn all_ends(alloc: Global, cells: &[Cell]) -> Result<Vec<CellEnds>, AllocError>
     Ok(ends)
 }
 
-/// Appends the arcs from a node, in the order of cells.
+// Appends the arcs from a node, in the order of cells.
 fn append_arcs(cells: &[Cell], from: u16, arcs: &mut Vec<Arc>) -> Result<(), AllocError>
     requires { length cells.now ≤ MAX_CELLS }
     ensures { OnOk result (arcs.new.items ≡ arcs.old.items ++ arcs_from cells.now 0 from) }
@@ -134,7 +138,7 @@ fn append_arcs(cells: &[Cell], from: u16, arcs: &mut Vec<Arc>) -> Result<(), All
     Ok(())
 }
 
-/// The arcs from one place up to another.
+// The arcs from one place up to another.
 #[inline(always)]
 fn part(arcs: &[Arc], start: usize, end: usize) -> &[Arc]
     requires start { start ≤ end }
@@ -215,7 +219,7 @@ impl Graph {
             && (leads(ends, self.goes_back, from, to) || leads(ends, self.cells[at].both, from, to))
     }
 
-    /// The node's part of the list.
+    // The node's part of the list.
     #[inline(always)]
     fn arcs_at(&self, from: u16) -> &[Arc]
         requires { from < self.now.nodes }

@@ -6,15 +6,15 @@ ghost use Rattle.dijkstra_paths.specs.Heap.{AreInverse, HasHole, SameOpen};
 
 use mcf_limits::MAX_NODES;
 
-/// Whether an open node comes before another one: by its key, and where both have the same by its number. So nodes of one distance are
-/// gone on from in the same order, whichever was opened first.
+// Whether an open node comes before another one: by its key, and where both have the same by its number. So nodes of one distance are
+// gone on from in the same order, whichever was opened first.
 #[inline(always)]
 fn is_before(key: u64, node: u16, other_key: u64, other: u16) -> bool {
     // no branch on the comparison, which is as good as random
     (key < other_key) | ((key == other_key) & (node < other))
 }
 
-/// Puts the node into the free place.
+// Puts the node into the free place.
 #[inline(always)]
 fn fill(order: &mut [u16], place: &mut [u16], keys: &mut [u64], at: usize, node: u16, key: u64)
     requires hole { HasHole order.old place.old at node }
@@ -28,7 +28,7 @@ fn fill(order: &mut [u16], place: &mut [u16], keys: &mut [u64], at: usize, node:
     place[node as usize] = at as u16;
 }
 
-/// Moves the node up from the free place, past those that come after it.
+// Moves the node up from the free place, past those that come after it.
 #[inline(always)]
 fn rise(
     order: &mut [u16],
@@ -60,7 +60,7 @@ fn rise(
     fill(order, place, keys, at, node, key);
 }
 
-/// The child of the free place that comes before the other, where it comes before the given node too.
+// The child of the free place that comes before the other, where it comes before the given node too.
 #[inline(always)]
 fn first_child(
     order: &[u16],
@@ -94,7 +94,7 @@ fn first_child(
     }
 }
 
-/// Moves the node down from the first place, past those that come before it.
+// Moves the node down from the first place, past those that come before it.
 #[inline(always)]
 fn sink(order: &mut [u16], place: &mut [u16], keys: &mut [u64], count: usize, node: u16, key: u64)
     requires hole { HasHole order.old place.old 0 node }

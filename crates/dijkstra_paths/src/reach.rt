@@ -8,7 +8,7 @@ use crate::graph::{Arc, Graph};
 use flow_model::Net;
 use std::alloc::{AllocError, Global};
 
-/// Marks the ends of the arcs, and appends those that were not marked before to the nodes found.
+// Marks the ends of the arcs, and appends those that were not marked before to the nodes found.
 fn mark_ends(arcs: &[Arc], marks: &mut [bool], found: &mut Vec<u16>) -> Result<(), AllocError>
     requires { All (λ arc. arc.to < length marks.old) arcs.now }
     ensures marks { OnOk result (MarksEnds arcs.now marks.old marks.new found.old.items found.new.items) }
@@ -24,7 +24,7 @@ fn mark_ends(arcs: &[Arc], marks: &mut [bool], found: &mut Vec<u16>) -> Result<(
     Ok(())
 }
 
-/// A mark for each node, none of them set.
+// A mark for each node, none of them set.
 fn no_marks(alloc: Global, nodes: u16) -> Result<Vec<bool>, AllocError>
     ensures count { IfOk result (λ marks. length marks.items ≡ nodes) }
     ensures off { IfOk result (λ marks. (v : ℕ) → mark_at marks.items v ≡ false) }
@@ -32,7 +32,7 @@ fn no_marks(alloc: Global, nodes: u16) -> Result<Vec<bool>, AllocError>
     vec![in alloc; false; nodes as usize]
 }
 
-/// A row for each node, none of them filled.
+// A row for each node, none of them filled.
 fn no_rows(alloc: Global, nodes: u16) -> Result<Vec<Vec<bool>>, AllocError>
     ensures count { IfOk result (λ rows. length rows.items ≡ nodes) }
     ensures empty { IfOk result (λ rows. All (λ row. row.items ≡ []) rows.items) }
@@ -64,8 +64,8 @@ impl Graph {
         Ok(marks)
     }
 
-    /// Whether a walk over positive cells leads from one node to another. Each node is searched from at most once:
-    /// its marks are kept in its row.
+    // Whether a walk over positive cells leads from one node to another. Each node is searched from at most once:
+    // its marks are kept in its row.
     fn is_joined(
         &self,
         alloc: Global,

@@ -41,7 +41,7 @@ impl Model for Scratch {
     ghost invariant = { λ s. IsReady s.nodes s.from s.front s.path.items };
 }
 
-/// So many distances, of nodes that no walk reaches.
+// So many distances, of nodes that no walk reaches.
 fn unreached(alloc: Global, n: usize) -> Result<Vec<u64>, AllocError>
     ensures count { IfOk result (λ v. length v.items ≡ n) }
     ensures each { IfOk result (λ v. (k : ℕ) → k < length v.items → slice_index v.items k ≡ MAX_LENGTH) }
@@ -50,7 +50,7 @@ fn unreached(alloc: Global, n: usize) -> Result<Vec<u64>, AllocError>
     Ok(dist)
 }
 
-/// A front of so many nodes, before any search.
+// A front of so many nodes, before any search.
 fn new_front(alloc: Global, nodes: u16) -> Result<Front, AllocError>
     ensures front { IfOk result (IsFront nodes) }
     ensures blank { IfOk result (λ f. (v : ℕ) → v < length f.dist.items
@@ -66,7 +66,7 @@ fn new_front(alloc: Global, nodes: u16) -> Result<Front, AllocError>
     })
 }
 
-/// A tree for each node as a source, none of them told yet.
+// A tree for each node as a source, none of them told yet.
 fn blank_trees(alloc: Global, nodes: u16) -> Result<Vec<Tree>, AllocError> {
     let mut trees = Vec::with_capacity(alloc, nodes as usize)?;
     for _ in 0..nodes {
@@ -75,8 +75,8 @@ fn blank_trees(alloc: Global, nodes: u16) -> Result<Vec<Tree>, AllocError> {
     Ok(trees)
 }
 
-/// Finds the least distances from a node, from a tree on where this is one from there. `false` where it began at a tree and opened no
-/// node: then each node that was reached still stands behind the one that it was reached from, in the tree's order.
+// Finds the least distances from a node, from a tree on where this is one from there. `false` where it began at a tree and opened no
+// node: then each node that was reached still stands behind the one that it was reached from, in the tree's order.
 fn search_by(
     graph: &Graph,
     lengths: &[u64],
@@ -105,7 +105,7 @@ fn search_by(
     }
 }
 
-/// As `search_by`, then stores the new tree.
+// As `search_by`, then stores the new tree.
 fn search_along(
     graph: &Graph,
     lengths: &[u64],
@@ -130,7 +130,7 @@ fn search_along(
     }
 }
 
-/// The same, along the node's own tree where there is one, and else from nothing.
+// The same, along the node's own tree where there is one, and else from nothing.
 fn search_among(
     graph: &Graph,
     lengths: &[u64],
@@ -297,7 +297,7 @@ impl Scratch {
     }
 }
 
-/// What stands from a place on.
+// What stands from a place on.
 fn rest(path: &[u16], start: usize) -> &[u16]
     requires { start ≤ length path.now }
     ensures { result.now ≡ drop start path.now }
@@ -305,7 +305,7 @@ fn rest(path: &[u16], start: usize) -> &[u16]
     &path[start..]
 }
 
-/// Writes the cells of the steps to a node into the last places of the list, and answers where they begin.
+// Writes the cells of the steps to a node into the last places of the list, and answers where they begin.
 #[inline(always)]
 fn trace(steps: &[Step], from: u16, to: u16, list: &mut [u16]) -> usize
     requires room { length steps.now ≤ length list.old }

@@ -15,20 +15,24 @@ use crate::{Arc, Graph};
 use mcf_limits::{MAX_LENGTH, MAX_NODES};
 use std::hint::select_unpredictable;
 
-/// Up to so many cells for each node it pays to look at all ways to a node.
+// Up to so many cells for each node it pays to look at all ways to a node.
 const FEW_CELLS: usize = 2;
 
 /// The cell by which a node was reached, and the node before it.
 #[derive(Clone, Copy)]
 pub struct Step {
+    /// The number of the cell.
     pub cell: u16,
+    /// The node before.
     pub from: u16,
 }
 
 /// A node, and the step by which an earlier search reached it.
 #[derive(Clone, Copy)]
 pub struct Kept {
+    /// The node.
     pub node: u16,
+    /// The step that led to it.
     pub step: Step,
 }
 
@@ -36,15 +40,20 @@ pub struct Kept {
 /// heap of the open ones, with each node's place in it and the key of each place.
 #[derive(Drop)]
 pub struct Front {
+    /// The distance of each node; `MAX_LENGTH` for one that was not reached.
     pub dist: Vec<u64>,
+    /// The step to each node.
     pub steps: Vec<Step>,
+    /// All nodes, those that are open in front, as a heap.
     pub order: Vec<u16>,
+    /// The place of each node in that order.
     pub place: Vec<u16>,
+    /// The key of each place: the distance of its node.
     pub keys: Vec<u64>,
 }
 
-/// The lists of a front as slices. Only inlined functions take them, so that they stay in registers while lists are
-/// written, where those of a `&mut Front` would be read again.
+// The lists of a front as slices. Only inlined functions take them, so that they stay in registers while lists are
+// written, where those of a `&mut Front` would be read again.
 #[derive(Drop)]
 struct FrontSlices<'a> {
     dist: &'a mut [u64],
@@ -54,7 +63,7 @@ struct FrontSlices<'a> {
     keys: &'a mut [u64],
 }
 
-/// Goes over the arc from the node, where that is shorter, and gives the number of open nodes.
+// Goes over the arc from the node, where that is shorter, and gives the number of open nodes.
 #[inline(always)]
 fn relax(
     graph: &Graph,
@@ -98,7 +107,7 @@ fn relax(
     put(front.order, front.place, front.keys, count, arc.to, there)
 }
 
-/// Goes over all arcs from the node.
+// Goes over all arcs from the node.
 #[inline(always)]
 fn go_on(
     graph: &Graph,
@@ -130,7 +139,7 @@ fn go_on(
     count
 }
 
-/// Puts all nodes out of reach.
+// Puts all nodes out of reach.
 #[inline(always)]
 fn clear(dist: &mut [u64])
     ensures { (v : ℕ) → v < length dist.new → slice_index dist.new v ≡ MAX_LENGTH }
@@ -140,7 +149,7 @@ fn clear(dist: &mut [u64])
     }
 }
 
-/// Gives the node the distance over an earlier step to it, where that goes and is shorter than what is known.
+// Gives the node the distance over an earlier step to it, where that goes and is shorter than what is known.
 #[inline(always)]
 fn keep_step(
     graph: &Graph,
@@ -168,9 +177,9 @@ fn keep_step(
     }
 }
 
-/// Gives nodes the distances along an earlier tree, in its order: mostly nodes before those that were reached from them. It is a
-/// function of its own, as `look_along` and `open_nodes` are, so that its pointers stay in registers: within the whole search they are
-/// on the stack.
+// Gives nodes the distances along an earlier tree, in its order: mostly nodes before those that were reached from them. It is a
+// function of its own, as `look_along` and `open_nodes` are, so that its pointers stay in registers: within the whole search they are
+// on the stack.
 #[inline(never)]
 fn keep_steps(
     graph: &Graph,
@@ -191,7 +200,7 @@ fn keep_steps(
     }
 }
 
-/// A way over a cell at a node: the cell, the node at its other end, and how long it is from the source on, as far as that is known.
+// A way over a cell at a node: the cell, the node at its other end, and how long it is from the source on, as far as that is known.
 #[derive(Clone, Copy)]
 struct Way {
     cell: u16,
@@ -199,7 +208,7 @@ struct Way {
     long: u64,
 }
 
-/// The one way or the other, without a branch.
+// The one way or the other, without a branch.
 #[inline(always)]
 fn either(first: bool, one: Way, other: Way) -> Way
     ensures { result ≡ (if first then one else other) }
@@ -211,8 +220,8 @@ fn either(first: bool, one: Way, other: Way) -> Way
     }
 }
 
-/// The shortest of what is known of a node and the ways over the cells at it, as far as distances are known. Where cells go both ways,
-/// they lead to the node too. Of equally short ones it is the first, or that over the cell of the earlier step.
+// The shortest of what is known of a node and the ways over the cells at it, as far as distances are known. Where cells go both ways,
+// they lead to the node too. Of equally short ones it is the first, or that over the cell of the earlier step.
 #[inline(always)]
 fn shortest_way(graph: &Graph, lengths: &[u64], kept: Kept, dist: &[u64]) -> Way
     requires lengths { AreLengths graph.now.cells lengths.now }
@@ -243,7 +252,7 @@ fn shortest_way(graph: &Graph, lengths: &[u64], kept: Kept, dist: &[u64]) -> Way
     way
 }
 
-/// Gives the node the distance over the shortest of the ways to it over the cells at it, where that is shorter than what is known.
+// Gives the node the distance over the shortest of the ways to it over the cells at it, where that is shorter than what is known.
 #[inline(always)]
 fn come_near(
     graph: &Graph,
@@ -275,8 +284,8 @@ fn come_near(
     }
 }
 
-/// As `keep_steps`, but each node gets the shortest way over the cells at it, of which the earlier step is mostly one. Mostly these
-/// are the least distances, so few nodes are opened then. Each cell has to go both ways.
+// As `keep_steps`, but each node gets the shortest way over the cells at it, of which the earlier step is mostly one. Mostly these
+// are the least distances, so few nodes are opened then. Each cell has to go both ways.
 #[inline(never)]
 fn look_along(
     graph: &Graph,
@@ -298,14 +307,14 @@ fn look_along(
     }
 }
 
-/// Whether nodes have so few ways that it pays to look at all of them.
+// Whether nodes have so few ways that it pays to look at all of them.
 #[inline(always)]
 fn is_sparse(graph: &Graph) -> bool {
     graph.cells().len() <= FEW_CELLS * graph.nodes() as usize
 }
 
-/// Whether the distances of both ends lie further apart than the length of their cell, so that a way over it may be shorter than what is
-/// known.
+// Whether the distances of both ends lie further apart than the length of their cell, so that a way over it may be shorter than what is
+// known.
 #[inline(always)]
 fn are_apart(ends: CellEnds, long: u64, dist: &[u64]) -> bool
     requires ends { (ends.tail < length dist.now) × (ends.head < length dist.now) }
@@ -318,8 +327,8 @@ fn are_apart(ends: CellEnds, long: u64, dist: &[u64]) -> bool
     ahead.wrapping_sub(dist[ends.head as usize]) > long.wrapping_add(long)
 }
 
-/// The node from which the way over the cell of that number is shorter than what is known, if it is a positive cell with such a way. It
-/// is a function of its own, and takes the number, since it is called for few cells: so the loop over all of them has no pointer to each.
+// The node from which the way over the cell of that number is shorter than what is known, if it is a positive cell with such a way. It
+// is a function of its own, and takes the number, since it is called for few cells: so the loop over all of them has no pointer to each.
 #[inline(never)]
 fn nearer_from(graph: &Graph, lengths: &[u64], number: usize, dist: &[u64]) -> Option<u16>
     requires lengths { AreLengths graph.now.cells lengths.now }
@@ -347,8 +356,8 @@ fn nearer_from(graph: &Graph, lengths: &[u64], number: usize, dist: &[u64]) -> O
     None
 }
 
-/// Opens the node, which has a distance, and gives the number of open nodes. It is a function of its own, since it is called for few
-/// cells.
+// Opens the node, which has a distance, and gives the number of open nodes. It is a function of its own, since it is called for few
+// cells.
 #[inline(never)]
 fn open(
     node: u16,
@@ -371,7 +380,7 @@ fn open(
     put(order, place, keys, count, node, dist[node as usize])
 }
 
-/// Opens each node from which a way on is shorter than what is known, and gives the number of open nodes.
+// Opens each node from which a way on is shorter than what is known, and gives the number of open nodes.
 #[inline(never)]
 fn open_nodes(
     graph: &Graph,
@@ -404,7 +413,7 @@ fn open_nodes(
     count
 }
 
-/// Goes on from the open nodes until there are none.
+// Goes on from the open nodes until there are none.
 #[inline(always)]
 fn close_all(graph: &Graph, lengths: &[u64], from: u16, front: &mut FrontSlices, count: usize)
     requires lengths { AreLengths graph.now.cells lengths.now }
@@ -425,7 +434,7 @@ fn close_all(graph: &Graph, lengths: &[u64], from: u16, front: &mut FrontSlices,
     }
 }
 
-/// Puts all nodes but the first out of reach, and then at the distances along an earlier tree.
+// Puts all nodes but the first out of reach, and then at the distances along an earlier tree.
 #[inline(always)]
 fn begin(
     graph: &Graph,

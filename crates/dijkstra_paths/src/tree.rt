@@ -63,7 +63,7 @@ impl Tree {
     }
 }
 
-/// A step for each node, in the order of their numbers, none of them told yet.
+// A step for each node, in the order of their numbers, none of them told yet.
 fn blank_steps(alloc: Global, nodes: u16) -> Result<Vec<Kept>, AllocError> {
     let mut kept = Vec::with_capacity(alloc, nodes as usize)?;
     for node in 0..nodes {
@@ -92,7 +92,7 @@ impl ReorderBuffers {
     }
 }
 
-/// The step to the node, where there is one.
+// The step to the node, where there is one.
 #[inline(always)]
 fn step_to(steps: &[Step], node: u16) -> Kept {
     let at = node as usize;
@@ -104,21 +104,21 @@ fn step_to(steps: &[Step], node: u16) -> Kept {
     Kept { node, step }
 }
 
-/// Puts the step to each node in the place of its earlier one.
+// Puts the step to each node in the place of its earlier one.
 fn renew_steps(kept: &mut [Kept], steps: &[Step]) {
     for one in kept.iter_mut() {
         *one = step_to(steps, one.node);
     }
 }
 
-/// Whether the node has its place.
+// Whether the node has its place.
 #[inline(always)]
 fn is_placed(placed: &[bool], node: u16) -> bool {
     let at = node as usize;
     at < placed.len() && placed[at]
 }
 
-/// Marks the node as one that has its place.
+// Marks the node as one that has its place.
 #[inline(always)]
 fn mark(placed: &mut [bool], node: u16) {
     let at = node as usize;
@@ -127,8 +127,8 @@ fn mark(placed: &mut [bool], node: u16) {
     }
 }
 
-/// Puts the steps of a search to the front, in the tree's order, each whose node before has its place already, and gives
-/// the number of the others, which wait in the room. It is a function of its own, so that its pointers stay in registers.
+// Puts the steps of a search to the front, in the tree's order, each whose node before has its place already, and gives
+// the number of the others, which wait in the room. It is a function of its own, so that its pointers stay in registers.
 #[inline(never)]
 fn put_placed(kept: &mut [Kept], steps: &[Step], source: u16, room: &mut ReorderBuffers) -> usize {
     let placed = room.placed.as_mut_slice();
@@ -151,7 +151,7 @@ fn put_placed(kept: &mut [Kept], steps: &[Step], source: u16, room: &mut Reorder
     waiting
 }
 
-/// Puts the first so many steps that waited to the end.
+// Puts the first so many steps that waited to the end.
 fn put_late(kept: &mut [Kept], late: &[Kept], count: usize) {
     if count > late.len() || count > kept.len() {
         return;
@@ -172,7 +172,7 @@ pub(crate) fn numbers(alloc: Global, n: u16) -> Result<Vec<u16>, AllocError>
     Ok(numbers)
 }
 
-/// The distance of the node.
+// The distance of the node.
 #[inline(always)]
 fn dist_of(dist: &[u64], node: u16) -> u64 {
     let at = node as usize;
@@ -183,7 +183,7 @@ fn dist_of(dist: &[u64], node: u16) -> u64 {
     }
 }
 
-/// Moves the node at that place before those that are farther, among the nodes at places so far apart.
+// Moves the node at that place before those that are farther, among the nodes at places so far apart.
 fn settle(kept: &mut [Kept], dist: &[u64], place: usize, apart: usize)
     requires apart { 0 < apart }
     requires place { place < length kept.old }
@@ -199,7 +199,7 @@ fn settle(kept: &mut [Kept], dist: &[u64], place: usize, apart: usize)
     kept[at] = moved;
 }
 
-/// Puts the nodes at places so far apart into the order of their distances.
+// Puts the nodes at places so far apart into the order of their distances.
 fn sort(kept: &mut [Kept], dist: &[u64], apart: usize)
     requires { 0 < apart }
 {
@@ -208,7 +208,7 @@ fn sort(kept: &mut [Kept], dist: &[u64], apart: usize)
     }
 }
 
-/// Puts all nodes into the order of their distances, whatever order they are in.
+// Puts all nodes into the order of their distances, whatever order they are in.
 fn sort_anew(kept: &mut [Kept], dist: &[u64]) {
     for apart in [109, 41, 19, 5, 1] {
         sort(kept, dist, apart);

@@ -24,12 +24,14 @@ use std::thread::Threads;
 /// A dual, and the bound that it gives: volume over weighted distance.
 #[derive(Drop)]
 pub struct Bounded {
+    /// Its lengths and potentials.
     pub dual: Dual,
+    /// The bound: no routing carries a greater fraction.
     pub value: Frac,
 }
 
-/// The lesser of an earlier bound, if there is one, and that of these lengths and filled rows, whose dual is made only where it is the
-/// lesser: the rows give it their numbers, get the memory of the earlier one's rows, or new room, and are blank then. Its value is volume over weighted distance, not reduced.
+// The lesser of an earlier bound, if there is one, and that of these lengths and filled rows, whose dual is made only where it is the
+// lesser: the rows give it their numbers, get the memory of the earlier one's rows, or new room, and are blank then. Its value is volume over weighted distance, not reduced.
 fn lesser(
     alloc: Global,
     net: &Net,
@@ -60,7 +62,7 @@ fn lesser(
     Ok(Bounded { dual, value })
 }
 
-/// Fills rows anew with distances, each search from the tree of the one before. A row for which no memory was left is not filled.
+// Fills rows anew with distances, each search from the tree of the one before. A row for which no memory was left is not filled.
 fn refill<R: Threads + Sync>(
     team: &Team<'_, R>,
     alloc: Global,
@@ -114,7 +116,7 @@ pub fn lesser_of_rows(
     }
 }
 
-/// A row of marks for each source: 0 for what it reaches, 1 for what it does not.
+// A row of marks for each source: 0 for what it reaches, 1 for what it does not.
 fn cut_rows(alloc: Global, net: &Net, graph: &Graph) -> Result<Vec<Row>, AllocError>
     requires graph { graph.now ≡ net.now }
     ensures demands { IfOk result (λ rows. demands_of rows.items ≡ demands_in net.now) }
@@ -185,7 +187,7 @@ pub fn cut_bound(alloc: Global, net: &Net, graph: &Graph) -> Result<Bounded, All
     lesser(alloc, net, &lengths, &mut rows, None)
 }
 
-/// 1 for a cell without capacity, 0 for every other.
+// 1 for a cell without capacity, 0 for every other.
 fn lengths_of_cut(alloc: Global, cells: &[Cell]) -> Result<Vec<u64>, AllocError>
     ensures { IfOk result (λ lengths. lengths.items ≡ cut_lengths cells.now) }
 {

@@ -8,7 +8,7 @@ use flow_paths::Dual;
 use mcf_limits::{MAX_CELLS, MAX_LENGTH};
 use std::alloc::{AllocError, Global};
 
-/// A row for each length, in order of cells, in the memory of an earlier dual.
+// A row for each length, in order of cells, in the memory of an earlier dual.
 fn with_lengths(room: Dual, lengths: &[u64]) -> Result<Dual, AllocError>
     requires few { length lengths.now ≤ MAX_CELLS }
     requires small { All (λ n. n ≤ MAX_LENGTH) lengths.now }
@@ -36,7 +36,7 @@ pub fn assembled(alloc: Global, lengths: &[u64], rows: &[Row]) -> Result<Dual, A
     Ok(dual)
 }
 
-/// Appends the row, which is blank then, with other numbers.
+// Appends the row, which is blank then, with other numbers.
 fn give_row(alloc: Global, dual: &mut Dual, row: &mut Row) -> Result<(), AllocError>
     requires { All (λ n. n ≤ MAX_LENGTH) row.old.values.items }
     ensures dual { OnOk result (dual.new ≡ record

@@ -15,13 +15,15 @@ use mcf_limits::{MAX_LENGTH, MAX_NODES, MAX_TOTAL};
 use std::alloc::{AllocError, Global};
 use std::thread::Threads;
 
-/// From this product of rows and cells on the searches take longer than the start of a few threads.
+// From this product of rows and cells on the searches take longer than the start of a few threads.
 const WORK_OF_A_START: usize = 1 << 15;
 
 /// A node that a commodity goes to, and the commodity's amount.
 #[derive(Clone, Copy)]
 pub struct Target {
+    /// The node.
     pub to: u16,
+    /// The amount, in units.
     pub amount: u64,
 }
 
@@ -30,15 +32,21 @@ pub struct Target {
 /// tree is what the last search for distances left, where the next one begins.
 #[derive(Drop)]
 pub struct Row {
+    /// The node of the source.
     pub source: u16,
+    /// Where its commodities go to.
     pub targets: Vec<Target>,
+    /// Whether the row has its numbers.
     pub is_filled: bool,
+    /// The number of each node.
     pub values: Vec<u64>,
+    /// The sum over the targets, where the row is filled.
     pub weighted: u128,
+    /// What the last search for distances left.
     pub tree: Tree,
 }
 
-/// A blank row of the source with these targets, over so many nodes.
+// A blank row of the source with these targets, over so many nodes.
 fn row_with(alloc: Global, source: u16, nodes: u16, targets: Vec<Target>) -> Result<Row, AllocError>
     requires source { source < nodes }
     requires targets { All (λ t. t.to < nodes) targets.items }
@@ -67,7 +75,7 @@ pub fn blank_row(alloc: Global, source: u16, nodes: u16) -> Result<Row, AllocErr
     row_with(alloc, source, nodes, Vec::new(alloc))
 }
 
-/// Where the commodities of these numbers go to.
+// Where the commodities of these numbers go to.
 fn targets_at(
     alloc: Global,
     commodities: &[Commodity],
@@ -115,7 +123,7 @@ pub fn blank_all(rows: &mut [Row])
     }
 }
 
-/// Puts each node's distance in its place, and 2^62 where there is none.
+// Puts each node's distance in its place, and 2^62 where there is none.
 fn put_distances(scratch: &Scratch, values: &mut [u64])
     requires count { length values.old ≡ scratch.now.nodes }
     requires few { scratch.now.nodes ≤ MAX_NODES }
@@ -127,7 +135,7 @@ fn put_distances(scratch: &Scratch, values: &mut [u64])
     }
 }
 
-/// Amount times the target's number less the source's, or 0 where that is negative, over all targets.
+// Amount times the target's number less the source's, or 0 where that is negative, over all targets.
 fn weighted_sum(source: u16, targets: &[Target], values: &[u64]) -> u128
     requires source { source < length values.now }
     requires targets { All (λ t. t.to < length values.now) targets.now }
@@ -176,8 +184,8 @@ pub fn fill_rows(alloc: Global, graph: &Graph, lengths: &[u64], rows: &mut [Row]
     }
 }
 
-/// In how many threads the rows are to be filled, of at most so many: in one, where starting others would take longer
-/// than the searches. None stands for one.
+// In how many threads the rows are to be filled, of at most so many: in one, where starting others would take longer
+// than the searches. None stands for one.
 fn thread_count(rt: &impl Threads, cells: usize, rows: usize, most: u16) -> usize
     ensures some { 1 ≤ result }
     ensures few { result ≤ max most 1 }
@@ -222,7 +230,7 @@ pub fn fill_all<R: Threads + Sync>(
     );
 }
 
-/// Puts 0 for a node that was reached, and 1 for every other.
+// Puts 0 for a node that was reached, and 1 for every other.
 fn put_marks(reached: &[bool], values: &mut [u64])
     requires { length values.old ≡ length reached.now }
     ensures { (v : ℕ) → v < length reached.now

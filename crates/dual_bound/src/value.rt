@@ -10,7 +10,7 @@ use flow_model::Net;
 use flow_paths::volume;
 use gap_fraction::Frac;
 
-/// What the rows are weighted with, added up.
+// What the rows are weighted with, added up.
 fn weight(rows: &[Row]) -> u128
     requires { weight_of rows.now ≤ 2 ^ 108 }
     ensures { result ≡ weight_of rows.now }

@@ -13,11 +13,13 @@ use mcf_limits::MAX_LENGTH;
 /// The places at which loads changed: the first so many of a buffer.
 #[derive(Clone, Copy)]
 pub struct Changed<'a> {
+    /// The buffer.
     pub places: &'a [u16],
+    /// How many of its places count, from the front.
     pub count: usize,
 }
 
-/// Whether a number fell, or one did before.
+// Whether a number fell, or one did before.
 #[inline(always)]
 fn falls_too(falls: bool, old: u64, new: u64) -> bool
     ensures { result ≡ false → (falls ≡ false) × (old ≤ new) }
@@ -25,8 +27,8 @@ fn falls_too(falls: bool, old: u64, new: u64) -> bool
     falls | (new < old)
 }
 
-/// Puts the exponents of the cells at the changed places in their place, as far as they fit, and gives the greatest of
-/// all, where the greatest was this one and none fell. It is a function of its own, so that what it goes over stays in registers.
+// Puts the exponents of the cells at the changed places in their place, as far as they fit, and gives the greatest of
+// all, where the greatest was this one and none fell. It is a function of its own, so that what it goes over stays in registers.
 #[inline(never)]
 fn put_exponents(
     rated: &Rated<'_>,
@@ -64,7 +66,7 @@ fn put_exponents(
     if falls { None } else { Some(top) }
 }
 
-/// The greatest number, or 0 where there is none.
+// The greatest number, or 0 where there is none.
 fn greatest_of(numbers: &[u64]) -> u64
     ensures { result ≡ greatest numbers.now }
 {
@@ -75,7 +77,7 @@ fn greatest_of(numbers: &[u64]) -> u64
     top
 }
 
-/// The greatest of the numbers, looked for only where it is not known.
+// The greatest of the numbers, looked for only where it is not known.
 fn top_of(numbers: &[u64], known: Option<u64>) -> u64
     requires { IfSome known (λ top. greatest numbers.now ≡ top) }
     ensures { result ≡ greatest numbers.now }
@@ -86,8 +88,8 @@ fn top_of(numbers: &[u64], known: Option<u64>) -> u64
     }
 }
 
-/// Puts the exponents of the cells at the changed places in the place of those of before, as far as they fit, and gives
-/// the greatest exponent of all cells, which was this one. The other cells are gone over only where an exponent fell.
+// Puts the exponents of the cells at the changed places in the place of those of before, as far as they fit, and gives
+// the greatest exponent of all cells, which was this one. The other cells are gone over only where an exponent fell.
 fn follow_exponents(
     rated: &Rated<'_>,
     before: u128,
@@ -120,7 +122,7 @@ fn follow_exponents(
 }
 
 impl Powers {
-    /// Puts the lengths of the cells at the changed places in their place.
+    // Puts the lengths of the cells at the changed places in their place.
     fn put_changed_lengths(
         &self,
         rated: &Rated<'_>,
@@ -154,7 +156,7 @@ impl Powers {
         }
     }
 
-    /// Puts the length of each cell in its place, where every exponent was kept whole. It is a function of its own too.
+    // Puts the length of each cell in its place, where every exponent was kept whole. It is a function of its own too.
     #[inline(never)]
     fn put_near_lengths(&self, rated: &Rated<'_>, top: u64, kept: &[u64], into: &mut [u64])
         requires rated { AreRated rated.now.scale.now.setting rated.now.cells.now rated.now.least rated.now.rates.now }
@@ -175,7 +177,7 @@ impl Powers {
         }
     }
 
-    /// The same where an exponent may have been too great to be kept.
+    // The same where an exponent may have been too great to be kept.
     fn put_far_lengths(
         &self,
         rated: &Rated<'_>,

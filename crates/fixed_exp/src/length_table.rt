@@ -46,7 +46,7 @@ impl Model for LengthTable {
         t.lengths.items t.top t.least t.rates.items (length t.places.items) };
 }
 
-/// Puts each cell's rate in its place.
+// Puts each cell's rate in its place.
 fn put_rates(scale: &Scale, cells: &[Cell], least: u64, into: &mut [Rate])
     requires caps { All (λ cell. cell.cap ≤ MAX_UNITS) cells.now }
     requires least { (k : ℕ) → k < length cells.now → 1 ≤ (cell_at cells.now k).cap

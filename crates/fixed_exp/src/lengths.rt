@@ -43,7 +43,7 @@ pub fn exponents_of(scale: &Scale, cells: &[Cell], loads: &[u64], into: &mut [u6
 }
 
 impl Powers {
-    /// The length of a positive cell.
+    // The length of a positive cell.
     #[inline(always)]
     fn length(&self, drop: u128, least: u64, cap: u64) -> u64
         requires positive { 1 ≤ cap }
@@ -101,7 +101,7 @@ impl Powers {
         self.length(top - exponent, least, cell.cap)
     }
 
-    /// Puts each cell's length in the place of its exponent.
+    // Puts each cell's length in the place of its exponent.
     fn put_lengths(&self, scale: &Scale, top: u128, cells: &[Cell], loads: &[u64], into: &mut [u64])
         requires caps { All (λ cell. cell.cap ≤ MAX_UNITS) cells.now }
         requires loads { length loads.now ≡ length cells.now }

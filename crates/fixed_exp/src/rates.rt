@@ -16,18 +16,26 @@ use mcf_limits::{MAX_LENGTH, MAX_UNITS};
 /// these two cases the exponent takes a division.
 #[derive(Clone, Copy)]
 pub struct Rate {
+    /// What a load is divided by.
     pub below: u64,
+    /// What a unit of load adds to the exponent: the whole part.
     pub whole: u64,
+    /// The part of that below 1, in parts of 2^64.
     pub part: u64,
+    /// What a unit of weight adds to the length, in parts of 2^40.
     pub length: u64,
 }
 
 /// Cells with the rates that they have under a scale, and the least positive capacity.
 #[derive(Clone, Copy)]
 pub struct Rated<'a> {
+    /// The scale.
     pub scale: &'a Scale,
+    /// The least positive capacity, in units.
     pub least: u64,
+    /// The cells.
     pub cells: &'a [Cell],
+    /// The rate of each cell.
     pub rates: &'a [Rate],
 }
 
@@ -40,7 +48,7 @@ pub const NO_RATE: Rate = Rate {
 };
 
 impl Powers {
-    /// The length of a positive cell, without a division: the guess by the rate is the length, or one less.
+    // The length of a positive cell, without a division: the guess by the rate is the length, or one less.
     #[inline(always)]
     fn length_by_rate(&self, drop: u128, least: u64, cap: u64, rate: u64) -> u64
         requires positive { 1 ≤ cap }

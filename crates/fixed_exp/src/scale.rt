@@ -8,7 +8,7 @@ use crate::rates::{NO_RATE, Rate};
 use flow_model::{Cell, Setting};
 use mcf_limits::{MAX_LENGTH, MAX_UNITS};
 
-/// The greatest divisor of an exponent at which its rest tells the quotient in 64 bits.
+// The greatest divisor of an exponent at which its rest tells the quotient in 64 bits.
 const MOST_BELOW: u128 = 1 << 63;
 
 /// What a load is multiplied by and divided by, with the greatest load and capacity at which both products fit 64 bits.

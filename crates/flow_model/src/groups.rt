@@ -35,14 +35,14 @@ impl Model for Groups {
     ghost invariant = { λ g. AreGroups g.net.value g.sources.items g.starts.items g.members.items };
 }
 
-/// The first commodity of each node, and after each commodity the next one of the same source. Where there is none, the number of commodities.
+// The first commodity of each node, and after each commodity the next one of the same source. Where there is none, the number of commodities.
 #[derive(Drop)]
 struct Chains {
     first: Vec<u32>,
     next: Vec<u32>,
 }
 
-/// Links the commodities, from the last one to the first.
+// Links the commodities, from the last one to the first.
 fn link(commodities: &[Commodity], first: &mut [u32], next: &mut [u32])
     requires few { length commodities.now ≤ MAX_DEMANDS }
     requires nodes { All (IsCommodity (length first.old)) commodities.now }
@@ -57,7 +57,7 @@ fn link(commodities: &[Commodity], first: &mut [u32], next: &mut [u32])
     }
 }
 
-/// The chains of all commodities.
+// The chains of all commodities.
 fn chains_of(alloc: Global, nodes: u16, commodities: &[Commodity]) -> Result<Chains, AllocError>
     requires few { length commodities.now ≤ MAX_DEMANDS }
     requires nodes { All (IsCommodity nodes) commodities.now }
@@ -71,7 +71,7 @@ fn chains_of(alloc: Global, nodes: u16, commodities: &[Commodity]) -> Result<Cha
     Ok(Chains { first, next })
 }
 
-/// The nodes that have a first commodity.
+// The nodes that have a first commodity.
 fn sources_of(
     alloc: Global,
     nodes: u16,
@@ -92,7 +92,7 @@ fn sources_of(
     Ok(sources)
 }
 
-/// Appends the chain of a node.
+// Appends the chain of a node.
 fn append_members(
     commodities: &[Commodity],
     chains: &Chains,
@@ -113,7 +113,7 @@ fn append_members(
     Ok(())
 }
 
-/// The items from one place up to another.
+// The items from one place up to another.
 fn part(members: &[u32], start: usize, end: usize) -> &[u32]
     requires start { start ≤ end }
     requires end { end ≤ length members.now }

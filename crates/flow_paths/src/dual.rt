@@ -69,7 +69,7 @@ impl Dual {
         self.spare.reverse();
     }
 
-    /// Memory for a row of potentials, if there is any to spare.
+    // Memory for a row of potentials, if there is any to spare.
     fn spare_values(&mut self, alloc: Global) -> Vec<u64>
         ensures { self.new ≡ self.old }
     {

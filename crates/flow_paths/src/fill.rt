@@ -9,11 +9,13 @@ use flow_model::Cell;
 /// The capacity and the load of the fullest cell. Without a load there is none, and these are 1 and 0.
 #[derive(Clone, Copy, Debug, PartialEq, Eq)]
 pub struct Fill {
+    /// Its capacity, in units.
     pub cap: u64,
+    /// Its load, in units.
     pub load: u64,
 }
 
-/// The cell, if it has a load and is at least as full as the fullest of those after it; else that one.
+// The cell, if it has a load and is at least as full as the fullest of those after it; else that one.
 #[inline(always)]
 fn fuller(cap: u64, load: u64, after: Fill) -> Fill
     ensures { fullness result ≡ (if load == 0 then fullness after

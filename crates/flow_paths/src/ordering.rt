@@ -8,7 +8,7 @@ ghost use Rattle.flow_paths.specs.Sorted.{numbers_of};
 use crate::PathStore;
 use std::alloc::{AllocError, Global};
 
-/// A row with what it is ordered by.
+// A row with what it is ordered by.
 #[derive(Clone, Copy, PartialEq, Eq, PartialOrd, Ord)]
 struct OrderedRow<'a> {
     commodity: u32,
@@ -16,7 +16,7 @@ struct OrderedRow<'a> {
     row: u32,
 }
 
-/// The rows in ascending order of commodity and then cells.
+// The rows in ascending order of commodity and then cells.
 fn sorted<'a>(alloc: Global, paths: &'a PathStore) -> Result<Vec<OrderedRow<'a>>, AllocError>
     ensures order { IfOk result (λ v. IsOrderOf paths.now (numbers_of v.items)) }
     ensures few { IfOk result (λ v. length v.items ≤ 4294967295) }

@@ -27,7 +27,7 @@ pub fn volume(cells: &[Cell], lengths: &[u64]) -> u128
     total
 }
 
-/// The difference of a commodity's potentials, or 0 where that is negative.
+// The difference of a commodity's potentials, or 0 where that is negative.
 fn difference(k: Commodity, potential: &[u64]) -> u64
     requires from { k.from < length potential.now }
     requires to { k.to < length potential.now }

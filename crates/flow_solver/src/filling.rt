@@ -22,9 +22,9 @@ use std::alloc::{AllocError, Global};
 use std::mem;
 use std::sync::Arc;
 
-/// What `lead` answers, which the caller's thread calls before it fills its own rows, and whether all rows were filled anew with distances,
-/// each search from the tree of the one before: parts of them in threads of the crew, and the others here. `Err` is for want of memory, or
-/// where the crew gave up; and then rows are lost.
+// What `lead` answers, which the caller's thread calls before it fills its own rows, and whether all rows were filled anew with distances,
+// each search from the tree of the one before: parts of them in threads of the crew, and the others here. `Err` is for want of memory, or
+// where the crew gave up; and then rows are lost.
 fn fill_with<'a, G: Gate, T, F: FnMut() -> T>(
     task: &Task<'a, G>,
     lengths: &Arc<Vec<u64>, Global>,
@@ -53,8 +53,8 @@ fn fill_with<'a, G: Gate, T, F: FnMut() -> T>(
     (made, append_parts(rows, parts))
 }
 
-/// The lesser of an earlier bound, if there is one, and that of rows that were filled under these lengths, which go back to their room.
-/// `Err` is for want of memory, or where a part shares the lengths still, which no run does.
+// The lesser of an earlier bound, if there is one, and that of rows that were filled under these lengths, which go back to their room.
+// `Err` is for want of memory, or where a part shares the lengths still, which no run does.
 fn bound_after(
     alloc: Global,
     net: &Net,

@@ -8,7 +8,7 @@ use flow_model::Net;
 use phase_engine::{Hand, Routes};
 use std::alloc::{AllocError, Global};
 
-/// The hand of a worker, before any phase.
+// The hand of a worker, before any phase.
 fn new_hand(alloc: Global, net: &Net, worker: u16) -> Result<Hand, AllocError>
     ensures { IfOk result (λ h. IsFresh net.now worker h) }
 {

@@ -23,7 +23,9 @@ pub struct PathHistory {
 /// The rows in ascending order of commodity and then cells, and the entries, which name them by their new numbers.
 #[derive(Drop)]
 pub struct OrderedHistory {
+    /// The rows of paths.
     pub paths: PathStore,
+    /// Who routed what in each phase.
     pub entries: Entries,
 }
 
@@ -66,9 +68,9 @@ impl PathHistory {
         self.entries.phases()
     }
 
-    /// Adds a path to the rows, no two of which are alike: its row grows, or, where there is none, one is appended. It is looked for first
-    /// among the rows that are noted. It is a function of its own, since few commodities come here: so the loop over all has registers
-    /// for what it needs.
+    // Adds a path to the rows, no two of which are alike: its row grows, or, where there is none, one is appended. It is looked for first
+    // among the rows that are noted. It is a function of its own, since few commodities come here: so the loop over all has registers
+    // for what it needs.
     #[inline(never)]
     fn add_other(
         &mut self,
@@ -92,7 +94,7 @@ impl PathHistory {
         Ok(row)
     }
 
-    /// As `add_other`, and the row is looked for first where the commodity was found last, which mostly is the one.
+    // As `add_other`, and the row is looked for first where the commodity was found last, which mostly is the one.
     #[inline(always)]
     fn add_path(
         &mut self,

@@ -20,7 +20,7 @@ use std::alloc::{AllocError, Global};
 use std::sync::atomic::{AtomicBool, Ordering};
 use std::thread::Threads;
 
-/// Whether the gap is open yet, and the budget has one phase more.
+// Whether the gap is open yet, and the budget has one phase more.
 fn goes_on(net: &Net, options: &SolveOptions, reached: &Reached) -> bool
     requires options { AreOptions net.now options.now }
     requires reached { IsReached net.now options.now reached.now }
@@ -34,7 +34,7 @@ fn goes_on(net: &Net, options: &SolveOptions, reached: &Reached) -> bool
     count_phases(&reached.search) < options.phases
 }
 
-/// One phase or more with this crew, until the gap is met, the budget is spent or a thread has left.
+// One phase or more with this crew, until the gap is met, the budget is spent or a thread has left.
 fn phases_with<'a, G: Gate, R: Threads + Sync>(
     run: &Run<'a, G, R>,
     crew: &mut Crew<'_, Share<'a, G>>,
@@ -56,7 +56,7 @@ fn phases_with<'a, G: Gate, R: Threads + Sync>(
     }
 }
 
-/// Leads the crew for one phase or more, and then tells its threads to go.
+// Leads the crew for one phase or more, and then tells its threads to go.
 fn led<'a, G: Gate, R: Threads + Sync>(
     run: &Run<'a, G, R>,
     crew: Crew<'_, Share<'a, G>>,
@@ -72,7 +72,7 @@ fn led<'a, G: Gate, R: Threads + Sync>(
     result
 }
 
-/// A post at which shares are handed over, with its seats.
+// A post at which shares are handed over, with its seats.
 fn new_post<'a, G: Gate>(
     alloc: Global,
 ) -> Result<(Post<Share<'a, G>>, Seats<Share<'a, G>>), AllocError>
@@ -81,7 +81,7 @@ fn new_post<'a, G: Gate>(
     Post::new(alloc)
 }
 
-/// Takes on a thread at the post.
+// Takes on a thread at the post.
 fn take_on<'a, 'c, G: Gate>(
     crew: &mut Crew<'c, Share<'a, G>>,
     post: &'c Post<Share<'a, G>>,
@@ -92,7 +92,7 @@ fn take_on<'a, 'c, G: Gate>(
     crew.take_on(post, seats)
 }
 
-/// Calls `lead`, and has a new thread stay beside it for shares, if one can be started.
+// Calls `lead`, and has a new thread stay beside it for shares, if one can be started.
 fn share_beside<G: Gate, R: Threads + Sync, T, F: FnMut() -> T>(
     rt: &R,
     mate: Mate<'_, Share<'_, G>>,
@@ -105,7 +105,7 @@ fn share_beside<G: Gate, R: Threads + Sync, T, F: FnMut() -> T>(
     stay_beside(rt, mate, closed, lead)
 }
 
-/// Takes on so many threads more, and leads all of them.
+// Takes on so many threads more, and leads all of them.
 #[cycle(with_mates)]
 fn with_mates<'a, G: Gate, R: Threads + Sync>(
     run: &Run<'a, G, R>,
@@ -126,7 +126,7 @@ fn with_mates<'a, G: Gate, R: Threads + Sync>(
     }
 }
 
-/// Takes on a thread at the post and so many more, and leads all of them.
+// Takes on a thread at the post and so many more, and leads all of them.
 #[cycle(with_mates)]
 fn with_mate<'a, 'c, G: Gate, R: Threads + Sync>(
     run: &Run<'a, G, R>,

@@ -7,15 +7,15 @@ use flow_paths::PathStore;
 use std::alloc::{AllocError, Global};
 use std::hint::select_unpredictable;
 
-/// How many rows are noted of a commodity in each of so many sets.
+// How many rows are noted of a commodity in each of so many sets.
 const ROWS_OF_A_SET: usize = 8;
 
 const SETS: usize = 4;
 
-/// A row number that stands for none.
+// A row number that stands for none.
 const NO_ROW: u32 = u32::MAX;
 
-/// Some rows of a commodity, each with the mark of its path, which lie side by side.
+// Some rows of a commodity, each with the mark of its path, which lie side by side.
 #[derive(Clone, Copy)]
 struct NotedSet {
     marks: [u32; ROWS_OF_A_SET],
@@ -67,7 +67,7 @@ impl NotedRows {
     }
 }
 
-/// The set of a mark, by bits of it that all of its cells have a part in.
+// The set of a mark, by bits of it that all of its cells have a part in.
 #[inline(always)]
 fn set_of(mark: u32) -> usize
     ensures { result < SETS }
@@ -75,8 +75,8 @@ fn set_of(mark: u32) -> usize
     (mark >> 16) as usize % SETS
 }
 
-/// A mark of a path: others mostly have another one. It is made of five of its cells and their number alone, so that it takes the
-/// same short time for each path.
+// A mark of a path: others mostly have another one. It is made of five of its cells and their number alone, so that it takes the
+// same short time for each path.
 #[inline(always)]
 fn mark_of(path: &[u16]) -> u32 {
     let count = path.len();
@@ -101,7 +101,9 @@ fn mark_of(path: &[u16]) -> u32 {
 /// last row is of another one. The last rows are a list of their own: most commodities need no more, and so they lie close together.
 #[derive(Drop)]
 pub struct Sought {
+    /// The number of the row that each commodity had last.
     pub last: Vec<u32>,
+    /// The rows that each commodity had of late.
     pub noted: Vec<NotedRows>,
 }
 

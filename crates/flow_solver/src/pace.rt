@@ -4,19 +4,19 @@ ghost use Rattle.std.specs.Prelude.{◌≤◌};
 
 use mcf_limits::MAX_WORKERS;
 
-/// Shares are so many parts of all.
+// Shares are so many parts of all.
 const PARTS: u16 = 64;
 
-/// The most threads beside the caller's.
+// The most threads beside the caller's.
 const OTHERS: usize = MAX_WORKERS as usize - 1;
 
-/// What a thread's part of the rows weighs at first, beside those of the others.
+// What a thread's part of the rows weighs at first, beside those of the others.
 const EVEN: u32 = 1024;
 
-/// About so much less it weighs after a bound that the thread was done with last.
+// About so much less it weighs after a bound that the thread was done with last.
 const LESS: u32 = 16;
 
-/// So much it weighs at least.
+// So much it weighs at least.
 const LEAST: u32 = EVEN / 4;
 
 /// How the rows of a bound are shared out: so many of them with each of so many threads, none with so many others, and what is left is for
@@ -100,7 +100,7 @@ impl Pace {
     }
 }
 
-/// What the first threads weigh together, so many of them.
+// What the first threads weigh together, so many of them.
 fn weight_of(weights: &[u32; OTHERS], threads: usize) -> usize
     requires { threads ≤ OTHERS }
 {
@@ -111,7 +111,7 @@ fn weight_of(weights: &[u32; OTHERS], threads: usize) -> usize
     all
 }
 
-/// So many rows, shared out with so many threads by their weights, each border at the nearest row.
+// So many rows, shared out with so many threads by their weights, each border at the nearest row.
 fn sizes_of(rows: usize, weights: &[u32; OTHERS], threads: usize) -> [usize; OTHERS]
     requires { threads ≤ OTHERS }
 {
@@ -128,8 +128,8 @@ fn sizes_of(rows: usize, weights: &[u32; OTHERS], threads: usize) -> [usize; OTH
     sizes
 }
 
-/// The weights after a bound: less for the thread that was done last, unless that would bring it below the least, and as much more for all
-/// others together.
+// The weights after a bound: less for the thread that was done last, unless that would bring it below the least, and as much more for all
+// others together.
 fn shifted(weights: [u32; OTHERS], threads: usize, last: Option<usize>) -> [u32; OTHERS] {
     let threads = threads.min(OTHERS);
     let Some(last) = last else {
@@ -154,17 +154,17 @@ fn shifted(weights: [u32; OTHERS], threads: usize, last: Option<usize>) -> [u32;
     weights
 }
 
-/// The share of the caller's thread where it has as much to do as each of so many others.
+// The share of the caller's thread where it has as much to do as each of so many others.
 fn even_share(threads: u16) -> u16 {
     PARTS.div_ceil(threads.saturating_add(1))
 }
 
-/// The share of so many.
+// The share of so many.
 fn share_of(share: u16, all: usize) -> usize {
     all.saturating_mul(share as usize) / PARTS as usize
 }
 
-/// A share that is a part more or less, of this much at most.
+// A share that is a part more or less, of this much at most.
 fn moved(share: u16, up: bool, most: u16) -> u16 {
     let share = share.min(most);
     if up {

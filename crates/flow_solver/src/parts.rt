@@ -17,9 +17,13 @@ use std::sync::Arc;
 /// A part of the rows of a bound, which are to be filled anew with distances under these lengths. All parts share the lengths.
 #[derive(Drop)]
 pub struct Part<'a> {
+    /// The graph of the network.
     pub graph: &'a Graph,
+    /// Where memory comes from.
     pub alloc: Global,
+    /// The length of each cell.
     pub lengths: Arc<Vec<u64>, Global>,
+    /// The rows that are filled.
     pub rows: Vec<Row>,
 }
 
@@ -44,7 +48,7 @@ pub(crate) fn filled<'a>(part: Part<'a>) -> Part<'a>
     }
 }
 
-/// The last rows, so many of them or all that there are, as a part. `Err` is for want of memory.
+// The last rows, so many of them or all that there are, as a part. `Err` is for want of memory.
 fn last_part<'a>(
     alloc: Global,
     graph: &'a Graph,
@@ -93,7 +97,7 @@ pub(crate) fn parts_of<'a, G>(
     Ok(parts)
 }
 
-/// Appends the rows of a part. `Err` is for want of memory.
+// Appends the rows of a part. `Err` is for want of memory.
 fn append_part<G>(rows: &mut Vec<Row>, part: Option<Share<'_, G>>) -> Result<(), AllocError>
     ensures { OnOk result (rows.new.items ≡ rows.old.items ++ rows_at part.entry) }
 {

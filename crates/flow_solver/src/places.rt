@@ -17,7 +17,7 @@ pub(crate) struct Place<'a> {
     pub path: &'a [u16],
 }
 
-/// Notes the routes of one hand.
+// Notes the routes of one hand.
 fn note_routes<'a>(places: &mut [Place<'a>], w: u16, hand: &'a Hand)
     requires { All (λ (r : Route). r.commodity < length places.old) hand.now.routes }
     ensures kept { (k : ℕ) → k < length places.old

@@ -12,9 +12,13 @@ use std::alloc::Global;
 /// made of.
 #[derive(Drop)]
 pub struct Prepared<'a> {
+    /// The network.
     pub net: &'a Net,
+    /// Its commodities by their sources.
     pub groups: &'a Groups,
+    /// Its graph.
     pub graph: &'a Graph,
+    /// The powers that lengths are made of.
     pub powers: &'a Powers,
     ghost groups_are: { groups.now ≡ net.now },
     ghost graph_is: { graph.now ≡ net.now },

@@ -27,13 +27,17 @@ use std::thread::Threads;
 /// After one phase or more: the search, the fullest cell of the first phase and that of all, and the least bound.
 #[derive(Drop)]
 pub struct Reached {
+    /// What the phases have made.
     pub search: Search,
+    /// The fullest cell behind the first phase.
     pub reference: Fill,
+    /// The fullest cell now.
     pub fill: Fill,
+    /// The least bound so far.
     pub kept: Bounded,
 }
 
-/// The fullest cell, where some cell has a load.
+// The fullest cell, where some cell has a load.
 fn measured(net: &Net, loads: &[u64]) -> Fill
     requires count { length loads.now ≡ length net.now.cells }
     requires loaded { (c : ℕ) × (c < length net.now.cells) × (1 ≤ slice_index loads.now c) }

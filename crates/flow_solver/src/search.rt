@@ -38,8 +38,11 @@ use std::thread::Threads;
 /// row for each source. Before the first bound there are none to follow.
 #[derive(Drop)]
 pub struct BoundRoom {
+    /// The length of each cell.
     pub lengths: Vec<u64>,
+    /// The lengths of the last bound; `None` before the first.
     pub kept: Option<LengthTable>,
+    /// A row for each source.
     pub rows: Vec<Row>,
 }
 
@@ -48,16 +51,23 @@ pub struct BoundRoom {
 /// other threads route it, beside that and beside the bound after it. So each worker has two hands, which route in turn; the spare ones are free for the next phase.
 #[derive(Drop)]
 pub struct Search {
+    /// The load of each cell, in units.
     pub loads: Vec<u64>,
+    /// Room for bounds.
     pub room: BoundRoom,
+    /// The hands that routed last, one for each worker.
     pub hands: Vec<Hand>,
+    /// The hands that are free for the next phase, one for each worker.
     pub spare: Vec<Hand>,
+    /// The rows of paths, and who routed what in each phase.
     pub history: PathHistory,
+    /// The rows that each commodity had of late.
     pub sought: Sought,
+    /// How work is shared out with other threads.
     pub pace: Pace,
 }
 
-/// So many zeros.
+// So many zeros.
 fn zeros(alloc: Global, count: usize) -> Result<Vec<u64>, AllocError>
     ensures { IfOk result (λ v. v.items ≡ replicate count 0) }
 {
@@ -119,7 +129,7 @@ pub(crate) fn whole_history(
     Ok(history)
 }
 
-/// One phase over words of its own. Searches begin at the trees of the rows, which the bound before has left. `Err` is for want of memory.
+// One phase over words of its own. Searches begin at the trees of the rows, which the bound before has left. `Err` is for want of memory.
 fn phase_over<G: Gate, R: Threads + Sync>(
     rt: &R,
     task: &Task<'_, G>,
@@ -183,8 +193,8 @@ pub(crate) fn route<G: Gate, R: Threads + Sync>(
     )
 }
 
-/// The end of a phase over these words, after all turns. Should a turn share them still, which none does then, it is the whole phase
-/// instead, over words of its own, by threads of its own. `Err` is for want of memory.
+// The end of a phase over these words, after all turns. Should a turn share them still, which none does then, it is the whole phase
+// instead, over words of its own, by threads of its own. `Err` is for want of memory.
 fn end_over<G: Gate, R: Threads + Sync>(
     rt: &R,
     task: &Task<'_, G>,
@@ -222,8 +232,8 @@ fn end_over<G: Gate, R: Threads + Sync>(
     }
 }
 
-/// As `phase_over`, with the turns in the threads of a crew: what `lead` answers, which the caller's thread calls before it takes a turn,
-/// and the hands after the phase. `Err` is for want of memory, or where the crew gave up.
+// As `phase_over`, with the turns in the threads of a crew: what `lead` answers, which the caller's thread calls before it takes a turn,
+// and the hands after the phase. `Err` is for want of memory, or where the crew gave up.
 fn phase_with<'a, G: Gate, R: Threads + Sync, T, F: FnMut() -> T>(
     rt: &R,
     task: &Task<'a, G>,
@@ -279,7 +289,7 @@ fn phase_with<'a, G: Gate, R: Threads + Sync, T, F: FnMut() -> T>(
     }
 }
 
-/// Whether the caller's thread, whose turn is the last one, has routed something.
+// Whether the caller's thread, whose turn is the last one, has routed something.
 fn has_routed(hands: &[Hand]) -> bool {
     match hands.last() {
         Some(hand) => hand.routes.len() > 0,

@@ -8,7 +8,9 @@ use mcf_base::Gate;
 /// A share of the work on a phase: the turn of a hand, or a part of the rows of a bound.
 #[derive(Drop)]
 pub enum Share<'a, G> {
+    /// The turn of a hand in a phase.
     Turn(Turn<'a, G>),
+    /// A part of the rows of a bound.
     Part(Part<'a>),
 }
 

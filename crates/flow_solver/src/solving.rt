@@ -30,14 +30,14 @@ use solver_run::SolveOptions;
 use std::alloc::{AllocError, Global};
 use std::thread::Threads;
 
-/// The last phase's state, and whether the gap was met.
+// The last phase's state, and whether the gap was met.
 #[derive(Drop)]
 struct Ended {
     reached: Reached,
     closed: bool,
 }
 
-/// One phase more or, where several workers route, one or several, with threads that stay beside the caller's.
+// One phase more or, where several workers route, one or several, with threads that stay beside the caller's.
 fn go_on<G: Gate, R: Threads + Sync>(
     run: &Run<'_, G, R>,
     reached: Reached,
@@ -52,7 +52,7 @@ fn go_on<G: Gate, R: Threads + Sync>(
     }
 }
 
-/// Phase after phase, until the gap is met or the budget is spent.
+// Phase after phase, until the gap is met or the budget is spent.
 fn all_phases<G: Gate, R: Threads + Sync>(run: &Run<'_, G, R>) -> Result<Ended, AllocError>
     requires no_cut { HasNoCut run.now.on.now.net.now }
     requires options { AreOptions run.now.on.now.net.now run.now.options.now }
@@ -81,7 +81,7 @@ fn all_phases<G: Gate, R: Threads + Sync>(run: &Run<'_, G, R>) -> Result<Ended, 
     }
 }
 
-/// The proof of all phases, with the rows in order.
+// The proof of all phases, with the rows in order.
 fn finished(
     alloc: Global,
     net: &Net,
@@ -125,7 +125,7 @@ fn finished(
     Ok(Solved::new(proof, entries))
 }
 
-/// The proof of a network with a cut.
+// The proof of a network with a cut.
 fn cut_off(
     alloc: Global,
     net: &Net,
@@ -156,7 +156,7 @@ fn cut_off(
     Ok(Solved::new(proof, entries))
 }
 
-/// The same options with no more workers than so many processors have, but with two where several are asked for.
+// The same options with no more workers than so many processors have, but with two where several are asked for.
 fn with_fewer_workers(options: &SolveOptions, processors: u16) -> SolveOptions
     requires { 1 ≤ options.now.workers }
     ensures { IsWithFewer options.now result }
@@ -169,7 +169,7 @@ fn with_fewer_workers(options: &SolveOptions, processors: u16) -> SolveOptions
     }
 }
 
-/// The proof of a network in which each commodity has a walk over positive cells.
+// The proof of a network in which each commodity has a walk over positive cells.
 fn uncut<G: Gate, R: Threads + Sync>(
     rt: &R,
     alloc: Global,
@@ -208,7 +208,7 @@ fn uncut<G: Gate, R: Threads + Sync>(
     Ok(solved)
 }
 
-/// A cut's proof, or that of all phases.
+// A cut's proof, or that of all phases.
 fn certified<G: Gate, R: Threads + Sync>(
     rt: &R,
     alloc: Global,

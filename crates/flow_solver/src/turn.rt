@@ -23,12 +23,19 @@ use std::sync::Arc;
 /// a thread and back, and the hand is the most of it.
 #[derive(Drop)]
 pub struct Turn<'a, G> {
+    /// The network, with what phases need.
     pub on: &'a Prepared<'a>,
+    /// Where memory comes from.
     pub alloc: Global,
+    /// The setting of the phase.
     pub setting: Setting,
+    /// What the worker passes after each of its claims.
     pub gate: &'a G,
+    /// The words of the loads.
     pub loads: Arc<Loads, Global>,
+    /// The rows of the bound before.
     pub rows: Arc<Vec<Row>, Global>,
+    /// The hand that works.
     pub hand: Box<Hand, Global>,
 }
 
@@ -64,7 +71,7 @@ pub(crate) fn trees_of(alloc: Global, rows: &[Row]) -> Result<Vec<&Tree>, AllocE
     rows.iter().map(|row| &row.tree).collect(alloc)
 }
 
-/// The tree of each row, or none where there is no memory for them: a search needs no tree to begin at.
+// The tree of each row, or none where there is no memory for them: a search needs no tree to begin at.
 fn hints(alloc: Global, rows: &[Row]) -> Vec<&Tree> {
     match trees_of(alloc, rows) {
         Ok(trees) => trees,
@@ -72,7 +79,7 @@ fn hints(alloc: Global, rows: &[Row]) -> Vec<&Tree> {
     }
 }
 
-/// The work of one hand over these words.
+// The work of one hand over these words.
 fn take_over<G: Watch>(
     alloc: Global,
     on: &Prepared<'_>,
@@ -103,7 +110,7 @@ fn take_over<G: Watch>(
     take_turn(alloc, &shared, hand);
 }
 
-/// The turn of a hand.
+// The turn of a hand.
 fn turn_of<'a, G: Gate>(
     task: &Task<'a, G>,
     loads: &Arc<Loads, Global>,
@@ -125,7 +132,7 @@ fn turn_of<'a, G: Gate>(
     })))
 }
 
-/// A turn for each hand, in their order.
+// A turn for each hand, in their order.
 fn turns_of<'a, G: Gate>(
     task: &Task<'a, G>,
     loads: &Arc<Loads, Global>,
@@ -146,7 +153,7 @@ fn turns_of<'a, G: Gate>(
     Ok(turns)
 }
 
-/// The hand of a turn.
+// The hand of a turn.
 fn hand_of<G: Gate>(turn: Option<Share<'_, G>>) -> Hand
     requires { IsSomeTurn turn }
     ensures { HasHand turn.entry result }
@@ -157,7 +164,7 @@ fn hand_of<G: Gate>(turn: Option<Share<'_, G>>) -> Hand
     }
 }
 
-/// The hands of the turns, in their order.
+// The hands of the turns, in their order.
 fn hands_of<G: Gate>(
     alloc: Global,
     turns: Vec<Option<Share<'_, G>>>,

@@ -14,15 +14,20 @@ use mcf_limits::{MAX_LENGTH, MAX_UNITS};
 /// A number for each cell, and one for each gate: loads, in units.
 #[derive(Clone, Copy)]
 pub struct Gated<'a> {
+    /// The number of each cell.
     pub cells: &'a [u64],
+    /// The number of each gate.
     pub gates: &'a [u64],
 }
 
 /// What lengths are taken under: the setting, the greatest exponent and the least capacity, in units.
 #[derive(Clone, Copy)]
 pub struct Under {
+    /// The setting.
     pub setting: Setting,
+    /// The greatest exponent.
     pub top: u128,
+    /// The least capacity, in units.
     pub least: u64,
 }
 
@@ -101,7 +106,7 @@ pub fn put_lengths(powers: &Powers, under: &Under, cells: &[Cell], loads: &[u64]
     }
 }
 
-/// Puts the length of each of these cells at the places in its place, where every other length stands there.
+// Puts the length of each of these cells at the places in its place, where every other length stands there.
 fn put_lengths_at(
     powers: &Powers,
     under: &Under,

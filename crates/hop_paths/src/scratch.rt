@@ -43,7 +43,7 @@ impl Model for HopScratch {
     ghost invariant = { λ s. IsHopReady s.nodes s.layers s.made s.dist.items s.steps.items s.path.items };
 }
 
-/// The step that leads to that place, if there is one.
+// The step that leads to that place, if there is one.
 fn step_to(steps: &[Option<HopStep>], place: usize) -> Option<HopStep>
     ensures { result ≡ step_at steps.now place }
 {
@@ -54,8 +54,8 @@ fn step_to(steps: &[Option<HopStep>], place: usize) -> Option<HopStep>
     }
 }
 
-/// Puts the cells of the steps to a node in that layer in front of a place of the path, and gives the place where they
-/// begin.
+// Puts the cells of the steps to a node in that layer in front of a place of the path, and gives the place where they
+// begin.
 fn trace(
     steps: &[Option<HopStep>],
     nodes: u16,
@@ -82,7 +82,7 @@ fn trace(
     }
 }
 
-/// What stands from a place on.
+// What stands from a place on.
 fn rest(path: &[u16], start: usize) -> &[u16]
     requires { start ≤ length path.now }
     ensures { result.now ≡ drop start path.now }
@@ -90,7 +90,7 @@ fn rest(path: &[u16], start: usize) -> &[u16]
     &path[start..]
 }
 
-/// Puts the numbers from a place on into these places, as far as they are at most 2^62.
+// Puts the numbers from a place on into these places, as far as they are at most 2^62.
 fn put_from(dist: &[u64], base: usize, into: &mut [u64])
     requires { base + length into.old ≤ length dist.now }
     ensures len { length into.new ≡ length into.old }

@@ -12,11 +12,13 @@ use mcf_limits::MAX_LENGTH;
 /// The last step of a walk: over this cell, from this node.
 #[derive(Clone, Copy, Debug, PartialEq, Eq)]
 pub struct HopStep {
+    /// The number of the cell.
     pub cell: u16,
+    /// The node before.
     pub from: u16,
 }
 
-/// Goes over the arc from the node into the layer behind, where that is shorter.
+// Goes over the arc from the node into the layer behind, where that is shorter.
 #[inline(always)]
 fn relax(
     graph: &Graph,
@@ -52,8 +54,8 @@ fn relax(
     });
 }
 
-/// Goes over all arcs from the node into the layer behind, if the node came nearer in this layer. Where it did not, all
-/// of them were gone over in the layer before.
+// Goes over all arcs from the node into the layer behind, if the node came nearer in this layer. Where it did not, all
+// of them were gone over in the layer before.
 #[inline(always)]
 fn go_on(
     graph: &Graph,
@@ -85,7 +87,7 @@ fn go_on(
     }
 }
 
-/// Whether a node has a step, or one had before.
+// Whether a node has a step, or one had before.
 #[inline(always)]
 fn nearer_too(nearer: bool, step: Option<HopStep>) -> bool
     ensures { result ≡ false → (nearer ≡ false) × (step ≡ None) }
@@ -93,7 +95,7 @@ fn nearer_too(nearer: bool, step: Option<HopStep>) -> bool
     nearer | step.is_some()
 }
 
-/// Begins the layer behind as the layer at that base, and says whether some node came nearer in the layer at that base.
+// Begins the layer behind as the layer at that base, and says whether some node came nearer in the layer at that base.
 fn begin(dist: &mut [u64], steps: &mut [Option<HopStep>], base: usize, nodes: usize) -> bool
     requires size { base + 2 * nodes ≤ length dist.old }
     requires room { length steps.old ≡ length dist.old }
@@ -110,7 +112,7 @@ fn begin(dist: &mut [u64], steps: &mut [Option<HopStep>], base: usize, nodes: us
     nearer
 }
 
-/// Makes the layer behind the one at that base. Where no node came nearer in that one, the two are the same.
+// Makes the layer behind the one at that base. Where no node came nearer in that one, the two are the same.
 fn rise(
     graph: &Graph,
     lengths: &[u64],
@@ -133,7 +135,7 @@ fn rise(
     }
 }
 
-/// Puts the first so many nodes out of reach.
+// Puts the first so many nodes out of reach.
 fn clear(dist: &mut [u64], steps: &mut [Option<HopStep>], nodes: usize)
     requires size { nodes ≤ length dist.old }
     requires room { length steps.old ≡ length dist.old }

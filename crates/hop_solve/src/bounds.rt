@@ -26,13 +26,16 @@ use std::alloc::{AllocError, Global};
 /// Lengths, potentials and layers, and the bound that they give: volume over weighted distance.
 #[derive(Drop)]
 pub struct HopBound {
+    /// The lengths and potentials.
     pub dual: Dual,
+    /// The layers.
     pub layers: Layers,
+    /// The bound: no routing within the limits carries a greater fraction.
     pub value: Frac,
 }
 
-/// The dual of these lengths and filled rows, and of these layers, with its value, not reduced. Lengths, and the numbers of
-/// the rows, are at most 2^62.
+// The dual of these lengths and filled rows, and of these layers, with its value, not reduced. Lengths, and the numbers of
+// the rows, are at most 2^62.
 fn finished(
     alloc: Global,
     on: &Given<'_>,
@@ -85,7 +88,7 @@ pub fn bound_of(
     finished(alloc, on, lengths, &rows, layers)
 }
 
-/// 1 for a cell without capacity, 0 for every other.
+// 1 for a cell without capacity, 0 for every other.
 fn lengths_of_cut(alloc: Global, cells: &[Cell]) -> Result<Vec<u64>, AllocError>
     ensures { IfOk result (λ lengths. lengths.items ≡ cut_lengths cells.now) }
 {

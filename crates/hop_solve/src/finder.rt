@@ -12,12 +12,15 @@ use std::alloc::{AllocError, Global};
 /// Room for searches without a limit and for those by layers, and for a number for each node.
 #[derive(Drop)]
 pub struct Finder {
+    /// Room for searches without a limit.
     pub plain: Scratch,
+    /// Room for searches by layers.
     pub layered: HopScratch,
+    /// A number for each node.
     pub values: Vec<u64>,
 }
 
-/// The greatest index of a layer that some node is asked for, or 0 where none is.
+// The greatest index of a layer that some node is asked for, or 0 where none is.
 fn last_layer(counts: &[u8]) -> u8
     requires small { (v : ℕ) → v < length counts.now → slice_index counts.now v ≤ MAX_HOPS + 1 }
     ensures most { (v : ℕ) → v < length counts.now → slice_index counts.now v ≤ result + 1 }

@@ -13,11 +13,17 @@ use flow_model::Net;
 /// starts there, else 0.
 #[derive(Drop)]
 pub struct Given<'a> {
+    /// The network.
     pub net: &'a Net,
+    /// How many cells a path of each commodity may have; `None` for as many as it likes.
     pub limits: &'a [Option<u8>],
+    /// Its graph.
     pub graph: &'a Graph,
+    /// The powers that lengths are made of.
     pub powers: &'a Powers,
+    /// How many layers each node is asked for, as a source.
     pub counts: &'a [u8],
+    /// For each node 1 where a commodity without a limit starts there, else 0.
     pub marks: &'a [u64],
     ghost graph_is: { graph.now ≡ net.now },
     ghost limits_len: { length limits.now ≡ length net.now.commodities },

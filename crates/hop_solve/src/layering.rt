@@ -20,11 +20,13 @@ use std::alloc::{AllocError, Global};
 /// What layers have for each node: its distance, or a mark of whether it has one.
 #[derive(Clone, Copy, Debug, PartialEq, Eq)]
 pub enum Numbers {
+    /// The distance in the layer.
     Lengths,
+    /// 0 where the node has a distance in the layer, else 1.
     Marks,
 }
 
-/// Puts a mark for each node in its place: 0 where it has a distance in that layer, else 1.
+// Puts a mark for each node in its place: 0 where it has a distance in that layer, else 1.
 fn put_marks(layered: &HopScratch, index: u8, values: &mut [u64])
     requires index { index < layered.now.made }
     requires nodes { length values.old ≡ layered.now.nodes }
@@ -39,7 +41,7 @@ fn put_marks(layered: &HopScratch, index: u8, values: &mut [u64])
     }
 }
 
-/// Puts each node's number in that layer in its place.
+// Puts each node's number in that layer in its place.
 fn put_numbers(layered: &HopScratch, index: u8, kind: Numbers, values: &mut [u64])
     requires index { index < layered.now.made }
     requires nodes { length values.old ≡ layered.now.nodes }
@@ -55,7 +57,7 @@ fn put_numbers(layered: &HopScratch, index: u8, kind: Numbers, values: &mut [u64
     }
 }
 
-/// Appends so many layers of the node, from layer 0 on, of which the search has the numbers.
+// Appends so many layers of the node, from layer 0 on, of which the search has the numbers.
 fn push_layers(
     alloc: Global,
     finder: &mut Finder,
@@ -80,7 +82,7 @@ fn push_layers(
     Ok(())
 }
 
-/// Appends the layers that the node is asked for.
+// Appends the layers that the node is asked for.
 fn node_layers(
     alloc: Global,
     on: &Given<'_>,

@@ -26,14 +26,19 @@ use std::cmp::Ordering;
 /// After one phase or more: what was routed, the number of phases, the fullest cell, and the least bound.
 #[derive(Drop)]
 pub struct HopReached {
+    /// What was routed.
     pub routed: Routed,
+    /// Room for searches.
     pub finder: Finder,
+    /// How many phases there were.
     pub phases: u32,
+    /// The fullest cell.
     pub fill: Fill,
+    /// The least bound so far.
     pub kept: HopBound,
 }
 
-/// The lesser of two bounds, the earlier where they are equal.
+// The lesser of two bounds, the earlier where they are equal.
 fn lesser(earlier: HopBound, later: HopBound) -> HopBound
     ensures { result ≡ (if fraction_le earlier.value later.value then earlier else later) }
 {

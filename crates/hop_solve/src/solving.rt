@@ -23,14 +23,14 @@ use route_tally::RunOptions;
 use solver_run::setting_at_first;
 use std::alloc::{AllocError, Global};
 
-/// The last phase's state, and whether the gap was met.
+// The last phase's state, and whether the gap was met.
 #[derive(Drop)]
 struct Ended {
     reached: HopReached,
     closed: bool,
 }
 
-/// Phase after phase from the first on, until the gap is met or the budget is spent.
+// Phase after phase from the first on, until the gap is met or the budget is spent.
 fn all_phases(
     alloc: Global,
     on: &Given<'_>,
@@ -66,7 +66,7 @@ fn all_phases(
     }
 }
 
-/// The proof of all phases, with the rows in order.
+// The proof of all phases, with the rows in order.
 fn finished(
     alloc: Global,
     on: &Given<'_>,
@@ -114,7 +114,7 @@ fn finished(
     Ok(HopProof { proof, layers })
 }
 
-/// The proof where some commodity has no allowed walk.
+// The proof where some commodity has no allowed walk.
 fn cut_off(
     alloc: Global,
     on: &Given<'_>,
@@ -152,7 +152,7 @@ fn cut_off(
     Ok(HopProof { proof, layers })
 }
 
-/// A cut's proof, or that of all phases.
+// A cut's proof, or that of all phases.
 fn run(alloc: Global, on: &Given<'_>, options: &RunOptions) -> Result<HopProof, AllocError>
     requires limits { AreLimits on.now.net.now on.now.limits.now }
     requires options { AreRunOptions (length on.now.net.now.commodities) options.now }

@@ -22,8 +22,11 @@ use std::alloc::{AllocError, Global};
 /// What the turns so far have made: the load of each cell in units, the lengths under them, and the rows of paths.
 #[derive(Drop)]
 pub struct Routed {
+    /// The load of each cell, in units.
     pub loads: Vec<u64>,
+    /// The length of each cell.
     pub table: LengthTable,
+    /// The rows of paths with their weights.
     pub tally: Tally,
 }
 
@@ -40,7 +43,7 @@ pub fn new_routed(alloc: Global, on: &Given<'_>, setting: &Setting) -> Result<Ro
     })
 }
 
-/// Adds the amount to the load of each cell of the path.
+// Adds the amount to the load of each cell of the path.
 fn add_along(loads: &mut [u64], path: &[u16], amount: u64)
     requires cells { All (λ c. c < length loads.old) path.now }
     requires room { (c : ℕ) → c < length loads.old
@@ -54,7 +57,7 @@ fn add_along(loads: &mut [u64], path: &[u16], amount: u64)
     }
 }
 
-/// The amount goes for the commodity along the path, and the lengths follow. `Err` is for want of memory.
+// The amount goes for the commodity along the path, and the lengths follow. `Err` is for want of memory.
 fn route(
     on: &Given<'_>,
     routed: &mut Routed,
@@ -79,7 +82,7 @@ fn route(
     Ok(())
 }
 
-/// The turn of a commodity, of which a path was found, or none: whether there is one.
+// The turn of a commodity, of which a path was found, or none: whether there is one.
 fn turn_along(
     on: &Given<'_>,
     routed: &mut Routed,
@@ -107,7 +110,7 @@ fn turn_along(
     Ok(true)
 }
 
-/// The turn of a commodity without a limit: whether it has an allowed walk.
+// The turn of a commodity without a limit: whether it has an allowed walk.
 fn free_turn(
     on: &Given<'_>,
     routed: &mut Routed,
@@ -133,7 +136,7 @@ fn free_turn(
     turn_along(on, routed, k, found, commodity.amount)
 }
 
-/// Whether the path has at most so many cells, where there is one.
+// Whether the path has at most so many cells, where there is one.
 fn is_short(found: Option<&[u16]>, limit: u8) -> bool
     ensures { IsTrue result → MatchOption (option_map (λ path. path.now) found.entry) (Unit {0})
         (λ walk. length walk ≤ limit) }
@@ -144,7 +147,7 @@ fn is_short(found: Option<&[u16]>, limit: u8) -> bool
     }
 }
 
-/// The turn of a commodity of this limit, by layers: whether it has an allowed walk.
+// The turn of a commodity of this limit, by layers: whether it has an allowed walk.
 fn layered_turn(
     on: &Given<'_>,
     routed: &mut Routed,
@@ -173,8 +176,8 @@ fn layered_turn(
     turn_along(on, routed, k, found, commodity.amount)
 }
 
-/// The turn of a commodity of this limit: whether it has an allowed walk. A least of all walks that has no more cells than
-/// the limit is a least of those within it, so layers are searched only where the limit binds.
+// The turn of a commodity of this limit: whether it has an allowed walk. A least of all walks that has no more cells than
+// the limit is a least of those within it, so layers are searched only where the limit binds.
 fn limited_turn(
     on: &Given<'_>,
     routed: &mut Routed,
@@ -209,7 +212,7 @@ fn limited_turn(
     layered_turn(on, routed, layered, k, limit)
 }
 
-/// The turn of a commodity: whether it has an allowed walk.
+// The turn of a commodity: whether it has an allowed walk.
 fn turn(
     on: &Given<'_>,
     routed: &mut Routed,

@@ -11,7 +11,7 @@ use crate::given::Given;
 use dual_bound::{Row, are_filled, blank_row, fill_rows, mark_all};
 use std::alloc::{AllocError, Global};
 
-/// Appends a blank row, if the node is asked for one.
+// Appends a blank row, if the node is asked for one.
 fn append_row(
     alloc: Global,
     rows: &mut Vec<Row>,
@@ -32,7 +32,7 @@ fn append_row(
     Ok(())
 }
 
-/// A blank row for each of these sources.
+// A blank row for each of these sources.
 fn blank_rows(alloc: Global, on: &Given<'_>) -> Result<Vec<Row>, AllocError>
     ensures sources { IfOk result (λ rows. sources_of rows.items
         ≡ filter (is_unlimited on.now.net.now on.now.limits.now)

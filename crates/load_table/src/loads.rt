@@ -70,14 +70,14 @@ impl Model for Pass {
     ghost invariant = { λ p. (p.seat.me.1 ≡ []) × IsOwn p.seat.me.0 p.own.items };
 }
 
-/// The bases that have a word in the table: where there is one worker, which has the words in its pass, none.
+// The bases that have a word in the table: where there is one worker, which has the words in its pass, none.
 fn shared_bases(base: &[u64], workers: u16) -> &[u64]
     ensures { result.now ≡ if workers == 1 then [] else base.now }
 {
     if workers == 1 { &base[..0] } else { base }
 }
 
-/// The words of the table: 0, and each base, in its place.
+// The words of the table: 0, and each base, in its place.
 fn words_placed(alloc: Global, wide: bool, base: &[u64]) -> Result<Vec<u64>, AllocError>
     requires { length base.now ≤ MAX_CELLS }
     ensures placed { IfOk result (λ v. HasPlaced wide v.items (0 ∷ base.now)) }
@@ -88,7 +88,7 @@ fn words_placed(alloc: Global, wide: bool, base: &[u64]) -> Result<Vec<u64>, All
     Ok(words)
 }
 
-/// Puts each base in its place.
+// Puts each base in its place.
 fn put_bases(wide: bool, base: &[u64], words: &mut [u64])
     requires count { length words.old ≡ place wide (length base.now + 1) }
     requires few { length base.now ≤ MAX_CELLS }
@@ -110,14 +110,14 @@ fn words_over(alloc: Global, base: &[u64]) -> Result<Vec<u64>, AllocError>
     Ok(words)
 }
 
-/// The words, where there is one worker.
+// The words, where there is one worker.
 fn own_words(alloc: Global, words: Vec<u64>, workers: u16) -> Vec<u64>
     ensures { workers ≡ 1 → result.items ≡ words.items }
 {
     if workers == 1 { words } else { Vec::new(alloc) }
 }
 
-/// Adds the amount to the word of each cell of a path.
+// Adds the amount to the word of each cell of a path.
 fn put_along(own: &mut [u64], path: &[u16], amount: u64)
     requires inside { All (λ c. c + 1 < length own.old) path.now }
     requires different { AreDifferent path.now }

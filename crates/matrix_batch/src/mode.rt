@@ -8,17 +8,25 @@ use sndlib_grammar::TokenKind;
 /// Where reading stands.
 #[derive(Clone, Copy, Debug)]
 pub enum Mode {
-    /// Where a matrix may begin, and behind its name.
+    /// Where a matrix may begin, or the list end.
     Between,
+    /// Behind the name of a matrix, where its parenthesis opens.
     Opening,
-    /// Where a demand or the end of the matrix may stand, and what of a demand comes next.
+    /// Where a demand may begin, or the matrix end.
     Inside,
+    /// Behind the id of a demand, where the parenthesis of its ends opens.
     Ends,
+    /// Where the source stands.
     Source,
+    /// Where the target stands.
     Target,
+    /// Where the parenthesis of the ends closes.
     EndsClose,
+    /// Where the routing unit stands.
     Unit,
+    /// Where the demand value stands.
     Value,
+    /// Where the longest path stands.
     Longest,
 }
 

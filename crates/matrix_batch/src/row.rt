@@ -6,7 +6,10 @@ use sndlib_rows::DemandRow;
 /// A matrix: its name, the line of its name, and its demands.
 #[derive(Debug, Drop)]
 pub struct MatrixRows<'a> {
+    /// Its name.
     pub name: &'a [u8],
+    /// The number of the line of its name, from 1 on.
     pub line: u32,
+    /// Its demands, in their order.
     pub demands: Vec<DemandRow<'a>>,
 }

@@ -17,8 +17,11 @@ use unit_scale::{NetOptions, RowEnd, RowRefusal, RowSort, scale_at};
 /// The matrices so far, and the lines of the first that is too large and of the first without a commodity.
 #[derive(Drop)]
 pub struct Sofar<'a> {
+    /// The matrices.
     pub matrices: Vec<Matrix<'a>>,
+    /// The line of the first matrix that is too large.
     pub large: Option<u32>,
+    /// The line of the first matrix without a commodity.
     pub empty: Option<u32>,
 }
 

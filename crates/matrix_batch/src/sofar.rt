@@ -15,10 +15,15 @@ use std::mem;
 /// The first words of a demand.
 #[derive(Clone, Copy, Debug)]
 pub struct Draft<'a> {
+    /// Its id.
     pub id: Word<'a>,
+    /// The name of its source.
     pub source: Word<'a>,
+    /// The name of its target.
     pub target: Word<'a>,
+    /// Its routing unit.
     pub unit: Word<'a>,
+    /// Its demand value.
     pub value: Word<'a>,
 }
 
@@ -27,13 +32,19 @@ pub struct Draft<'a> {
 /// many.
 #[derive(Debug, Drop)]
 pub struct Sofar<'a> {
+    /// The name of the next matrix.
     pub name: Word<'a>,
+    /// The first words of its next demand.
     pub draft: Draft<'a>,
+    /// The demands that it has so far.
     pub demands: Vec<DemandWords<'a>>,
+    /// The matrices before it.
     pub matrices: Vec<MatrixWords<'a>>,
     /// How many demands are kept in all.
     pub count: u32,
+    /// The line of the first demand too many.
     pub extra_demand: Option<u32>,
+    /// The line of the first matrix too many.
     pub extra_matrix: Option<u32>,
 }
 

@@ -43,7 +43,7 @@ pub fn for_each_chunk_mut<R: Threads + Sync, T: Send, F: Fn(usize, &mut [T]) + S
     }
 }
 
-/// The chunks of `items`, which start at place `base` of the whole list.
+// The chunks of `items`, which start at place `base` of the whole list.
 #[cycle(chain)]
 fn chain<R: Threads + Sync, T: Send, F: Fn(usize, &mut [T]) + Sync>(
     rt: &R,
@@ -63,7 +63,7 @@ fn chain<R: Threads + Sync, T: Send, F: Fn(usize, &mut [T]) + Sync>(
     first_and_rest(rt, work, base, size, first, base + size, rest);
 }
 
-/// The first chunk in a new thread, and the rest from this one.
+// The first chunk in a new thread, and the rest from this one.
 #[cycle(chain)]
 fn first_and_rest<R: Threads + Sync, T: Send, F: Fn(usize, &mut [T]) + Sync>(
     rt: &R,

@@ -48,6 +48,7 @@ static COMMANDS: [Command; 15] = [
 /// What the words of a command may be.
 #[derive(Clone, Copy)]
 pub struct Form {
+    /// The word of the command.
     pub word: &'static [u8],
     /// How many files the command reads at least; none where it takes numbers.
     pub least: usize,

@@ -27,10 +27,15 @@ use unit_scale::{LinkMode, ModuleMode, NetOptions, link_mode_of, module_mode_of}
 /// What the options say, and the defaults of those that do not stand.
 #[derive(Clone, Copy, Debug)]
 pub struct Choices {
+    /// How links and modules are read.
     pub net: NetOptions,
+    /// The gap, in millionths.
     pub gap: u64,
+    /// The phase budget; `None` where no option says it.
     pub phases: Option<u32>,
+    /// The number of workers; `None` where no option says it.
     pub workers: Option<u16>,
+    /// How sharply lengths rise with loads.
     pub step: u32,
 }
 

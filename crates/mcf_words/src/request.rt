@@ -11,20 +11,35 @@ use unit_scale::NetOptions;
 /// What is to be done.
 #[derive(Clone, Copy, Debug, PartialEq, Eq)]
 pub enum Command {
+    /// Solves a network, and writes its certificate.
     Solve,
+    /// Judges a certificate or a routing.
     Check,
+    /// Evaluates a certificate under edited capacities.
     WhatIf,
+    /// Writes a valid certificate again, in form 2.
     Upgrade,
+    /// Writes the best certificate that one or two give.
     Tighten,
+    /// Solves a network for each matrix of a list.
     Batch,
+    /// Evaluates a certificate without each single link.
     Sweep,
+    /// Solves a network without each single link.
     SweepSolve,
+    /// Judges a certificate with hop limits.
     CheckHops,
+    /// Judges a certificate of a total.
     CheckThroughput,
+    /// Solves a network within the hop limits of its demands.
     Hops,
+    /// Solves a network for the greatest total.
     Throughput,
+    /// Writes the canonical text of a network.
     Print,
+    /// Writes a network that is drawn from a seed.
     Gen,
+    /// Solves such a network, and writes a line on it.
     Trial,
 }
 
@@ -91,11 +106,13 @@ impl Names {
 /// A command with its words.
 #[derive(Drop)]
 pub struct Request {
+    /// The command.
     pub command: Command,
     /// The names of files, in order.
     pub names: Names,
     /// For `gen` and `trial` the seed and the numbers of nodes, links and demands; else four zeros.
     pub numbers: [u64; 4],
+    /// How links and modules are read.
     pub net: NetOptions,
     /// In millionths.
     pub gap: u64,
@@ -103,6 +120,7 @@ pub struct Request {
     pub phases: Option<u32>,
     /// `None` where the words leave the number of workers open.
     pub workers: Option<u16>,
+    /// How sharply lengths rise with loads, from 1 to 2^20.
     pub step: u32,
 }
 
@@ -111,6 +129,7 @@ pub struct Request {
 pub enum WordsEnd {
     /// The words are not in the grammar.
     Usage,
+    /// Memory ran out.
     Memory,
 }
 

@@ -8,10 +8,10 @@ ghost use Rattle.net_gen.specs.Generated.{drawn_ends, link_ends, link_capacity, 
 use rand_core::utils::NextWord;
 use rand_pcg::Lcg128Xsl64;
 
-/// The capacity of the first link.
+// The capacity of the first link.
 const WIDE: u32 = 1_000_000_000;
 
-/// The most that is drawn as a capacity.
+// The most that is drawn as a capacity.
 const MAX_DRAWN: u16 = 1000;
 
 // The next word as a number below `count`.

@@ -15,10 +15,10 @@ use rand_core::SeedableRng;
 use rand_pcg::Lcg128Xsl64;
 use std::alloc::{AllocError, Global};
 
-/// The first line, and the line that opens the nodes.
+// The first line, and the line that opens the nodes.
 const NODES: &str = "?SNDlib native format; type: network; version: 1.0\nNODES (\n";
 
-/// The line that closes the nodes, and the one that opens the links.
+// The line that closes the nodes, and the one that opens the links.
 const LINKS: &str = ")\nLINKS (\n";
 
 const DEMANDS: &str = ")\nDEMANDS (\n";

@@ -16,9 +16,13 @@ use solver_run::SolveOptions;
 /// lengths.
 #[derive(Clone, Copy, Debug, PartialEq, Eq)]
 pub struct Asked {
+    /// The gap, in millionths.
     pub gap: u64,
+    /// The phase budget; `None` for as many as the work allows, up to the default.
     pub phases: Option<u32>,
+    /// The number of workers; `None` for one or several, by the number of commodities.
     pub workers: Option<u16>,
+    /// How sharply lengths rise with loads, from 1 to 2^20.
     pub step: u32,
 }
 

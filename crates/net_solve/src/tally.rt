@@ -20,7 +20,7 @@ pub fn total_amount(net: &Net) -> u64
     total
 }
 
-/// The weights of all path rows, in units.
+// The weights of all path rows, in units.
 fn weight_of(paths: &PathStore) -> u128
     ensures { result ≡ carried_of paths.now }
 {

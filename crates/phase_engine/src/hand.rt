@@ -7,9 +7,14 @@ use dijkstra_paths::Scratch;
 /// of the routes are kept from phase to phase; before the first there is no room.
 #[derive(Drop)]
 pub struct Hand {
+    /// The number of the worker, from 0 on.
     pub worker: u16,
+    /// Room for searches.
     pub scratch: Scratch,
+    /// The loads that it read last, and the lengths under them.
     pub room: Option<Room>,
+    /// The paths that it has routed.
     pub routes: Routes,
+    /// Its pass, and whether memory ran out, while a phase lasts.
     pub turn: Option<Worked>,
 }

@@ -18,7 +18,7 @@ use mcf_base::Gate;
 use std::alloc::Global;
 use std::thread::Threads;
 
-/// Forgets all routes.
+// Forgets all routes.
 fn clear_all(hands: &mut [Hand])
     ensures cleared { All (λ h. h.routes ≡ []) hands.new }
     ensures back { (k : ℕ) (d : _) → k < length hands.old

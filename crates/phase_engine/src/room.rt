@@ -11,7 +11,9 @@ use std::alloc::{AllocError, Global};
 /// The load of each cell as it was read last, and the lengths that follow such loads under one setting.
 #[derive(Drop)]
 pub struct Room {
+    /// The load of each cell, in units.
     pub loads: Vec<u64>,
+    /// The length of each cell.
     pub lengths: LengthTable,
 }
 

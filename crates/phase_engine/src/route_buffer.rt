@@ -93,7 +93,7 @@ impl RouteBuffer {
         self.free = self.cells.len();
     }
 
-    /// Makes more places ready, of those that there is room for: so many, or as many as there are already, if that is more.
+    // Makes more places ready, of those that there is room for: so many, or as many as there are already, if that is more.
     fn widen(&mut self, cells: usize)
         requires { cells ≤ self.old.cells }
         ensures same { self.new.routes ≡ self.old.routes }
@@ -168,7 +168,7 @@ impl RouteBuffer {
     }
 }
 
-/// Appends so many cells, for which there is room.
+// Appends so many cells, for which there is room.
 fn append_blank(cells: &mut Vec<u16>, count: usize)
     requires { vec_len cells.old + count ≤ vec_capacity cells.old }
     ensures items { cells.new.items ≡ cells.old.items ++ replicate count 0 }
@@ -180,7 +180,7 @@ fn append_blank(cells: &mut Vec<u16>, count: usize)
     }
 }
 
-/// Puts the cells of the path that the search found to a node at the end of those that are free, and answers where they begin.
+// Puts the cells of the path that the search found to a node at the end of those that are free, and answers where they begin.
 #[inline(always)]
 fn put_before(cells: &mut [u16], free: usize, scratch: &Scratch, to: u16) -> usize
     requires to { to < scratch.now.nodes }

@@ -15,7 +15,7 @@ use mcf_base::Gate;
 use std::alloc::Global;
 use std::thread::Threads;
 
-/// Takes what stands in the turn.
+// Takes what stands in the turn.
 fn take(hand: &mut Hand) -> Worked
     requires { IsSome hand.old.turn }
     ensures { (hand.old.turn ≡ Some result) × (hand.new ≡ record hand.old { turn = None }) }
@@ -73,7 +73,7 @@ pub fn take_turn<G: Watch>(alloc: Global, shared: &Shared<'_, G>, hand: &mut Han
     hand.turn = Some(worked);
 }
 
-/// The work of some hands, one after the other.
+// The work of some hands, one after the other.
 fn take_turns<G: Gate>(alloc: Global, shared: &Shared<'_, G>, part: &mut [Hand])
     requires of { AreOf shared.now.input.now shared.now.loads.now }
     requires ready { (k : ℕ) (d : _) → k < length part.old

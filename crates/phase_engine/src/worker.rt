@@ -29,11 +29,13 @@ use std::alloc::Global;
 /// What a worker hands back: its pass, and whether room was refused.
 #[derive(Drop)]
 pub struct Worked {
+    /// Its pass.
     pub pass: Pass,
+    /// Whether room was refused, so that it stopped.
     pub memory: bool,
 }
 
-/// How many members the greatest group has.
+// How many members the greatest group has.
 fn greatest_group(net: &Net, groups: &Groups) -> usize
     requires { groups.now ≡ net.now }
     ensures greatest { (g : ℕ) → g < group_count net.now → length (members_of net.now g) ≤ result }
@@ -50,7 +52,7 @@ fn greatest_group(net: &Net, groups: &Groups) -> usize
     most.min(demands)
 }
 
-/// Routes the claimed group: reads all cells, searches, and adds for each member.
+// Routes the claimed group: reads all cells, searches, and adds for each member.
 fn route_ticket(
     input: &PhaseInput<'_>,
     loads: &Loads,
@@ -101,7 +103,7 @@ fn route_ticket(
     );
 }
 
-/// Claims and routes until a ticket is past the end, or room is refused, which it answers.
+// Claims and routes until a ticket is past the end, or room is refused, which it answers.
 fn claim_all<G: Watch>(
     shared: &Shared<'_, G>,
     worker: u16,

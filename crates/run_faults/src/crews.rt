@@ -11,10 +11,10 @@ use std::test::Fail;
 use std::thread;
 use std::thread::Threads;
 
-/// Turns that a job waits for the others at most.
+// Turns that a job waits for the others at most.
 const TURNS: u32 = 10_000_000;
 
-/// A number to be doubled once so many jobs have begun.
+// A number to be doubled once so many jobs have begun.
 #[derive(Drop)]
 struct Doubling<'a> {
     number: u64,
@@ -50,7 +50,7 @@ impl<'a> Job for Doubling<'a> {
     }
 }
 
-/// A number that waits until so many have begun.
+// A number that waits until so many have begun.
 fn one(number: u64, begun: &AtomicU64, jobs: u64) -> Option<Doubling<'_>>
     ensures { IsSome result }
 {
@@ -61,7 +61,7 @@ fn one(number: u64, begun: &AtomicU64, jobs: u64) -> Option<Doubling<'_>>
     })
 }
 
-/// The numbers 1, 2 and 3, which wait until so many have begun.
+// The numbers 1, 2 and 3, which wait until so many have begun.
 fn three(
     alloc: Global,
     begun: &AtomicU64,
@@ -76,7 +76,7 @@ fn three(
     Ok(all)
 }
 
-/// What has come of a job.
+// What has come of a job.
 fn number_of(job: &Option<Doubling<'_>>) -> u64 {
     match job {
         Some(it) => it.number,
@@ -84,7 +84,7 @@ fn number_of(job: &Option<Doubling<'_>>) -> u64 {
     }
 }
 
-/// Whether the jobs have come to 2, 4 and 6.
+// Whether the jobs have come to 2, 4 and 6.
 fn are_doubled(jobs: &[Option<Doubling<'_>>]) -> bool {
     let mut wanted = 2u64;
     for job in jobs {
@@ -96,7 +96,7 @@ fn are_doubled(jobs: &[Option<Doubling<'_>>]) -> bool {
     jobs.len() == 3
 }
 
-/// Whether the crew has worked on three jobs, which wait until so many have begun.
+// Whether the crew has worked on three jobs, which wait until so many have begun.
 fn work_on<'a>(
     alloc: Global,
     crew: &mut Crew<'_, Doubling<'a>>,
@@ -108,7 +108,7 @@ fn work_on<'a>(
     Ok(whole && are_doubled(&jobs))
 }
 
-/// Whether the crew has worked on three jobs, of which the first waits for a call beside them, and has answered with what that found.
+// Whether the crew has worked on three jobs, of which the first waits for a call beside them, and has answered with what that found.
 fn work_beside_a_call<'a>(
     alloc: Global,
     crew: &mut Crew<'_, Doubling<'a>>,
@@ -120,7 +120,7 @@ fn work_beside_a_call<'a>(
     Ok(whole && found == 0 && are_doubled(&jobs))
 }
 
-/// Whether no thread had gone, and they have worked on three jobs, of which the first waits for the second. Then they are told to go.
+// Whether no thread had gone, and they have worked on three jobs, of which the first waits for the second. Then they are told to go.
 fn lead<'a>(
     alloc: Global,
     crew: &mut Crew<'_, Doubling<'a>>,
@@ -133,7 +133,7 @@ fn lead<'a>(
     there && worked
 }
 
-/// Whether a thread at this post and the caller's have worked at the same time, and the thread has gone then.
+// Whether a thread at this post and the caller's have worked at the same time, and the thread has gone then.
 fn meet<'a, 'c, R: Threads + Sync>(
     rt: &R,
     alloc: Global,
@@ -188,7 +188,7 @@ fn a_call_beside_comes_before_jobs_that_no_thread_takes(rt: HostRuntime) -> Resu
     Ok(())
 }
 
-/// It starts when it is told to go already, so it goes at once, and is given no job.
+// It starts when it is told to go already, so it goes at once, and is given no job.
 #[test]
 fn a_thread_that_was_told_to_go_is_not_there(rt: HostRuntime) -> Result<(), Fail> {
     let alloc = rt.alloc();

@@ -11,7 +11,7 @@ use std::process::Abort;
 use std::test::Fail;
 use std::thread::Threads;
 
-/// A run that answers with status 0, and how often it reads.
+// A run that answers with status 0, and how often it reads.
 #[derive(Drop)]
 struct Run {
     words: &'static [&'static str],
@@ -20,7 +20,7 @@ struct Run {
     reads: u64,
 }
 
-/// A read takes 64 bytes at most, and a write one byte.
+// A read takes 64 bytes at most, and a write one byte.
 const SMALL: Outside = Outside {
     most_read: 64,
     most_written: 1,

@@ -7,18 +7,18 @@ use std::sync::atomic::{AtomicBool, AtomicU64, Ordering};
 use std::test::Fail;
 use std::thread;
 
-/// A link of 10, and a demand of 5 each way.
+// A link of 10, and a demand of 5 each way.
 const LINK_BOTH_WAYS: &[u8] =
     b"?SNDlib native format; type: network; version: 1.0\nNODES (\n  A\n  B\n)\nLINKS (\n  L1 ( A B ) 10 0 0 0 ( )\n)\nDEMANDS (\n  D1 ( A B ) 1 5 UNLIMITED\n  D2 ( B A ) 1 5 UNLIMITED\n)\n";
 
-/// Links of 3 and 7 side by side, and a demand of 5 each way.
+// Links of 3 and 7 side by side, and a demand of 5 each way.
 const TWO_LINKS_BOTH_WAYS: &[u8] =
     b"?SNDlib native format; type: network; version: 1.0\nNODES (\n  A\n  B\n)\nLINKS (\n  L1 ( A B ) 3 0 0 0 ( )\n  L2 ( A B ) 7 0 0 0 ( )\n)\nDEMANDS (\n  D1 ( A B ) 1 5 UNLIMITED\n  D2 ( B A ) 1 5 UNLIMITED\n)\n";
 
-/// Turns that a held worker waits at most.
+// Turns that a held worker waits at most.
 const TURNS: u32 = 10_000_000;
 
-/// Waits until the flag is set.
+// Waits until the flag is set.
 fn hold(flag: &AtomicBool) {
     for _ in 0..TURNS {
         if flag.load(Ordering::SeqCst) {
@@ -28,7 +28,7 @@ fn hold(flag: &AtomicBool) {
     }
 }
 
-/// Holds the worker of one call until a worker of another number has called with a ticket that is not below the least.
+// Holds the worker of one call until a worker of another number has called with a ticket that is not below the least.
 #[derive(Drop)]
 struct Meeting {
     calls: AtomicU64,
@@ -49,7 +49,7 @@ impl Meeting {
         }
     }
 
-    /// The worker of the call that is held, once it is known.
+    // The worker of the call that is held, once it is known.
     fn held_worker(&self) -> u64 {
         for _ in 0..TURNS {
             let worker = self.held.load(Ordering::SeqCst);
@@ -76,7 +76,7 @@ impl Gate for Meeting {
     }
 }
 
-/// A link that both demands share, one each way.
+// A link that both demands share, one each way.
 #[test]
 fn two_workers_overlap(rt: HostRuntime) -> Result<(), Fail> {
     let gate = Meeting::new(0, 0);
@@ -94,7 +94,7 @@ fn two_workers_overlap(rt: HostRuntime) -> Result<(), Fail> {
     Ok(())
 }
 
-/// The held worker reads the loads of the other one, and takes the other link.
+// The held worker reads the loads of the other one, and takes the other link.
 #[test]
 fn a_held_worker_reads_the_shared_loads(rt: HostRuntime) -> Result<(), Fail> {
     let gate = Meeting::new(4, 2);
@@ -122,10 +122,10 @@ fn a_held_worker_reads_the_shared_loads(rt: HostRuntime) -> Result<(), Fail> {
     Ok(())
 }
 
-/// Two matrices of one demand each.
+// Two matrices of one demand each.
 const TWO_MATRICES: &[u8] = b"m1 ( D1 ( A B ) 1 10 UNLIMITED )\nm2 ( D1 ( A B ) 1 5 UNLIMITED )\n";
 
-/// Holds the first call until a second one has come, whichever workers call.
+// Holds the first call until a second one has come, whichever workers call.
 #[derive(Drop)]
 struct Pair {
     calls: AtomicU64,
@@ -154,8 +154,8 @@ impl Gate for Pair {
     }
 }
 
-/// Two links are solved at the same time: the first claim of all is held until the solve of the other link has claimed, which
-/// no call of the held one can do in its place.
+// Two links are solved at the same time: the first claim of all is held until the solve of the other link has claimed, which
+// no call of the held one can do in its place.
 #[test]
 fn two_solves_of_a_sweep_meet(rt: HostRuntime) -> Result<(), Fail> {
     let gate = Pair::new();
@@ -166,7 +166,7 @@ fn two_solves_of_a_sweep_meet(rt: HostRuntime) -> Result<(), Fail> {
     Ok(())
 }
 
-/// Two matrices are solved at the same time, likewise.
+// Two matrices are solved at the same time, likewise.
 #[test]
 fn two_solves_of_a_batch_meet(rt: HostRuntime) -> Result<(), Fail> {
     let gate = Pair::new();

@@ -5,7 +5,7 @@ use cert_cases::ONE_LINK;
 use run_given::{BOTH_WAYS, NO_CAPACITY, TWO_LINKS, expect_net};
 use std::test::Fail;
 
-/// Links of 7, 3 and 1 side by side, and a demand of 10.
+// Links of 7, 3 and 1 side by side, and a demand of 10.
 const THREE_LINKS: &[u8] =
     b"?SNDlib native format; type: network; version: 1.0\nNODES (\n  A\n  B\n)\nLINKS (\n  L1 ( A B ) 7 0 0 0 ( )\n  L2 ( A B ) 3 0 0 0 ( )\n  L3 ( A B ) 1 0 0 0 ( )\n)\nDEMANDS (\n  D1 ( A B ) 1 10 UNLIMITED\n)\n";
 

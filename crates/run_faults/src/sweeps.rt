@@ -12,7 +12,7 @@ use std::test::Fail;
 pub const NO_LINKS: &[u8] =
     b"?SNDlib native format; type: network; version: 1.0\nNODES (\n  A\n  B\n)\nLINKS (\n)\nDEMANDS (\n  D1 ( A B ) 1 4 UNLIMITED\n)\n";
 
-/// Its certificate.
+// Its certificate.
 const NO_LINKS_SOLVED: &[u8] =
     b"mcf-certificate 2\nverdict closed\nlinks directed\nmodules largest\nnet nodes 2 cells 0 commodities 1 decimals 0 skipped 0 left 0 hops 0\ngap 0.050000\nphases 0\nscale 0 1\nlower 0/1 0.000000\nupper 0/4 0.000000\npotential A 0 1\nend\n";
 

@@ -3,23 +3,23 @@
 use run_given::{File, TIGHTEN, TIGHTEN_BOTH, expect};
 use std::test::Fail;
 
-/// A triangle with demands from one node to both others.
+// A triangle with demands from one node to both others.
 const TRIANGLE: &[u8] =
     b"?SNDlib native format; type: network; version: 1.0\nNODES (\n  A\n  B\n  C\n)\nLINKS (\n  L1 ( A B ) 10 0 0 0 ( )\n  L2 ( B C ) 6 0 0 0 ( )\n  L3 ( C A ) 6 0 0 0 ( )\n)\nDEMANDS (\n  D1 ( A B ) 1 8 UNLIMITED\n  D2 ( A C ) 1 4 UNLIMITED\n)\n";
 
-/// A certificate of it with the greater lower fraction, and the bound of lengths 1.
+// A certificate of it with the greater lower fraction, and the bound of lengths 1.
 const ROUTED: &[u8] =
     b"mcf-certificate 2\nverdict open\nlinks undirected\nmodules largest\nnet nodes 3 cells 3 commodities 2 decimals 0 skipped 0 left 0 hops 0\ngap 0.050000\nphases 1\nscale 10 8\nlower 10/8 1.250000\nupper 22/12 1.833334\npath D1 8 =L1\npath D2 4 =L3\nlength =L1 1\nlength =L2 1\nlength =L3 1\npotential A 0 1 1\nend\n";
 
-/// One with the lesser lower fraction, and the bound of the cut round the node.
+// One with the lesser lower fraction, and the bound of the cut round the node.
 const CUT_OUT: &[u8] =
     b"mcf-certificate 2\nverdict open\nlinks undirected\nmodules largest\nnet nodes 3 cells 3 commodities 2 decimals 0 skipped 0 left 0 hops 0\ngap 0.050000\nphases 2\nscale 6 10\nlower 12/10 1.200000\nupper 16/12 1.333334\npath D1 14 =L1\npath D1 2 =L3 =L2\npath D2 8 =L3\nlength =L1 1\nlength =L2 0\nlength =L3 1\npotential A 0 1 1\nend\n";
 
-/// The best that each with the other, and the first alone, gives.
+// The best that each with the other, and the first alone, gives.
 const BEST: &[u8] =
     b"mcf-certificate 2\nverdict open\nlinks undirected\nmodules largest\nnet nodes 3 cells 3 commodities 2 decimals 0 skipped 0 left 0 hops 0\ngap 0.050000\nphases 1\nscale 10 8\nlower 10/8 1.250000\nupper 16/12 1.333334\npath D1 8 =L1\npath D2 4 =L3\nlength =L1 1\nlength =L2 0\nlength =L3 1\npotential A 0 1 1\nend\n";
 
-/// The first of them with a verdict that its fractions do not bear out.
+// The first of them with a verdict that its fractions do not bear out.
 const UNTRUE: &[u8] =
     b"mcf-certificate 2\nverdict closed\nlinks undirected\nmodules largest\nnet nodes 3 cells 3 commodities 2 decimals 0 skipped 0 left 0 hops 0\ngap 0.050000\nphases 1\nscale 10 8\nlower 10/8 1.250000\nupper 22/12 1.833334\npath D1 8 =L1\npath D2 4 =L3\nlength =L1 1\nlength =L2 1\nlength =L3 1\npotential A 0 1 1\nend\n";
 
@@ -33,7 +33,7 @@ pub const PATH_CERTIFICATE: &[u8] =
 pub const PATH_BEST: &[u8] =
     b"mcf-certificate 2\nverdict closed\nlinks directed\nmodules none\nnet nodes 3 cells 2 commodities 3 decimals 0 skipped 0 left 0 hops 0\ngap 0.000000\nphases 1\nscale 5 2\nlower 5/2 2.500000\nupper 5/2 2.500000\npath D1 2 +L1\npath D2 1 +L1 +L2\npath D3 1 +L2\nlength +L1 0\nlength +L2 1\npotential A 0 0 1\npotential B 0 0 1\nend\n";
 
-/// Two nodes and a link of two cells.
+// Two nodes and a link of two cells.
 const PAIR: &[u8] =
     b"?SNDlib native format; type: network; version: 1.0\nNODES (\n  A\n  B\n)\nLINKS (\n  L1 ( A B ) 10 0 0 0 ( )\n)\nDEMANDS (\n  D1 ( A B ) 1 5 UNLIMITED\n  D2 ( B A ) 1 4 UNLIMITED\n)\n";
 
@@ -43,7 +43,7 @@ const PAIR_CERTIFICATE: &[u8] =
 const PAIR_BEST: &[u8] =
     b"mcf-certificate 2\nverdict closed\nlinks bidirected\nmodules largest\nnet nodes 2 cells 2 commodities 2 decimals 0 skipped 0 left 0 hops 0\ngap 0.050000\nphases 1\nscale 10 5\nlower 10/5 2.000000\nupper 10/5 2.000000\npath D1 5 +L1\npath D2 4 -L1\nlength +L1 1\nlength -L1 0\npotential A 0 1\npotential B 0 0\nend\n";
 
-/// Two triangles, with a link between them.
+// Two triangles, with a link between them.
 const BAR: &[u8] =
     b"?SNDlib native format; type: network; version: 1.0\nNODES (\n  A\n  B\n  C\n  D\n  E\n  F\n)\nLINKS (\n  L1 ( A B ) 9 0 0 0 ( )\n  L2 ( B C ) 9 0 0 0 ( )\n  L3 ( A C ) 9 0 0 0 ( )\n  L4 ( C D ) 2 0 0 0 ( )\n  L5 ( D E ) 9 0 0 0 ( )\n  L6 ( E F ) 9 0 0 0 ( )\n  L7 ( D F ) 9 0 0 0 ( )\n)\nDEMANDS (\n  D1 ( A F ) 1 1 UNLIMITED\n  D2 ( B E ) 1 1 UNLIMITED\n)\n";
 

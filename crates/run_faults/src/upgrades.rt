@@ -11,11 +11,11 @@ use std::test::Fail;
 pub const OPEN_SIGNED: &[u8] =
     b"mcf-certificate 2\nverdict open\nlinks directed\nmodules largest\nnet nodes 2 cells 2 commodities 1 decimals 0 skipped 0 left 0 hops 0\ngap 0.050000\nphases 1\nscale 7 10\nlower 7/10 0.700000\nupper 20266198323167226/19301141260159260 1.050001\npath D1 10 +L2\nlength +L1 2251799813685248\nlength +L2 1930114126015926\npotential A 0 1930114126015926\nend\n";
 
-/// A certificate in form 1 that `solve` does not write: rows in another order, without weight, and repeated.
+// A certificate in form 1 that `solve` does not write: rows in another order, without weight, and repeated.
 const UNUSUAL: &[u8] =
     b"mcf-certificate 1\nverdict open\nlinks directed\nmodules largest\nnet nodes 2 cells 2 commodities 1 decimals 0 skipped 0 left 0 hops 0\ngap 0.050000\nphases 1\nscale 7 10\nlower 7/10 0.700000\nupper 20266198323167226/19301141260159260 1.050001\npath D1 4 L2\npath D1 0 L1\npath D1 6 L2\nlength L2 1930114126015926\nlength L1 2251799813685248\npotential A 0 1930114126015926\nend\n";
 
-/// The same rows in form 2.
+// The same rows in form 2.
 const UNUSUAL_SIGNED: &[u8] =
     b"mcf-certificate 2\nverdict open\nlinks directed\nmodules largest\nnet nodes 2 cells 2 commodities 1 decimals 0 skipped 0 left 0 hops 0\ngap 0.050000\nphases 1\nscale 7 10\nlower 7/10 0.700000\nupper 20266198323167226/19301141260159260 1.050001\npath D1 4 +L2\npath D1 0 +L1\npath D1 6 +L2\nlength +L2 1930114126015926\nlength +L1 2251799813685248\npotential A 0 1930114126015926\nend\n";
 

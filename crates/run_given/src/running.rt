@@ -15,10 +15,15 @@ pub type File<'a> = (&'a str, &'a [u8]);
 /// that fail: 0 fails none.
 #[derive(Clone, Copy)]
 pub struct Outside {
+    /// How many bytes a read gives at most.
     pub most_read: usize,
+    /// How many bytes a write takes at most.
     pub most_written: usize,
+    /// How many bytes there is room for in the output.
     pub room: usize,
+    /// The number of the read that fails, from 1 on; 0 for none.
     pub failing_read: u64,
+    /// The number of the write that fails, from 1 on; 0 for none.
     pub failing_write: u64,
 }
 
@@ -34,7 +39,9 @@ pub const AMPLE: Outside = Outside {
 /// What a run wrote, and how it ended.
 #[derive(Drop)]
 pub struct Answer {
+    /// The status, 0 to 6.
     pub status: u8,
+    /// The output.
     pub sink: MemSink,
 }
 

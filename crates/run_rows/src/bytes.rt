@@ -9,12 +9,12 @@ use std::process::Abort;
 use std::test::Fail;
 use std::thread::Threads;
 
-/// What a byte is exchanged for.
+// What a byte is exchanged for.
 const OTHERS: &[u8] = b" #9\xff";
 
 const SOLVE: &[&str] = &["solve", "net", "--workers", "1", "--phases", "20"];
 
-/// What a text is read as.
+// What a text is read as.
 #[derive(Clone, Copy)]
 enum Kind {
     Network,

@@ -11,13 +11,13 @@ use std::thread::Threads;
 
 const HEADER: &[u8] = b"?SNDlib native format; type: network; version: 1.0\n";
 
-/// What stands behind the name of each link.
+// What stands behind the name of each link.
 const LINK: &[u8] = b" ( N00000 N00001 ) 10 0 0 0 ( )\n";
 
-/// And of each demand.
+// And of each demand.
 const DEMAND: &[u8] = b" ( N00000 N00001 ) 1 1 UNLIMITED\n";
 
-/// Room for the text of the largest network, and for its certificate.
+// Room for the text of the largest network, and for its certificate.
 const ROOM: usize = 2 << 20;
 
 // One phase puts all demands on one link.
@@ -35,7 +35,7 @@ const SOLVE_EACH_WAY: &[&str] = &[
     "bidirected",
 ];
 
-/// How many nodes, links and demands a network has.
+// How many nodes, links and demands a network has.
 #[derive(Clone, Copy)]
 struct Counts {
     nodes: u32,

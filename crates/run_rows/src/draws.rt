@@ -11,7 +11,7 @@ const SMALL: &[&str] = &["gen", "5", "2", "2", "1"];
 const SMALL_DRAWN: &[u8] =
     b"?SNDlib native format; type: network; version: 1.0\nNODES (\n  N0\n  N1\n)\nLINKS (\n  L0 ( N0 N1 ) 1000000000 0 0 0 ( )\n  L1 ( N1 N0 ) 845 0 0 0 ( )\n)\nDEMANDS (\n  D0 ( N1 N0 ) 1 1 UNLIMITED\n)\n";
 
-/// What a row shows, the words, the status, and the text.
+// What a row shows, the words, the status, and the text.
 type Row = (&'static str, &'static [&'static str], u8, &'static [u8]);
 
 const ROWS: &[Row] = &[
@@ -164,7 +164,7 @@ fn known_lines(rt: HostRuntime) -> Result<(), Fail> {
     Ok(())
 }
 
-/// Room for the text of the greatest network.
+// Room for the text of the greatest network.
 const ROOMY: Outside = Outside {
     room: 2 << 20,
     ..AMPLE

@@ -8,7 +8,7 @@ use std::process::Abort;
 use std::test::Fail;
 use std::thread::Threads;
 
-/// How many bytes of a network's header are wanted.
+// How many bytes of a network's header are wanted.
 const NET_HEADER: usize = 37;
 
 // The front of the network of one link: refused at its end, or accepted without its last line feed.
@@ -84,13 +84,13 @@ fn fronts_of_a_routing(rt: HostRuntime) -> Result<(), Fail> {
     expect_fronts(&rt, rt.alloc(), 13, SIGNED_ROUTING)
 }
 
-/// What comes of each front of the script: the number of the refusal, or a point where the front is itself a script.
+// What comes of each front of the script: the number of the refusal, or a point where the front is itself a script.
 const ENDS: &[u8] = b".1111211...111..1111112..111";
 
 const SHOWN: &[u8] =
     b"show lower 14/4 3.500000 upper 63050394783186944/18014398509481984 3.500000\nshow lower 0/4 0.000000 upper 0/18014398509481984 0.000000\n";
 
-/// How many bytes the line of the first `show` has.
+// How many bytes the line of the first `show` has.
 const FIRST: usize = 76;
 
 // The front of the script: refused in its last line, or a script that shows so much.

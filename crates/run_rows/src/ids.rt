@@ -9,15 +9,15 @@ use std::alloc::Global;
 use std::test::Fail;
 use std::thread::Threads;
 
-/// A node, a link and a demand of one id, which stands for each `@`.
+// A node, a link and a demand of one id, which stands for each `@`.
 const NETWORK: &[u8] =
     b"?SNDlib native format; type: network; version: 1.0\nNODES (\n  @\n  B\n)\nLINKS (\n  @ ( @ B ) 10 0 0 0 ( )\n)\nDEMANDS (\n  @ ( @ B ) 1 4 UNLIMITED\n)\n";
 
-/// What is solved of it.
+// What is solved of it.
 const SOLVED: &[u8] =
     b"mcf-certificate 2\nverdict closed\nlinks directed\nmodules largest\nnet nodes 2 cells 1 commodities 1 decimals 0 skipped 0 left 0 hops 0\ngap 0.050000\nphases 1\nscale 10 4\nlower 10/4 2.500000\nupper 45035996273704960/18014398509481984 2.500000\npath @ 4 +@\nlength +@ 4503599627370496\npotential @ 0 4503599627370496\nend\n";
 
-/// The same in form 1.
+// The same in form 1.
 const OLD: &[u8] =
     b"mcf-certificate 1\nverdict closed\nlinks directed\nmodules largest\nnet nodes 2 cells 1 commodities 1 decimals 0 skipped 0 left 0 hops 0\ngap 0.050000\nphases 1\nscale 10 4\nlower 10/4 2.500000\nupper 45035996273704960/18014398509481984 2.500000\npath @ 4 @\nlength @ 4503599627370496\npotential @ 0 4503599627370496\nend\n";
 
@@ -27,7 +27,7 @@ const SHOWN: &[u8] = b"show lower 0/4 0.000000 upper 0/18014398509481984 0.00000
 
 const SOLVE: &[&str] = &["solve", "net", "--links", "directed"];
 
-/// Words of the formats, digits, signs, control bytes, and bytes that are no UTF-8.
+// Words of the formats, digits, signs, control bytes, and bytes that are no UTF-8.
 const IDS: &[&[u8]] = &[
     b"NODES",
     b"LINKS",
@@ -97,11 +97,11 @@ fn ids_of_unusual_bytes(rt: HostRuntime) -> Result<(), Fail> {
     Ok(())
 }
 
-/// Links side by side whose ids begin with signs. That of `L` is the least capacity that carries the routing.
+// Links side by side whose ids begin with signs. That of `L` is the least capacity that carries the routing.
 const SIGNS: &[u8] =
     b"?SNDlib native format; type: network; version: 1.0\nNODES (\n  A\n  B\n)\nLINKS (\n  + ( A B ) 1 0 0 0 ( )\n  - ( A B ) 2 0 0 0 ( )\n  = ( A B ) 3 0 0 0 ( )\n  +L ( A B ) 4 0 0 0 ( )\n  -L ( A B ) 5 0 0 0 ( )\n  =L ( A B ) 6 0 0 0 ( )\n  L ( A B ) 7 0 0 0 ( )\n  ++L ( A B ) 8 0 0 0 ( )\n)\nDEMANDS (\n  D ( A B ) 1 1 UNLIMITED\n)\n";
 
-/// A routing over one of them: its form stands for `!`, its links for `#`, and the word of its path for `@`.
+// A routing over one of them: its form stands for `!`, its links for `#`, and the word of its path for `@`.
 const ROUTING: &[u8] =
     b"mcf-routing !\nlinks #\nmodules none\nphases 1\nscale 7 1\npath D 1 @\nend\n";
 

@@ -9,7 +9,7 @@ const SOLVE: &[&str] = &["solve", "net", "--workers", "1"];
 
 const CLOSED: &[u8] = b"mcf-certificate 2\nverdict closed\n";
 
-/// Of what is written each row has the front.
+// Of what is written each row has the front.
 const NETWORKS: &[Edit] = &[
     (
         "greatest_capacity",
@@ -281,7 +281,7 @@ fn numbers_of_a_certificate(rt: HostRuntime) -> Result<(), Fail> {
     expect_certs(&rt, rt.alloc(), ONE_LINK, CERTIFICATE, CERTIFICATES)
 }
 
-/// Room for a network of 512 nodes.
+// Room for a network of 512 nodes.
 const ROOM: usize = 65536;
 
 // The words, and the status.

@@ -6,27 +6,27 @@ use run_given::{
 };
 use std::test::Fail;
 
-/// Three nodes in a row with modules, a skipped section, and a demand from a node to itself.
+// Three nodes in a row with modules, a skipped section, and a demand from a node to itself.
 const THREE_CITIES: &[u8] =
     b"?SNDlib native format; type: network; version: 1.0\n# network tri\nMETA (\n  granularity = 1\n)\n# NODE SECTION\nNODES (\n  Berlin ( 13.48 52.52 )\n  Essen ( 7.01 51.45 )\n  Ulm ( 9.99 48.40 )\n)\nLINKS (\n  L1 ( Berlin Essen ) 0.00 0.00 0.00 0.00 ( 155.00 100.00 622.00 300.00 )\n  L2 ( Essen Ulm ) 0.00 0.00 0.00 0.00 ( 155.00 100.00 622.00 300.00 )\n)\nDEMANDS (\n  D1 ( Berlin Ulm ) 1 100.00 UNLIMITED\n  D2 ( Ulm Ulm ) 1 5.00 UNLIMITED\n  D3 ( Essen Ulm ) 1 100.00 3\n)\nADMISSIBLE_PATHS (\n  D1 ( P1 ( L1 L2 ) )\n)\n";
 
-/// What is solved of it.
+// What is solved of it.
 const THREE_CITIES_SOLVED: &[u8] =
     b"mcf-certificate 2\nverdict closed\nlinks undirected\nmodules largest\nnet nodes 3 cells 2 commodities 2 decimals 0 skipped 2 left 1 hops 1\ngap 0.050000\nphases 1\nscale 622 200\nlower 622/200 3.110000\nupper 2812181307944075264/902479144078540800 3.116063\npath D1 100 =L1 =L2\npath D3 100 =L2\nlength =L1 17592186044416\nlength =L2 4503599627370496\npotential Berlin 0 17592186044416 4521191813414912\npotential Essen 17592186044416 0 4503599627370496\nend\n";
 
-/// Two links that share no node: the first is used against its direction, the second along it.
+// Two links that share no node: the first is used against its direction, the second along it.
 const APART: &[u8] =
     b"?SNDlib native format; type: network; version: 1.0\nNODES (\n  A\n  B\n  C\n  D\n)\nLINKS (\n  L1 ( B A ) 6 0 0 0 ( )\n  L2 ( C D ) 4 0 0 0 ( )\n)\nDEMANDS (\n  D1 ( A B ) 1 3 UNLIMITED\n  D2 ( C D ) 1 2 UNLIMITED\n)\n";
 
-/// A demand from a node to itself alone.
+// A demand from a node to itself alone.
 const FROM_A_TO_A: &[u8] =
     b"?SNDlib native format; type: network; version: 1.0\nNODES (\n  A\n  B\n)\nLINKS (\n  L1 ( A B ) 10 0 0 0 ( )\n)\nDEMANDS (\n  D1 ( A A ) 1 4 UNLIMITED\n)\n";
 
-/// A capacity at its limit, and a demand one over it.
+// A capacity at its limit, and a demand one over it.
 const GREAT_DEMAND: &[u8] =
     b"?SNDlib native format; type: network; version: 1.0\nNODES (\n  A\n  B\n)\nLINKS (\n  L1 ( A B ) 17592186044416 0 0 0 ( )\n)\nDEMANDS (\n  D1 ( A B ) 1 17592186044417 UNLIMITED\n)\n";
 
-/// A capacity of seven decimals.
+// A capacity of seven decimals.
 const SEVEN_DECIMALS: &[u8] =
     b"?SNDlib native format; type: network; version: 1.0\nNODES (\n  A\n  B\n)\nLINKS (\n  L1 ( A B ) 0.1234567 0 0 0 ( )\n)\nDEMANDS (\n  D1 ( A B ) 1 4 UNLIMITED\n)\n";
 
@@ -167,7 +167,7 @@ const REFUSED: &[Row] = &[
     ),
 ];
 
-/// The paths are forced, so the text is the same for every number of workers.
+// The paths are forced, so the text is the same for every number of workers.
 const FORCED: &[&str] = &["1", "2", "16"];
 
 #[test]

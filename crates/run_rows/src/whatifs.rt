@@ -7,10 +7,10 @@ use run_given::{
 };
 use std::test::Fail;
 
-/// The header of a routing, without the end of its line.
+// The header of a routing, without the end of its line.
 const HEADER_OF_A_ROUTING: &[u8] = b"mcf-routing 1";
 
-/// A certificate of a phase over each link.
+// A certificate of a phase over each link.
 const TWO_PHASES: &[u8] =
     b"mcf-certificate 1\nverdict closed\nlinks directed\nmodules largest\nnet nodes 2 cells 2 commodities 1 decimals 0 skipped 0 left 0 hops 0\ngap 0.200000\nphases 3\nscale 3 10\nlower 9/10 0.900000\nupper 20266198323167226/19301141260159260 1.050001\npath D1 10 L1\npath D1 20 L2\nlength L1 2251799813685248\nlength L2 1930114126015926\npotential A 0 1930114126015926\nend\n";
 

@@ -52,7 +52,7 @@ fn odd_network(alloc: Global) -> Result<Net, AllocError>
     Ok(Net::new(5, cells, vec![in alloc; commodity]?))
 }
 
-/// The other end of a cell that has a capacity and may be gone over from that node.
+// The other end of a cell that has a capacity and may be gone over from that node.
 fn other_end(cell: &Cell, at: u16) -> Option<u16> {
     if cell.cap == 0 {
         None
@@ -65,7 +65,7 @@ fn other_end(cell: &Cell, at: u16) -> Option<u16> {
     }
 }
 
-/// Goes over every walk of at most so many cells more, and keeps for each node the least length of those that lead to it.
+// Goes over every walk of at most so many cells more, and keeps for each node the least length of those that lead to it.
 fn list_walks(cells: &[Cell], lengths: &[u64], at: u16, left: u8, length: u64, best: &mut [u64]) {
     if let Some(least) = best.get_mut(at as usize) {
         *least = length.min(*least);
@@ -88,7 +88,7 @@ fn list_walks(cells: &[Cell], lengths: &[u64], at: u16, left: u8, length: u64, b
     }
 }
 
-/// Where a walk from that node over these cells ends, if it is one.
+// Where a walk from that node over these cells ends, if it is one.
 fn end_of(cells: &[Cell], path: &[u16], from: u16) -> Option<u16> {
     let mut at = from;
     for number in path {
@@ -98,7 +98,7 @@ fn end_of(cells: &[Cell], path: &[u16], from: u16) -> Option<u16> {
     Some(at)
 }
 
-/// The length of the path, as far as it fits.
+// The length of the path, as far as it fits.
 fn length_of(path: &[u16], lengths: &[u64]) -> u64 {
     let mut sum = 0u64;
     for number in path {
@@ -107,7 +107,7 @@ fn length_of(path: &[u16], lengths: &[u64]) -> u64 {
     sum
 }
 
-/// The number of cells, the end and the length of a path from that node.
+// The number of cells, the end and the length of a path from that node.
 fn told(
     path: Option<&[u16]>,
     cells: &[Cell],
@@ -124,7 +124,7 @@ fn told(
     }
 }
 
-/// One layer of a search from that node.
+// One layer of a search from that node.
 fn compare_layer(
     rt: &impl Abort,
     alloc: Global,
@@ -154,7 +154,7 @@ fn compare_layer(
     Ok(())
 }
 
-/// All layers of a search from that node.
+// All layers of a search from that node.
 fn compare_layers(
     rt: &impl Abort,
     alloc: Global,
@@ -174,7 +174,7 @@ fn compare_layers(
     Ok(())
 }
 
-/// All searches, where two cells have this load.
+// All searches, where two cells have this load.
 fn compare_under(
     rt: &impl Abort,
     alloc: Global,

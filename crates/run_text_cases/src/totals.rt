@@ -13,7 +13,7 @@ use std::alloc::{AllocError, Global};
 use std::test::Fail;
 use throughput::{PartDual, PartProof, check_part, solve_parts};
 
-/// The bound, printed.
+// The bound, printed.
 const UPPER: Printed = Printed {
     num: 20266198323167224,
     den: 4728779608739020,

@@ -23,6 +23,7 @@ pub enum Walk {
 /// What a certificate has.
 #[derive(Clone, Copy)]
 pub struct Case {
+    /// Its path rows.
     pub walk: Walk,
     /// How many rows the second layer has.
     pub rows: u32,
@@ -30,10 +31,10 @@ pub struct Case {
     pub far: u64,
 }
 
-/// The length of the link that joins the ends of the demand.
+// The length of the link that joins the ends of the demand.
 const LONG: u64 = 4503599627370496;
 
-/// The length of either other link.
+// The length of either other link.
 const SHORT: u64 = 13743895347;
 
 /// The network.

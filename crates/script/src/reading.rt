@@ -13,8 +13,11 @@ use std::alloc::AllocError;
 /// What is expected next, the capacities of the links as they are now, and the steps so far.
 #[derive(Drop)]
 pub struct Reading {
+    /// What has to stand next.
     pub expected: Expected,
+    /// The capacity of each link, in units.
     pub caps: Vec<u64>,
+    /// The steps so far.
     pub steps: Vec<Step>,
 }
 

@@ -20,13 +20,17 @@ pub enum ScriptKind {
 /// What is wrong, and the line of the first token that has it.
 #[derive(Clone, Copy, Debug, PartialEq, Eq)]
 pub struct ScriptRefusal {
+    /// The number of the line, from 1 on.
     pub line: u32,
+    /// What is wrong there.
     pub kind: ScriptKind,
 }
 
 /// Why there is no script.
 #[derive(Clone, Copy, Debug, PartialEq, Eq)]
 pub enum ScriptEnd {
+    /// The script is refused.
     Refused(ScriptRefusal),
+    /// Memory ran out.
     Memory,
 }

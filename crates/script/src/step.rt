@@ -9,7 +9,9 @@ use unit_scale::LinkMode;
 /// of the link's cells.
 #[derive(Clone, Copy, Debug, PartialEq, Eq)]
 pub enum Step {
+    /// The link of this number gets this capacity.
     Edit { link: u16, cap: u64 },
+    /// The bounds are shown.
     Show,
 }
 

@@ -25,14 +25,18 @@ const SHOW: &[u8] = b"show";
 /// A command with a number.
 #[derive(Clone, Copy, Debug, PartialEq, Eq)]
 pub enum Change {
+    /// The capacity becomes the number.
     Set,
+    /// The number is added to it.
     Add,
+    /// The number is taken from it.
     Sub,
 }
 
 /// What has to stand next.
 #[derive(Clone, Copy, Debug, PartialEq, Eq)]
 pub enum Expected {
+    /// A command, or the end.
     Command,
     /// The link of a change.
     Link(Change),
@@ -49,6 +53,7 @@ pub enum Meaning {
     Expects(Expected),
     /// The link gets the capacity.
     Edits(u16, u64),
+    /// The bounds are shown.
     Shows,
 }
 

@@ -6,9 +6,13 @@ ghost use Rattle.sndlib_grammar.specs.Modes.{keyword_of, depth_of, opened as ope
 /// What comes next between two sections: one of them, or nothing more.
 #[derive(Clone, Copy, Debug)]
 pub enum Part {
+    /// The section `NODES`.
     Nodes,
+    /// The section `LINKS`.
     Links,
+    /// The section `DEMANDS`.
     Demands,
+    /// Sections that are skipped, or the end.
     Rest,
 }
 
@@ -17,39 +21,61 @@ pub enum Part {
 pub enum Mode {
     /// Between two sections.
     Between(Part),
-    /// Behind the name of a section of entries.
+    /// Behind `NODES`, where its parenthesis opens.
     OpeningNodes,
+    /// Behind `LINKS`, where its parenthesis opens.
     OpeningLinks,
+    /// Behind `DEMANDS`, where its parenthesis opens.
     OpeningDemands,
     /// Behind the name of a skipped section.
     Naming(Part),
     /// In a skipped section, with that many groups open in it.
     Skipping(Part, u32),
-    /// Where a node may begin, behind its id, and in its place.
+    /// Where a node may begin, or the section end.
     Nodes,
+    /// Behind the id of a node.
     Node,
+    /// In the place of a node.
     Place,
-    /// Where a link may begin, and what of it comes next.
+    /// Where a link may begin, or the section end.
     Links,
+    /// Behind its id, where the parenthesis of its ends opens.
     LinkEnds,
+    /// Where its source stands.
     LinkSource,
+    /// Where its target stands.
     LinkTarget,
+    /// Where the parenthesis of its ends closes.
     LinkEndsClose,
+    /// Where its pre-installed capacity stands.
     Installed,
+    /// Where the cost of that stands.
     InstalledCost,
+    /// Where its routing cost stands.
     RoutingCost,
+    /// Where its setup cost stands.
     SetupCost,
+    /// Where the parenthesis of its modules opens.
     Modules,
+    /// Where the capacity of a module may stand.
     Capacity,
+    /// Where the cost of a module stands.
     CapacityCost,
-    /// Where a demand may begin, and what of it comes next.
+    /// Where a demand may begin, or the section end.
     Demands,
+    /// Behind its id, where the parenthesis of its ends opens.
     DemandEnds,
+    /// Where its source stands.
     DemandSource,
+    /// Where its target stands.
     DemandTarget,
+    /// Where the parenthesis of its ends closes.
     DemandEndsClose,
+    /// Where its routing unit stands.
     Unit,
+    /// Where its demand value stands.
     Value,
+    /// Where its longest path stands.
     Longest,
 }
 
@@ -59,7 +85,7 @@ const LINKS: &[u8] = b"LINKS";
 
 const DEMANDS: &[u8] = b"DEMANDS";
 
-/// The section of that name, or `Rest` where it is another name.
+// The section of that name, or `Rest` where it is another name.
 fn keyword(word: &[u8]) -> Part
     ensures { result ≡ keyword_of word.now }
 {

@@ -11,9 +11,13 @@ ghost use Rattle.sndlib_grammar.specs.Views.{number_view};
 /// The digits before and behind the point of a word, and its exponent: `up` where it is not negative, else `down`.
 #[derive(Clone, Copy, Debug)]
 pub struct NumberParts<'a> {
+    /// The digits before the point.
     pub whole: &'a [u8],
+    /// The digits behind it.
     pub fraction: &'a [u8],
+    /// The exponent where it is not negative, else 0.
     pub up: u8,
+    /// What the exponent is below 0, else 0.
     pub down: u8,
 }
 

@@ -14,8 +14,11 @@ use std::alloc::{AllocError, Global};
 /// The names of the rows, in order.
 #[derive(Drop)]
 pub struct Names<'a> {
+    /// The ids of the nodes.
     pub nodes: IndexSet<&'a [u8]>,
+    /// The ids of the links.
     pub links: IndexSet<&'a [u8]>,
+    /// The ids of the demands.
     pub demands: IndexSet<&'a [u8]>,
 }
 

@@ -19,23 +19,36 @@ use std::mem;
 /// The first words of a row, and the capacity of a module whose cost comes next.
 #[derive(Clone, Copy, Debug)]
 pub struct Draft<'a> {
+    /// The id.
     pub id: Word<'a>,
+    /// The name of the source.
     pub source: Word<'a>,
+    /// The name of the target.
     pub target: Word<'a>,
+    /// The pre-installed capacity of a link, or the routing unit of a demand.
     pub first: Word<'a>,
+    /// The cost of that capacity, or the demand value.
     pub second: Word<'a>,
+    /// The routing cost of a link.
     pub third: Word<'a>,
+    /// The setup cost of a link.
     pub fourth: Word<'a>,
+    /// The capacity of a module.
     pub capacity: Word<'a>,
 }
 
 /// The rows so far; of the next row its first words, the words of its place, its modules, and the line of the first capacity among these that is no number.
 #[derive(Debug, Drop)]
 pub struct Sofar<'a> {
+    /// The first words of the next row.
     pub draft: Draft<'a>,
+    /// The words of its place, where it is a node.
     pub words: Vec<&'a [u8]>,
+    /// The words of its modules, where it is a link.
     pub modules: Vec<&'a [u8]>,
+    /// The line of the first capacity among these that is no number.
     pub bad: Option<u32>,
+    /// The rows so far.
     pub rows: Kept<'a>,
 }
 

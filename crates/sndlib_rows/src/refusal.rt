@@ -5,6 +5,8 @@ use sndlib_grammar::NetRefusal;
 /// Why a text gives no rows: it is refused, or memory ran out.
 #[derive(Clone, Copy, Debug, PartialEq, Eq)]
 pub enum ReadNetEnd {
+    /// The text is refused.
     Refused(NetRefusal),
+    /// Memory ran out.
     Memory,
 }

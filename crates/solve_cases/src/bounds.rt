@@ -16,7 +16,7 @@ use std::process::Abort;
 use std::test::Fail;
 use std::thread::Threads;
 
-/// The setting behind a fullest cell of 7 with a load of 10.
+// The setting behind a fullest cell of 7 with a load of 10.
 const LATER: Setting = Setting {
     first: false,
     ref_cap: 7,
@@ -24,7 +24,7 @@ const LATER: Setting = Setting {
     step: 65536,
 };
 
-/// The bound under a load of 10, made three times in the same rows, the last time in the memory of the one before.
+// The bound under a load of 10, made three times in the same rows, the last time in the memory of the one before.
 fn bound_in_kept_rows<R: Abort + Threads + Sync>(
     rt: &R,
     alloc: Global,
@@ -55,7 +55,7 @@ fn bound_in_kept_rows<R: Abort + Threads + Sync>(
     Ok(())
 }
 
-/// How many rows the lesser of an earlier bound without rows, of this numerator, and the bound under a load of 10 has.
+// How many rows the lesser of an earlier bound without rows, of this numerator, and the bound under a load of 10 has.
 fn rows_of_the_lesser<R: Threads + Sync>(
     rt: &R,
     alloc: Global,

@@ -97,7 +97,7 @@ const BACK: Commodity = Commodity {
     amount: 5,
 };
 
-/// One link of 10, and two demands over it.
+// One link of 10, and two demands over it.
 fn one_source(alloc: Global) -> Result<Net, AllocError>
     ensures { IfOk result (λ n. n ≡ record { nodes = 2; cells = LINK ∷ []; commodities = OF_FOUR ∷ OF_SIX ∷ [] }) }
 {
@@ -106,7 +106,7 @@ fn one_source(alloc: Global) -> Result<Net, AllocError>
     Ok(Net::new(2, cells, commodities))
 }
 
-/// One link of 10 in both directions, and 5 each way.
+// One link of 10 in both directions, and 5 each way.
 fn two_ways(alloc: Global) -> Result<Net, AllocError>
     ensures { IfOk result (λ n. n ≡ record
         { nodes = 2; cells = UNDIRECTED ∷ []; commodities = THERE ∷ BACK ∷ [] }) }
@@ -116,7 +116,7 @@ fn two_ways(alloc: Global) -> Result<Net, AllocError>
     Ok(Net::new(2, cells, commodities))
 }
 
-/// Two links of 3 and 7, and a demand of 10.
+// Two links of 3 and 7, and a demand of 10.
 fn two_links(alloc: Global) -> Result<Net, AllocError>
     ensures { IfOk result (λ n. n ≡ record { nodes = 2; cells = THREE ∷ SEVEN ∷ []; commodities = OF_TEN ∷ [] }) }
 {
@@ -125,7 +125,7 @@ fn two_links(alloc: Global) -> Result<Net, AllocError>
     Ok(Net::new(2, cells, commodities))
 }
 
-/// Two links of 10 in a row, and a demand of 4 over both.
+// Two links of 10 in a row, and a demand of 4 over both.
 fn in_a_row(alloc: Global) -> Result<Net, AllocError>
     ensures { IfOk result (λ n. n ≡ record { nodes = 3; cells = LINK ∷ NEXT ∷ []; commodities = OVER_BOTH ∷ [] }) }
 {
@@ -134,7 +134,7 @@ fn in_a_row(alloc: Global) -> Result<Net, AllocError>
     Ok(Net::new(3, cells, commodities))
 }
 
-/// A link of 3 one way and one of 10 both ways, and 5 each way.
+// A link of 3 one way and one of 10 both ways, and 5 each way.
 fn link_and_two_ways(alloc: Global) -> Result<Net, AllocError>
     ensures { IfOk result (λ n. n ≡ record
         { nodes = 2; cells = THREE ∷ UNDIRECTED ∷ []; commodities = THERE ∷ BACK ∷ [] }) }
@@ -378,7 +378,7 @@ fn two_workers_add_to_one_cell(rt: HostRuntime) -> Result<(), Fail> {
     Ok(())
 }
 
-/// Claims once, and loads the one cell by the claimed group's demand.
+// Claims once, and loads the one cell by the claimed group's demand.
 #[tactic(auto, unfolding(flow_model::specs::Groups::group_in, flow_model::specs::Groups::group_count))]
 fn claim_once(loads: &Loads, pass: Pass, worker: u16) -> Pass
     requires of { IsPassOf loads.now pass }

@@ -19,7 +19,7 @@ const fn asked(gap: u64, phases: u32, workers: u16, step: u32) -> SolveOptions {
     }
 }
 
-/// Phases, the scale, and whether it is closed.
+// Phases, the scale, and whether it is closed.
 fn outcome(solved: &Solved) -> (u32, u64, u64, bool) {
     let proof = solved.proof();
     let routing = &proof.routing;
@@ -31,7 +31,7 @@ fn outcome(solved: &Solved) -> (u32, u64, u64, bool) {
     )
 }
 
-/// The upper fraction.
+// The upper fraction.
 fn upper(solved: &Solved) -> (u128, u128) {
     let upper = solved.proof().upper;
     (upper.num, upper.den)
@@ -47,7 +47,7 @@ fn solve_it<R: Abort + Threads + Sync>(
     Ok(solved)
 }
 
-/// A link of 10 and a demand of 4.
+// A link of 10 and a demand of 4.
 #[test]
 fn closed_on_one_link(rt: HostRuntime) -> Result<(), Fail> {
     let alloc = rt.alloc();
@@ -67,7 +67,7 @@ fn closed_on_one_link(rt: HostRuntime) -> Result<(), Fail> {
     Ok(())
 }
 
-/// Two links side by side, of 3 and 7, and a demand of 10.
+// Two links side by side, of 3 and 7, and a demand of 10.
 fn side_by_side(rt: &impl Abort, alloc: Global) -> Result<Net, Fail> {
     let cells = [cell(0, 1, false, 3), cell(0, 1, false, 7)];
     let net = network(alloc, 2, &cells, &[demand(0, 1, 10)])?.expect(rt, "a network");
@@ -106,7 +106,7 @@ fn the_first_bound_is_kept(rt: HostRuntime) -> Result<(), Fail> {
     Ok(())
 }
 
-/// In how many threads bounds are taken has no bearing.
+// In how many threads bounds are taken has no bearing.
 #[test]
 fn the_same_in_all_threads(rt: HostRuntime) -> Result<(), Fail> {
     let alloc = rt.alloc();
@@ -121,7 +121,7 @@ fn the_same_in_all_threads(rt: HostRuntime) -> Result<(), Fail> {
     Ok(())
 }
 
-/// A demand to a node without links.
+// A demand to a node without links.
 #[test]
 fn a_cut_is_closed(rt: HostRuntime) -> Result<(), Fail> {
     let alloc = rt.alloc();
@@ -136,7 +136,7 @@ fn a_cut_is_closed(rt: HostRuntime) -> Result<(), Fail> {
     Ok(())
 }
 
-/// Links that share no path leave no choice, whoever routes.
+// Links that share no path leave no choice, whoever routes.
 #[test]
 fn the_same_for_all_workers(rt: HostRuntime) -> Result<(), Fail> {
     let alloc = rt.alloc();

@@ -166,7 +166,7 @@ fn arcs_of_odd_cells(rt: HostRuntime) -> Result<(), Fail> {
     Ok(())
 }
 
-/// A distance to the head by the tail's, where that is less.
+// A distance to the head by the tail's, where that is less.
 fn nearer(tail: Option<u64>, head: Option<u64>, length: u64) -> Option<u64> {
     let by_tail = tail.and_then(|d| d.checked_add(length));
     match (by_tail, head) {
@@ -176,7 +176,7 @@ fn nearer(tail: Option<u64>, head: Option<u64>, length: u64) -> Option<u64> {
     }
 }
 
-/// The distances from a node, by as many rounds over all cells as there are nodes (Bellman, 1958).
+// The distances from a node, by as many rounds over all cells as there are nodes (Bellman, 1958).
 fn slow_distances(
     alloc: Global,
     nodes: u16,
@@ -221,7 +221,7 @@ fn small_network(alloc: Global, words: &mut Words) -> Result<Option<Net>, AllocE
     )
 }
 
-/// Whether the length of the path is the distance.
+// Whether the length of the path is the distance.
 fn is_path_of(path: Option<&[u16]>, lengths: &[u64], dist: Option<u64>) -> bool {
     match path {
         None => dist.is_none(),

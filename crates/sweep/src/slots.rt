@@ -13,7 +13,7 @@ use std::thread::Threads;
 use unit_scale::{LinkMode, cells_of};
 use whatif::{Bounds, Plan};
 
-/// A thread is started for no fewer links than these: it takes a copy of the plan first, which costs as much as they do.
+// A thread is started for no fewer links than these: it takes a copy of the plan first, which costs as much as they do.
 const LINKS_OF_A_START: usize = 256;
 
 // What is shown with the link closed. The plan is left as it was.

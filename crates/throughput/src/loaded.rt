@@ -11,9 +11,13 @@ use std::alloc::{AllocError, Global};
 /// rows.
 #[derive(Drop)]
 pub struct Loaded {
+    /// The load of each cell, in units.
     pub cells: Vec<u64>,
+    /// What was routed of each commodity, in units.
     pub gates: Vec<u64>,
+    /// What was routed of all, in units.
     pub total: u64,
+    /// The rows of paths with their weights.
     pub tally: Tally,
 }
 

@@ -22,7 +22,7 @@ use gates::{Gated, gated_lengths, least_price};
 use mcf_limits::MAX_LENGTH;
 use std::alloc::{AllocError, Global};
 
-/// The dual of these lengths of cells, with the distance of each node from each source.
+// The dual of these lengths of cells, with the distance of each node from each source.
 fn dual_of(alloc: Global, on: &Prepared<'_>, lengths: &[u64]) -> Result<Dual, AllocError>
     requires lengths { AreLengths on.now.net.now.cells lengths.now }
     requires empty { EmptyAreFar on.now.net.now.cells lengths.now }

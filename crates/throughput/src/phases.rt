@@ -16,7 +16,7 @@ use gates::{greatest_of, put_lengths};
 use mcf_limits::MAX_LENGTH;
 use std::alloc::AllocError;
 
-/// The greatest exponents under the loads, with the length of each cell in its place.
+// The greatest exponents under the loads, with the length of each cell in its place.
 fn begun(on: &Prepared<'_>, setting: Setting, lengths: &mut [u64], loaded: &Loaded) -> Tops
     requires on { IsPrepared on.now.net.now on.now.gates.now on.now.least }
     requires setting { IsSetting setting }

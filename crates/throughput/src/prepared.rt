@@ -10,10 +10,15 @@ use flow_model::{Cell, Net};
 /// cells and gates.
 #[derive(Drop)]
 pub struct Prepared<'a> {
+    /// The network.
     pub net: &'a Net,
+    /// Its graph.
     pub graph: &'a Graph,
+    /// The powers that lengths are made of.
     pub powers: &'a Powers,
+    /// The gate of each commodity: its capacity is the commodity's amount.
     pub gates: &'a [Cell],
+    /// The least capacity of cells and gates, in units.
     pub least: u64,
     ghost graph_is: { graph.now ≡ net.now },
 }

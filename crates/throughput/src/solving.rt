@@ -26,14 +26,14 @@ use route_tally::RunOptions;
 use solver_run::setting_at_first;
 use std::alloc::{AllocError, Global};
 
-/// The last phase's state, and whether the gap was met.
+// The last phase's state, and whether the gap was met.
 #[derive(Drop)]
 struct Ended {
     reached: Reached,
     closed: bool,
 }
 
-/// Room for the searches and lengths of a run.
+// Room for the searches and lengths of a run.
 fn new_room(alloc: Global, net: &Net) -> Result<Room, AllocError>
     ensures { IfOk result (IsRoom net.now) }
 {
@@ -45,7 +45,7 @@ fn new_room(alloc: Global, net: &Net) -> Result<Room, AllocError>
     })
 }
 
-/// Phase after phase, until the gap is met or the budget is spent.
+// Phase after phase, until the gap is met or the budget is spent.
 fn all_phases(
     alloc: Global,
     on: &Prepared<'_>,
@@ -85,7 +85,7 @@ fn all_phases(
     }
 }
 
-/// The certificate of all phases, with the rows in order.
+// The certificate of all phases, with the rows in order.
 fn finished(
     alloc: Global,
     on: &Prepared<'_>,
@@ -129,7 +129,7 @@ fn finished(
     })
 }
 
-/// The certificate of a network in which no commodity has a walk.
+// The certificate of a network in which no commodity has a walk.
 fn nothing(
     alloc: Global,
     net: &Net,
@@ -161,7 +161,7 @@ fn nothing(
     })
 }
 
-/// The certificate of a network with its gates: that of nothing, or that of all phases.
+// The certificate of a network with its gates: that of nothing, or that of all phases.
 fn certified(
     alloc: Global,
     on: &Prepared<'_>,

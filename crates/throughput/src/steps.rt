@@ -26,7 +26,7 @@ use solver_run::{setting_after_first, setting_at_first};
 use std::alloc::{AllocError, Global};
 use std::cmp::Ordering;
 
-/// The first of two at which capacity over load is least.
+// The first of two at which capacity over load is least.
 fn fuller(first: Fill, second: Fill) -> Fill
     ensures { result ≡ (if fraction_le (fullness first) (fullness second) then first else second) }
 {
@@ -38,7 +38,7 @@ fn fuller(first: Fill, second: Fill) -> Fill
     second
 }
 
-/// The fullest cell or gate, where some gate has a load: the first, cells before gates.
+// The fullest cell or gate, where some gate has a load: the first, cells before gates.
 fn fullest_of(on: &Prepared<'_>, loaded: &Loaded) -> Fill
     requires on { IsPrepared on.now.net.now on.now.gates.now on.now.least }
     requires loaded { HasLoaded on.now.net.now loaded.now }
@@ -53,7 +53,7 @@ fn fullest_of(on: &Prepared<'_>, loaded: &Loaded) -> Fill
     fuller(cells, fullest(on.gates, &loaded.gates))
 }
 
-/// The bound of these loads, and what it says.
+// The bound of these loads, and what it says.
 fn bounded(
     alloc: Global,
     on: &Prepared<'_>,
@@ -82,7 +82,7 @@ fn bounded(
     }
 }
 
-/// The lesser of two bounds, the earlier where they are equal.
+// The lesser of two bounds, the earlier where they are equal.
 fn lesser(earlier: Kept, later: Kept) -> Kept
     ensures { result ≡ (if fraction_le earlier.value later.value then earlier else later) }
 {

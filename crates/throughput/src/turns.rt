@@ -18,8 +18,11 @@ use std::alloc::AllocError;
 /// The setting of a phase, and the greatest exponents of cells and of gates under the loads.
 #[derive(Clone, Copy)]
 pub struct Tops {
+    /// The setting of the phase.
     pub setting: Setting,
+    /// The greatest exponent of a cell.
     pub cells: u128,
+    /// The greatest exponent of a gate.
     pub gates: u128,
 }
 
@@ -38,7 +41,7 @@ pub(crate) fn under(on: &Prepared<'_>, tops: &Tops) -> Under
     }
 }
 
-/// Routes the amount of commodity k along the path: loads, rows and lengths follow. `Err` is for want of memory.
+// Routes the amount of commodity k along the path: loads, rows and lengths follow. `Err` is for want of memory.
 fn route(
     on: &Prepared<'_>,
     k: u32,
@@ -92,7 +95,7 @@ fn route(
     Ok(())
 }
 
-/// Adds the amount to the load of gate k, and gives the greatest exponent of a gate then.
+// Adds the amount to the load of gate k, and gives the greatest exponent of a gate then.
 fn add_at(tops: &Tops, gates: &[Cell], k: usize, amount: u64, loads: &mut [u64]) -> u128
     requires setting { IsSetting tops.now.setting }
     requires k { k < length gates.now }

@@ -18,8 +18,11 @@ use std::alloc::{AllocError, Global};
 /// The commodities, the number of the demand of each, and how many demands were left out.
 #[derive(Drop)]
 pub struct Kept {
+    /// The commodities.
     pub commodities: Vec<Commodity>,
+    /// The number of the demand of each.
     pub rows: Vec<u32>,
+    /// How many demands were left out.
     pub left: u32,
 }
 

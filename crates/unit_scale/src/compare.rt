@@ -11,9 +11,13 @@ use sndlib_grammar::NumberParts;
 /// A number in millionths: digits with zeros behind them, or without some zeros at their end.
 #[derive(Clone, Copy, Debug)]
 pub struct LongNumber<'a> {
+    /// The digits before the point.
     pub whole: &'a [u8],
+    /// The digits behind it.
     pub fraction: &'a [u8],
+    /// How many zeros stand behind them.
     pub zeros: usize,
+    /// How many zeros are cut off at their end.
     pub cut: usize,
 }
 

@@ -23,8 +23,11 @@ pub enum Decimal {
 /// Why a word gives no number of units.
 #[derive(Clone, Copy, Debug, PartialEq, Eq)]
 pub enum UnitFault {
+    /// It is no number.
     NotNumber,
+    /// It is no whole number of units.
     TooFine,
+    /// It is over the limit of units.
     TooLarge,
 }
 

@@ -17,7 +17,9 @@ use std::alloc::Global;
 /// The amount of a demand in millionths: itself where no number is over the limit, and else one of the same last `MAX_DECIMALS` digits.
 #[derive(Clone, Copy, Debug)]
 pub struct DemandSize {
+    /// The amount, in millionths.
     pub millionths: u128,
+    /// Whether a number is over the limit.
     pub over: bool,
     /// The demand is left out.
     pub left: bool,

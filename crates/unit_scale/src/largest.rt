@@ -18,8 +18,11 @@ use sndlib_grammar::{NumberParts, number_parts};
 /// The greatest capacity so far in short, its number where there is one, and whether some capacity is over the limit.
 #[derive(Clone, Copy, Debug)]
 pub struct Greatest<'a> {
+    /// The capacity, in short.
     pub size: u64,
+    /// Its number; `None` where there was none.
     pub number: Option<NumberParts<'a>>,
+    /// Whether some capacity is over the limit.
     pub over: bool,
 }
 

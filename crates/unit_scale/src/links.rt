@@ -20,11 +20,13 @@ use std::alloc::Global;
 /// The capacity of a link in millionths: itself where no number is over the limit, and else one of the same last `MAX_DECIMALS` digits.
 #[derive(Clone, Copy, Debug)]
 pub struct LinkSize {
+    /// The capacity, in millionths.
     pub millionths: u128,
+    /// Whether a number is over the limit.
     pub over: bool,
 }
 
-/// What is added to a size by a word, if that is a whole number of millionths.
+// What is added to a size by a word, if that is a whole number of millionths.
 fn with_word(size: LinkSize, word: &[u8]) -> Option<LinkSize>
     requires { size.millionths + 2 ^ 64 < 2 ^ 128 }
     ensures value { MatchOption result (is_fine word.now ≡ true)
@@ -82,7 +84,7 @@ fn with_largest(start: LinkSize, modules: &[&[u8]]) -> Option<LinkSize>
     })
 }
 
-/// The capacity of a link, if its numbers are whole numbers of millionths.
+// The capacity of a link, if its numbers are whole numbers of millionths.
 fn link_size(row: &LinkRow<'_>, modules: &[&[u8]], mode: ModuleMode) -> Option<LinkSize>
     requires { length modules.now < 2 ^ 63 }
     ensures { MatchOption result (is_fine_link mode (link_row_view row.now (bytes_of modules.now)) ≡ true)

@@ -7,24 +7,33 @@ ghost use Rattle.unit_scale.specs.Modes.{link_word, old_link_word, module_word, 
 /// two cells, one for each way, each with the whole capacity.
 #[derive(Clone, Copy, Debug, PartialEq, Eq)]
 pub enum LinkMode {
+    /// One cell, from the source to the target.
     Directed,
+    /// One cell, which goes both ways.
     Undirected,
+    /// Two cells, one for each way.
     Bidirected,
 }
 
 /// Which way a cell goes over its link: from the source to the target, back, or both ways.
 #[derive(Clone, Copy, Debug, PartialEq, Eq)]
 pub enum Sign {
+    /// From the source to the target.
     Along,
+    /// From the target to the source.
     Against,
+    /// Both ways.
     Both,
 }
 
 /// What modules add to a link's capacity: nothing, the greatest once, or each once.
 #[derive(Clone, Copy, Debug, PartialEq, Eq)]
 pub enum ModuleMode {
+    /// Nothing.
     Ignore,
+    /// The greatest of them, once.
     Largest,
+    /// Each of them, once.
     Sum,
 }
 

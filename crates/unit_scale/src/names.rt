@@ -11,7 +11,9 @@ use mcf_limits::MAX_LINKS;
 /// A cell by the number of its link, and by which way it goes over the link.
 #[derive(Clone, Copy, Debug, PartialEq, Eq)]
 pub struct CellName {
+    /// The number of the link, from 0 on.
     pub link: u16,
+    /// Which way it goes.
     pub sign: Sign,
 }
 

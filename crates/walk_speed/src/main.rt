@@ -39,7 +39,7 @@ fn add_path(loads: &mut [u64], path: Option<&[u16]>, amount: u64)
     }
 }
 
-/// Nanoseconds of all rounds: of the table of lengths, of the lengths made anew, of the searches.
+// Nanoseconds of all rounds: of the table of lengths, of the lengths made anew, of the searches.
 #[derive(Clone, Copy)]
 struct Times {
     table: u128,

@@ -12,8 +12,11 @@ pub const MAX_LOAD: u128 = 1 << 72;
 /// A capacity over a load, and the cell that has them. Without a load it is 1/0.
 #[derive(Clone, Copy, Debug, PartialEq, Eq)]
 pub struct Ratio {
+    /// The capacity, in units.
     pub cap: u64,
+    /// The load, in units.
     pub load: u128,
+    /// The number of the cell.
     pub cell: u16,
 }
 
