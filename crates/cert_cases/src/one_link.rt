@@ -40,7 +40,7 @@ pub fn edited(alloc: Global, text: &[u8], part: &[u8], by: &[u8]) -> Result<Vec<
     Vec::from_slice(alloc, text)
 }
 
-/// The bytes, so many times.
+/// The bytes, `times` times one behind the other.
 pub fn repeated(alloc: Global, bytes: &[u8], times: u32) -> Result<Vec<u8>, AllocError> {
     let mut text = Vec::new(alloc);
     for _ in 0..times {

@@ -39,7 +39,7 @@ pub fn count_of(words: Option<&[u8]>) -> usize
     }
 }
 
-/// The word behind the keyword and that many words, none of them empty.
+/// The word behind the keyword, where just `count` words follow it, none of them empty.
 pub fn of_that_many<'a>(
     key: &[u8],
     count: usize,

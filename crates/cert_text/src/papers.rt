@@ -29,7 +29,7 @@ pub enum Paper {
     Full(Proof),
 }
 
-/// The path rows at the front of the lines, and the place behind them; or the first fault in one, or want of memory.
+/// The path rows at the front of the lines, and the place behind them; or the first fault in one; or memory ran out.
 pub fn paths_of<'a>(
     alloc: Global,
     names: &Names<'_, '_>,

@@ -12,7 +12,7 @@ use std::alloc::{AllocError, Global};
 use std::sync::atomic::AtomicUsize;
 use std::thread::Threads;
 
-// So many lists, all empty.
+// `count` empty lists.
 fn empty_lists<T: Drop>(alloc: Global, count: usize) -> Result<Vec<Vec<Entry<T>>>, AllocError> {
     let mut lists = Vec::with_capacity(alloc, count)?;
     'lists: for _ in 0..count {
@@ -67,8 +67,8 @@ fn put_all<T: Drop, F: Fn(usize) -> Result<T, AllocError>>(
 
 /// For each number below `count`, in order, what a call of `work` with it answers. As many threads as there are processors, but
 /// at least two and at most `MAX_WORKERS`, the caller's among them, each claim the next number and call `work` with it, until
-/// all are claimed; at most as many calls as threads are under way at once. It may wait for its own threads. Where a call or
-/// a list lacks memory, the caller's thread calls once more, after the others. `Err` is for want of memory then.
+/// all are claimed; at most as many calls as threads are under way at once. It waits for these threads. Where memory ran out in a
+/// call or for a list, the caller's thread makes that call once more, after the others. `Err`: memory ran out there too.
 pub fn call_each<R: Threads + Sync, T: Send + Drop, F: Fn(usize) -> Result<T, AllocError> + Sync>(
     rt: &R,
     alloc: Global,

@@ -22,7 +22,7 @@ impl<'a, J: Job> Crew<'a, J> {
         }
     }
 
-    /// Takes on one more, at a post whose seats these are. What is answered is for the thread, which is to stay there. `Err` is for want of
+    /// Takes on one more, at a post whose seats these are. What is answered is for the thread, which is to stay there. `Err`: out of
     /// memory.
     pub fn take_on(&mut self, post: &'a Post<J>, seats: Seats<J>) -> Result<Mate<'a, J>, AllocError>
         requires { AreAt post.now.table.shared.table_id seats.end.table_id seats.mate.table_id }

@@ -70,7 +70,7 @@ pub struct Mate<'a, J: Job> {
 }
 
 impl<J: Job> Post<J> {
-    /// A post with its seats. `Err` is for want of memory.
+    /// A post with its seats. `Err`: out of memory.
     pub fn new(alloc: Global) -> Result<(Self, Seats<J>), AllocError>
         ensures { IfOk result (λ r. AreAt r.0.table.shared.table_id r.1.end.table_id r.1.mate.table_id) }
     {
@@ -254,8 +254,8 @@ impl<'a, J: Job> Mate<'a, J> {
         !self.go()
     }
 
-    /// Works on each job that waits, until the flag is set, or none has waited for so many looks that the thread goes. The flag is to be
-    /// set by the owner of the jobs, while none is out, or else by nobody. A thread stays once.
+    /// Works on each job that is posted, until the flag is set, or no job has come for so long that the thread ends. Only the owner of
+    /// the jobs may set the flag, and only while no job is out. A thread stays once.
     pub fn stay(self, closed: &AtomicBool) {
         let mut mate = self;
         'rounds: for _ in 0..ROUNDS {

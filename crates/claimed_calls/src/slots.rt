@@ -6,7 +6,7 @@ ghost use Rattle.claimed_calls.specs.Answers.{Answers, AreAnswers, IsPut, IsSlot
 use crate::claims::Entry;
 use std::alloc::{AllocError, Global};
 
-/// So many slots, all blank.
+/// `count` blank slots.
 pub fn blank_slots<T: Drop>(alloc: Global, count: usize) -> Result<Vec<Option<T>>, AllocError>
     ensures { IfOk result (λ v. (length v.items ≡ count)
         × ((i : ℕ) → slice_index_or v.items i None ≡ None)) }

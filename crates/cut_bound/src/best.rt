@@ -50,7 +50,7 @@ fn chosen_dual(
 
 /// The first of the least bounds among these duals of certificates, the cuts round each node, and the fronts of each row of
 /// potentials. `both` says that each cell goes both ways. Rows are shared out among at most 16 threads, each with the fronts
-/// of one row in memory at a time, and it may wait for its own threads. `Err` is for want of memory.
+/// of one row in memory at a time, and it may wait for its own threads. `Err`: out of memory.
 pub fn best_dual<R: Threads + Sync>(
     rt: &R,
     alloc: Global,

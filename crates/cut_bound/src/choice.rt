@@ -97,7 +97,7 @@ pub fn consider_all(best: &mut Best, cuts: &[SummedCut])
     }
 }
 
-// Of two cuts the lesser, the first of equals.
+// The smaller of two cuts; the first where they are equal.
 fn lesser(first: SummedCut, second: SummedCut) -> SummedCut
     requires first { IsCrossed first }
     requires second { IsCrossed second }

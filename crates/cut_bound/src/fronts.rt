@@ -86,7 +86,7 @@ fn fill_slots(
     }
 }
 
-// How many of so many rows one thread is to take, where each takes so many steps.
+// How many of `rows` rows one thread takes, where a row takes `steps` steps.
 fn share_of(rt: &impl Threads, rows: usize, steps: usize) -> usize
     ensures { 1 ≤ result }
 {

@@ -111,7 +111,7 @@ fn made_of(
 /// The best certificate that one or two valid certificates of a network give: the routing of the greater fraction, the first of
 /// equals; as lengths and potentials the first of the least bounds among their own, the cuts round each node, and the fronts of
 /// each row of potentials; the gap of the first, and what follows of them. `both` says that each cell goes both ways. Rows of
-/// potentials are shared out among threads, for which it may wait. `Err` is for want of memory.
+/// potentials are shared out among threads, for which it may wait. `Err`: out of memory.
 pub fn tightened<R: Threads + Sync>(
     rt: &R,
     alloc: Global,

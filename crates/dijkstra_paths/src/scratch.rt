@@ -41,7 +41,7 @@ impl Model for Scratch {
     ghost invariant = { λ s. IsReady s.nodes s.from s.front s.path.items };
 }
 
-// So many distances, of nodes that no walk reaches.
+// The distances of `n` nodes that no walk reaches.
 fn unreached(alloc: Global, n: usize) -> Result<Vec<u64>, AllocError>
     ensures count { IfOk result (λ v. length v.items ≡ n) }
     ensures each { IfOk result (λ v. (k : ℕ) → k < length v.items → slice_index v.items k ≡ MAX_LENGTH) }
@@ -50,7 +50,7 @@ fn unreached(alloc: Global, n: usize) -> Result<Vec<u64>, AllocError>
     Ok(dist)
 }
 
-// A front of so many nodes, before any search.
+// A front for `nodes` nodes, before any search.
 fn new_front(alloc: Global, nodes: u16) -> Result<Front, AllocError>
     ensures front { IfOk result (IsFront nodes) }
     ensures blank { IfOk result (λ f. (v : ℕ) → v < length f.dist.items
@@ -130,7 +130,7 @@ fn search_along(
     }
 }
 
-// The same, along the node's own tree where there is one, and else from nothing.
+// A search from the node, which begins at the node's own tree where there is one.
 fn search_among(
     graph: &Graph,
     lengths: &[u64],
@@ -163,7 +163,7 @@ impl Scratch {
     ghost use Rattle.flow_model.specs.Least.{IsLeast};
     ghost use Rattle.flow_model.specs.Lengths.{AreLengths};
 
-    /// Room for searches over so many nodes. Before the first search no node has a distance or a path.
+    /// Room for searches over `nodes` nodes. Before the first search no node has a distance or a path.
     pub fn new(alloc: Global, nodes: u16, cells: u16) -> Result<Self, AllocError>
         ensures nodes { IfOk result (λ s. s.nodes ≡ nodes) }
         ensures cells { IfOk result (λ s. s.cells ≡ cells) }
@@ -181,8 +181,8 @@ impl Scratch {
         })
     }
 
-    /// The same, and a tree is kept for each node as a source, from search to search: so many nodes times as many
-    /// entries of 6 bytes. It changes no distance, and makes searches quick where few lengths have changed.
+    /// Room for searches that keep a tree for each node as a source, from search to search: nodes times nodes
+    /// entries of 6 bytes. Trees change no distance; they make searches quick where few lengths have changed.
     pub fn with_trees(alloc: Global, nodes: u16, cells: u16) -> Result<Self, AllocError>
         ensures nodes { IfOk result (λ s. s.nodes ≡ nodes) }
         ensures cells { IfOk result (λ s. s.cells ≡ cells) }
@@ -218,8 +218,8 @@ impl Scratch {
         );
     }
 
-    /// The same, where the tree of an earlier search from that node makes it quick. Nothing is asked of the tree: one of
-    /// another node, another graph or another number of nodes costs time alone. It is left as this search's, if it has as many nodes.
+    /// A search from the node, which the tree of an earlier search from it makes quick. Any tree will do: one of another node,
+    /// another graph or another number of nodes costs time alone. If it has as many nodes, it becomes the tree of this search.
     pub fn search_from(&mut self, graph: &Graph, lengths: &[u64], from: u16, tree: &mut Tree)
         requires lengths { AreLengths graph.now.cells lengths.now }
         requires nodes { self.old.nodes ≡ graph.now.nodes }

@@ -15,7 +15,7 @@ use crate::{Arc, Graph};
 use mcf_limits::{MAX_LENGTH, MAX_NODES};
 use std::hint::select_unpredictable;
 
-// Up to so many cells for each node it pays to look at all ways to a node.
+// Up to this number of cells a node, it pays to look at all ways to a node.
 const FEW_CELLS: usize = 2;
 
 /// The cell by which a node was reached, and the node before it.

@@ -24,7 +24,7 @@ impl Model for Tree {
 }
 
 impl Tree {
-    /// Room for the tree of one source over so many nodes. It holds none yet.
+    /// Room for the tree of one source over `nodes` nodes. It holds none yet.
     pub fn new(alloc: Global, nodes: u16) -> Result<Self, AllocError> {
         Ok(Tree {
             source: None,
@@ -83,7 +83,7 @@ pub struct ReorderBuffers {
 }
 
 impl ReorderBuffers {
-    /// Room for trees over so many nodes.
+    /// Room for trees over `nodes` nodes.
     pub fn new(alloc: Global, nodes: u16) -> Result<Self, AllocError> {
         Ok(ReorderBuffers {
             placed: vec![in alloc; false; nodes as usize]?,
@@ -151,7 +151,7 @@ fn put_placed(kept: &mut [Kept], steps: &[Step], source: u16, room: &mut Reorder
     waiting
 }
 
-// Puts the first so many steps that waited to the end.
+// Appends the first `count` of the steps that were set aside.
 fn put_late(kept: &mut [Kept], late: &[Kept], count: usize) {
     if count > late.len() || count > kept.len() {
         return;

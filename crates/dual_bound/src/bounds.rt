@@ -30,8 +30,9 @@ pub struct Bounded {
     pub value: Frac,
 }
 
-// The lesser of an earlier bound, if there is one, and that of these lengths and filled rows, whose dual is made only where it is the
-// lesser: the rows give it their numbers, get the memory of the earlier one's rows, or new room, and are blank then. Its value is volume over weighted distance, not reduced.
+// The smaller of `earlier` and the bound of these lengths and filled rows. Its dual is made only where it is the smaller: it takes the
+// numbers of the rows, which get the memory of the earlier dual's rows, or new memory, and are blank then. Its value is volume over
+// weighted distance, not reduced.
 fn lesser(
     alloc: Global,
     net: &Net,
@@ -92,7 +93,7 @@ pub fn refill_rows(alloc: Global, graph: &Graph, lengths: &[u64], rows: &mut [Ro
 }
 
 /// The bound of these lengths, of rows that were filled with distances, or an earlier one that is not greater. After an
-/// `Ok` the rows are room for the next bound; what they hold is not said. `Err` is for want of memory, which a row that is not filled
+/// `Ok` the rows are room for the next bound; what they hold is not said. `Err`: out of memory, which a row that is not filled
 /// stands for; then the rows are of no more use, and the earlier bound is gone too.
 pub fn lesser_of_rows(
     alloc: Global,

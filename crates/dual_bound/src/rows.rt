@@ -46,7 +46,7 @@ pub struct Row {
     pub tree: Tree,
 }
 
-// A blank row of the source with these targets, over so many nodes.
+// A blank row of the source with these targets, over `nodes` nodes.
 fn row_with(alloc: Global, source: u16, nodes: u16, targets: Vec<Target>) -> Result<Row, AllocError>
     requires source { source < nodes }
     requires targets { All (λ t. t.to < nodes) targets.items }
@@ -65,7 +65,7 @@ fn row_with(alloc: Global, source: u16, nodes: u16, targets: Vec<Target>) -> Res
     })
 }
 
-/// A blank row of the source, over so many nodes, without targets.
+/// A blank row of the source, over `nodes` nodes, without targets.
 pub fn blank_row(alloc: Global, source: u16, nodes: u16) -> Result<Row, AllocError>
     requires { source < nodes }
     ensures source { IfOk result (λ row. row.source ≡ source) }
@@ -184,8 +184,8 @@ pub fn fill_rows(alloc: Global, graph: &Graph, lengths: &[u64], rows: &mut [Row]
     }
 }
 
-// In how many threads the rows are to be filled, of at most so many: in one, where starting others would take longer
-// than the searches. None stands for one.
+// The number of threads to fill the rows in, at most `most`: one where starting others would take longer than the
+// searches. 0 stands for 1.
 fn thread_count(rt: &impl Threads, cells: usize, rows: usize, most: u16) -> usize
     ensures some { 1 ≤ result }
     ensures few { result ≤ max most 1 }
@@ -255,8 +255,8 @@ fn mark_row(alloc: Global, graph: &Graph, row: &mut Row) -> Result<(), AllocErro
     Ok(())
 }
 
-/// Fills each blank row with 0 for a node that its source reaches over positive cells, and 1 for every other. `Err` is
-/// for want of memory.
+/// Fills each blank row with 0 for a node that its source reaches over positive cells, and 1 for every other. `Err`: out
+/// of memory.
 pub fn mark_all(alloc: Global, graph: &Graph, rows: &mut [Row]) -> Result<(), AllocError>
     requires rows { (k : ℕ) (d : _) → k < length rows.old → IsBlank graph.now.nodes (slice_index_or rows.old k d) }
     ensures sources { OnOk result ((k : ℕ) (d : _) → k < length rows.old

@@ -10,7 +10,7 @@ use crate::powers::Powers;
 use crate::rates::Rated;
 use mcf_limits::MAX_LENGTH;
 
-/// The places at which loads changed: the first so many of a buffer.
+/// The places at which loads changed: those at the front of a buffer.
 #[derive(Clone, Copy)]
 pub struct Changed<'a> {
     /// The buffer.

@@ -103,7 +103,7 @@ impl LengthTable {
     }
 
     /// The lengths of this network under this setting: those that were kept, under the loads that they have, if their setting is the same;
-    /// or else new ones, under loads of 0. `Err` is for want of memory.
+    /// or else new ones, under loads of 0. `Err`: out of memory.
     pub fn under(
         alloc: Global,
         powers: &Powers,

@@ -126,7 +126,7 @@ impl Groups {
     ghost use Rattle.std.specs.Prelude.{◌≡◌, ◌<◌, IfOk, slice_index};
     ghost use Rattle.flow_model.specs.Groups.{group_count, group_sources, members_of};
 
-    /// The groups of the network. `Err` is for want of memory.
+    /// The groups of the network. `Err`: out of memory.
     pub fn new(alloc: Global, net: &Net) -> Result<Self, AllocError>
         ensures { IfOk result (λ g. g ≡ net.now) }
     {

@@ -19,14 +19,14 @@ use solver_run::Entry;
 use std::alloc::{AllocError, Global};
 use std::thread::{Threads, join_mut};
 
-// From so many commodities on, noting the rows of their paths takes longer than the start of a thread.
+// From this number of commodities on, noting the rows of their paths takes longer than the start of a thread.
 const PATHS_OF_A_THREAD: usize = 4_096;
 
-// From so many sources times cells on, threads make a bound sooner than a worker that is alone does: other processors have to be woken
-// for them in each phase, which can take longer than their start.
+// From this number of sources times cells on, several threads make a bound sooner than one. Other processors have to be woken for them
+// in each phase, which can take longer than starting them.
 const WORK_OF_SEVERAL: usize = 1_000_000;
 
-/// The lesser of an earlier bound, if there is one, and that of the lengths of these loads. `Err` is for want of memory.
+/// The smaller of `earlier` and the bound of the lengths under these loads. `Err`: out of memory.
 pub(crate) fn bound_of<R: Threads + Sync>(
     team: &Team<'_, R>,
     alloc: Global,
@@ -49,8 +49,7 @@ pub(crate) fn bound_of<R: Threads + Sync>(
     lesser_in(team, alloc, on.net, on.graph, lengths, rows, earlier)
 }
 
-/// In how many threads a bound is made, and rows are noted, of at most so many, where so many workers have routed: in one, where one
-/// worker has routed a network that is not large.
+/// The number of threads to make a bound and to note rows in, at most `most`; 1 where one worker has routed a small network.
 pub(crate) fn threads_for(on: &Prepared<'_>, workers: usize, most: u16) -> u16
     ensures { result ≤ max most 1 }
 {
@@ -62,8 +61,8 @@ pub(crate) fn threads_for(on: &Prepared<'_>, workers: usize, most: u16) -> u16
     }
 }
 
-// How many threads are left for a bound, of so many, where one notes the rows of so many paths meanwhile. None, where that takes no
-// longer than the start of a thread, or there is to be one thread alone.
+// How many of `threads` threads are left for a bound while one notes the rows of `paths` paths. None where noting takes no longer
+// than the start of a thread, or there is one thread alone.
 fn threads_beside(paths: usize, threads: u16) -> u16
     ensures { result < max threads 1 }
 {
@@ -73,8 +72,8 @@ fn threads_beside(paths: usize, threads: u16) -> u16
     threads.saturating_sub(1)
 }
 
-// Notes the rows of the phase that the spare hands have routed, and then gives the lesser of an earlier bound, if there is one, and that
-// of the loads of all phases. `Err` is for want of memory, and then the search can't go on.
+// Notes the rows of the phase that the spare hands have routed, and gives the smaller of `earlier` and the bound under the loads of all
+// phases. `Err`: out of memory, and the search cannot go on.
 fn note_and_bound<G: Gate, R: Threads + Sync>(
     team: &Team<'_, R>,
     task: &Task<'_, G>,
@@ -150,9 +149,8 @@ fn note_beside_bound<G: Gate, R: Threads + Sync>(
     bounded
 }
 
-// One phase more, and the lesser of an earlier bound, if there is one, and that of the loads after it, under the same setting; the phase
-// before is noted, beside the bound where that pays and there may be several threads. `Err` is for want of memory, and then the search
-// can't go on.
+// Routes one more phase, and gives the smaller of `earlier` and the bound under the loads after it, under the same setting. The phase
+// before is noted, beside the bound where that pays and there may be several threads. `Err`: out of memory, and the search cannot go on.
 fn phase_alone<G: Gate, R: Threads + Sync>(
     run: &Run<'_, G, R>,
     task: &Task<'_, G>,
@@ -182,9 +180,9 @@ fn phase_alone<G: Gate, R: Threads + Sync>(
     }
 }
 
-// As `note_and_bound`, with some rows of the bound filled by so many threads of the crew. The first commodities of the phase have these
-// entries; the others are noted by the caller's thread, before it fills rows of the bound too. `Err` is for want of memory, or where the
-// crew gave up; and then the search can't go on.
+// As `note_and_bound`, with some rows of the bound filled by `threads` threads of the crew. The first commodities of the phase have
+// these entries; the caller's thread notes the others, before it fills rows of the bound too. `Err`: out of memory, or the crew gave up,
+// and the search cannot go on.
 fn note_with_bound<'a, G: Gate>(
     task: &Task<'a, G>,
     crew: &mut Crew<'_, Share<'a, G>>,
@@ -219,7 +217,7 @@ fn note_with_bound<'a, G: Gate>(
     bounded
 }
 
-// As `phase_alone`, with a crew, in whose threads hands take their turns and rows of the bound are filled. `Err` is for want of
+// As `phase_alone`, with a crew, in whose threads hands take their turns and rows of the bound are filled. `Err`: out of
 // memory, or where the crew gave up; and then the search can't go on.
 fn phase_by_crew<'a, G: Gate, R: Threads + Sync>(
     run: &Run<'a, G, R>,
@@ -238,9 +236,8 @@ fn phase_by_crew<'a, G: Gate, R: Threads + Sync>(
     note_with_bound(task, crew, search, &mut entries, run.others(), earlier)
 }
 
-/// One phase more, by a crew where there is one, and the lesser of an earlier bound, if there is one, and that of the loads after it,
-/// under the same setting; the phase before is noted. `Err` is for want of memory, or where the crew gave up; and then the search can't go
-/// on.
+/// Routes one more phase, by the crew if there is one, and gives the smaller of `earlier` and the bound under the loads after it, under
+/// the same setting. The phase before is noted. `Err`: out of memory, or the crew gave up, and the search cannot go on.
 pub(crate) fn one_phase<'a, G: Gate, R: Threads + Sync>(
     run: &Run<'a, G, R>,
     task: &Task<'a, G>,

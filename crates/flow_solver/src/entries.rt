@@ -32,7 +32,7 @@ impl Entries {
     ghost use Rattle.solver_run.specs.declared.options.Entry.{Entry};
     ghost use Rattle.flow_solver.specs.Phases.{renumbered, NamesBelow};
 
-    /// No phase, of so many commodities.
+    /// No phase yet, of `commodities` commodities.
     pub fn new(alloc: Global, commodities: u32) -> Self
         ensures { result ≡ record { commodities = commodities; phases = [] } }
     {

@@ -23,7 +23,7 @@ use std::mem;
 use std::sync::Arc;
 
 // What `lead` answers, which the caller's thread calls before it fills its own rows, and whether all rows were filled anew with distances,
-// each search from the tree of the one before: parts of them in threads of the crew, and the others here. `Err` is for want of memory, or
+// each search from the tree of the one before: parts of them in threads of the crew, and the others here. `Err`: out of memory, or
 // where the crew gave up; and then rows are lost.
 fn fill_with<'a, G: Gate, T, F: FnMut() -> T>(
     task: &Task<'a, G>,
@@ -53,8 +53,8 @@ fn fill_with<'a, G: Gate, T, F: FnMut() -> T>(
     (made, append_parts(rows, parts))
 }
 
-// The lesser of an earlier bound, if there is one, and that of rows that were filled under these lengths, which go back to their room.
-// `Err` is for want of memory, or where a part shares the lengths still, which no run does.
+// The smaller of `earlier` and the bound of rows that were filled under these lengths, whose memory goes back to the room. `Err`: out
+// of memory, or a part still shares the lengths, which happens in no run.
 fn bound_after(
     alloc: Global,
     net: &Net,
@@ -79,7 +79,7 @@ fn bound_after(
 }
 
 /// What `lead` answers, and the bound as of `bound_of`, with the rows shared out among the crew and the caller's thread, which calls `lead`
-/// before it fills its own. `Err` is for want of memory, or where the crew gave up or a part shares the lengths still, which no run does.
+/// before it fills its own. `Err`: out of memory, or where the crew gave up or a part shares the lengths still, which no run does.
 pub(crate) fn bound_with<'a, G: Gate, T, F: FnMut() -> T>(
     task: &Task<'a, G>,
     loads: &[u64],

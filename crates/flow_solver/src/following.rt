@@ -12,7 +12,7 @@ use mcf_limits::MAX_LENGTH;
 use std::alloc::{AllocError, Global};
 
 /// Puts the length of each cell under these loads in its place. Under the setting of an earlier bound they follow its lengths, which is
-/// quicker than to make all of them anew: that takes two divisions for each cell. `Err` is for want of memory.
+/// quicker than to make all of them anew: that takes two divisions for each cell. `Err`: out of memory.
 pub(crate) fn put_lengths(
     alloc: Global,
     on: &Prepared<'_>,

@@ -22,7 +22,7 @@ fn new_hand(alloc: Global, net: &Net, worker: u16) -> Result<Hand, AllocError>
     })
 }
 
-/// The hands of so many workers.
+/// The hands of `workers` workers.
 pub(crate) fn new_hands(alloc: Global, net: &Net, workers: u16) -> Result<Vec<Hand>, AllocError>
     ensures count { IfOk result (λ hands. length hands.items ≡ workers) }
     ensures fresh { IfOk result (λ hands. (k : ℕ) (d : _) → k < workers

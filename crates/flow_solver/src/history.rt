@@ -119,8 +119,8 @@ impl PathHistory {
         Ok(row)
     }
 
-    /// Adds the paths of the next commodities to the rows, and their entries to those of the first ones, until there are so many. `Err` is
-    /// for want of memory: the phases are as before, but weights may have grown, so nothing more can be added.
+    /// Adds the paths of the next commodities to the rows, and their entries behind those of the first ones, until there are `until`
+    /// entries. `Err`: out of memory; the phases are as before, but weights may have grown, so nothing more can be added.
     pub(crate) fn name_rows(
         &mut self,
         net: &Net,
@@ -162,7 +162,7 @@ impl PathHistory {
         Ok(())
     }
 
-    /// Appends the phase whose entries these are. `Err` is for want of memory: the phases are as before.
+    /// Appends the phase whose entries these are. `Err`: out of memory: the phases are as before.
     pub(crate) fn append_phase(&mut self, _net: &Net, entries: &[Entry]) -> Result<(), AllocError>
         requires commodities { self.old.commodities ≡ length _net.now.commodities }
         requires phases { length self.old.history < MAX_PHASES }
@@ -180,7 +180,7 @@ impl PathHistory {
     }
 
     /// Appends the phase that hands have routed, with each commodity's place: its path is found among the rows, which grow by the
-    /// commodity's amount, or appended. `Err` is for want of memory: the phases are as before, but weights may have grown,
+    /// commodity's amount, or appended. `Err`: out of memory: the phases are as before, but weights may have grown,
     /// so nothing more can be added.
     pub(crate) fn note_phase(
         &mut self,

@@ -105,7 +105,7 @@ fn share_beside<G: Gate, R: Threads + Sync, T, F: FnMut() -> T>(
     stay_beside(rt, mate, closed, lead)
 }
 
-// Takes on so many threads more, and leads all of them.
+// Takes on `count` more threads, and leads all of them.
 #[cycle(with_mates)]
 fn with_mates<'a, G: Gate, R: Threads + Sync>(
     run: &Run<'a, G, R>,
@@ -126,7 +126,7 @@ fn with_mates<'a, G: Gate, R: Threads + Sync>(
     }
 }
 
-// Takes on a thread at the post and so many more, and leads all of them.
+// Takes on a thread at the post and `others` more, and leads all of them.
 #[cycle(with_mates)]
 fn with_mate<'a, 'c, G: Gate, R: Threads + Sync>(
     run: &Run<'a, G, R>,
@@ -162,7 +162,7 @@ fn with_mate<'a, 'c, G: Gate, R: Threads + Sync>(
 }
 
 /// One phase more or several, with a thread beside the caller's for each other hand. It ends where the gap is met or the budget is spent,
-/// and may end before, since threads leave that have had nothing to do for a while. `Err` is for want of memory, or where the crew gave up.
+/// and may end before, since threads leave that have had nothing to do for a while. `Err`: out of memory, or where the crew gave up.
 pub(crate) fn further<'a, G: Gate, R: Threads + Sync>(
     run: &Run<'a, G, R>,
     reached: Reached,

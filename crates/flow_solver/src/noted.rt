@@ -1,4 +1,4 @@
-//! The rows that a commodity was found at of late: hints, of which no contract speaks.
+//! The rows that a commodity's paths had in its last phases. They are hints: no contract speaks of them.
 
 ghost use Rattle.std.specs.Prelude.{⊤, ◌<◌, MatchOption};
 ghost use Rattle.flow_solver.specs.Rows.{IsRowOf};
@@ -7,7 +7,7 @@ use flow_paths::PathStore;
 use std::alloc::{AllocError, Global};
 use std::hint::select_unpredictable;
 
-// How many rows are noted of a commodity in each of so many sets.
+// How many rows of a commodity are noted in each set.
 const ROWS_OF_A_SET: usize = 8;
 
 const SETS: usize = 4;
@@ -97,13 +97,14 @@ fn mark_of(path: &[u16]) -> u32 {
     })
 }
 
-/// The row that the path of each commodity had last, and the rows that its paths had of late, among which a path is looked for where the
-/// last row is of another one. The last rows are a list of their own: most commodities need no more, and so they lie close together.
+/// The row that the path of each commodity had last, and the rows that its paths had in the last phases, among which a path is looked
+/// for where the last row is of another path. The last rows are a list of their own: most commodities need no more, and so they lie
+/// close together.
 #[derive(Drop)]
 pub struct Sought {
     /// The number of the row that each commodity had last.
     pub last: Vec<u32>,
-    /// The rows that each commodity had of late.
+    /// The rows that each commodity had in the last phases.
     pub noted: Vec<NotedRows>,
 }
 
@@ -118,7 +119,7 @@ impl Sought {
         }
     }
 
-    /// Makes room for what is known of so many commodities, where there is another number.
+    /// Makes room for `count` commodities, where the room is for another number.
     pub(crate) fn make_room(&mut self, alloc: Global, count: usize) -> Result<(), AllocError>
         ensures last { OnOk result (length self.new.last.items ≡ count) }
         ensures noted { OnOk result (length self.new.noted.items ≡ count) }

@@ -11,8 +11,8 @@ use phase_engine::Hand;
 use solver_run::Entry;
 use std::alloc::{AllocError, Global};
 
-/// Adds the paths of the next commodities of the phase that these hands have routed to the rows, and their entries to those of the first
-/// ones, until there are so many. `Err` is for want of memory, and then nothing more can be noted.
+/// Adds the paths of the next commodities of the phase that these hands have routed to the rows, and their entries behind those of the
+/// first ones, until there are `until` entries. `Err`: out of memory, and nothing more can be noted.
 pub(crate) fn name_routes_of(
     alloc: Global,
     net: &Net,
@@ -39,7 +39,7 @@ pub(crate) fn name_routes_of(
 }
 
 /// Notes the rows of the phase that these hands have routed, of which the first commodities have these entries: it is appended to the
-/// history. `Err` is for want of memory, and then nothing more can be noted.
+/// history. `Err`: out of memory, and then nothing more can be noted.
 pub(crate) fn note_routes_of(
     alloc: Global,
     net: &Net,

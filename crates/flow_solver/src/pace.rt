@@ -4,7 +4,7 @@ ghost use Rattle.std.specs.Prelude.{◌≤◌};
 
 use mcf_limits::MAX_WORKERS;
 
-// Shares are so many parts of all.
+// A share is a number of this many parts of the whole.
 const PARTS: u16 = 64;
 
 // The most threads beside the caller's.
@@ -19,8 +19,8 @@ const LESS: u32 = 16;
 // So much it weighs at least.
 const LEAST: u32 = EVEN / 4;
 
-/// How the rows of a bound are shared out: so many of them with each of so many threads, none with so many others, and what is left is for
-/// the caller's thread.
+/// How the rows of a bound are shared out: how many each thread takes, how many threads take none, and what is left is for the caller's
+/// thread.
 #[derive(Clone, Copy)]
 pub(crate) struct Split {
     pub threads: usize,
@@ -28,9 +28,9 @@ pub(crate) struct Split {
     sizes: [usize; OTHERS],
 }
 
-/// What the caller's thread does beside the others, as shares of all. It alone notes rows: of so many commodities of a phase beside the
-/// routing of the next one, and of the others beside the bound, of which it fills so many rows itself; the other threads fill as many of
-/// the rest as their weights say. All of it follows what the last phase has shown, by a little at a time.
+/// What the caller's thread does beside the others, as shares of the whole. It alone notes rows: those of some commodities of a phase
+/// while the next phase is routed, and those of the others while the bound is made, of which it fills a share of the rows itself. The
+/// other threads fill the rest by their weights. All of it follows what the last phase has shown, a little at a time.
 #[derive(Clone, Copy)]
 pub struct Pace {
     first: u16,
@@ -63,7 +63,7 @@ impl Pace {
         share_of(self.first, commodities).min(commodities)
     }
 
-    /// How so many rows are shared out with so many threads, where so many others get none.
+    /// How `rows` rows are shared out with `threads` threads, where `idle` others get none.
     pub(crate) fn split(&self, rows: usize, threads: u16, idle: usize) -> Split {
         let own = self.own.min(even_share(threads));
         let shared = rows.saturating_sub(share_of(own, rows));
@@ -87,8 +87,8 @@ impl Pace {
         }
     }
 
-    /// After a bound with so many threads: the caller's thread fills more rows, where it had to wait for another one, but never more than an
-    /// even share; and the one that it waited for last fills fewer.
+    /// After a bound with `threads` threads: where the caller's thread had to wait for another one, it fills more rows, but never more
+    /// than an even share; and the thread that it waited for last fills fewer.
     pub(crate) fn after_bound(self, threads: u16, last: Option<usize>) -> Self {
         let before = self.weights;
         let weights = shifted(before, threads as usize, last);
@@ -100,7 +100,7 @@ impl Pace {
     }
 }
 
-// What the first threads weigh together, so many of them.
+// The sum of the weights of the first `threads` threads.
 fn weight_of(weights: &[u32; OTHERS], threads: usize) -> usize
     requires { threads ≤ OTHERS }
 {
@@ -111,7 +111,7 @@ fn weight_of(weights: &[u32; OTHERS], threads: usize) -> usize
     all
 }
 
-// So many rows, shared out with so many threads by their weights, each border at the nearest row.
+// How `rows` rows are shared out with `threads` threads by their weights, each border at the nearest row.
 fn sizes_of(rows: usize, weights: &[u32; OTHERS], threads: usize) -> [usize; OTHERS]
     requires { threads ≤ OTHERS }
 {
@@ -154,12 +154,12 @@ fn shifted(weights: [u32; OTHERS], threads: usize, last: Option<usize>) -> [u32;
     weights
 }
 
-// The share of the caller's thread where it has as much to do as each of so many others.
+// The share of the caller's thread where it has as much to do as each of `threads` others.
 fn even_share(threads: u16) -> u16 {
     PARTS.div_ceil(threads.saturating_add(1))
 }
 
-// The share of so many.
+// How many of `all` are in the share.
 fn share_of(share: u16, all: usize) -> usize {
     all.saturating_mul(share as usize) / PARTS as usize
 }

@@ -48,7 +48,7 @@ pub(crate) fn filled<'a>(part: Part<'a>) -> Part<'a>
     }
 }
 
-// The last rows, so many of them or all that there are, as a part. `Err` is for want of memory.
+// The last `size` rows, or all if there are fewer, as a part. `Err`: out of memory.
 fn last_part<'a>(
     alloc: Global,
     graph: &'a Graph,
@@ -72,7 +72,7 @@ fn last_part<'a>(
     })
 }
 
-/// All rows in parts: one for each thread, from the last row on, and one of the first rows, which are left. `Err` is for want of memory.
+/// All rows in parts: one for each thread, from the last row on, and one of the first rows, which are left. `Err`: out of memory.
 pub(crate) fn parts_of<'a, G>(
     alloc: Global,
     graph: &'a Graph,
@@ -97,7 +97,7 @@ pub(crate) fn parts_of<'a, G>(
     Ok(parts)
 }
 
-// Appends the rows of a part. `Err` is for want of memory.
+// Appends the rows of a part. `Err`: out of memory.
 fn append_part<G>(rows: &mut Vec<Row>, part: Option<Share<'_, G>>) -> Result<(), AllocError>
     ensures { OnOk result (rows.new.items ≡ rows.old.items ++ rows_at part.entry) }
 {
@@ -111,7 +111,7 @@ fn append_part<G>(rows: &mut Vec<Row>, part: Option<Share<'_, G>>) -> Result<(),
     }
 }
 
-/// Appends the rows of all parts, in the order in which they were. `Err` is for want of memory.
+/// Appends the rows of all parts, in the order in which they were. `Err`: out of memory.
 pub(crate) fn append_parts<G>(
     rows: &mut Vec<Row>,
     parts: Vec<Option<Share<'_, G>>>,

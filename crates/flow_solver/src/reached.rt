@@ -89,7 +89,7 @@ pub(crate) fn first<G: Gate, R: Threads + Sync>(run: &Run<'_, G, R>) -> Result<R
     })
 }
 
-/// One phase more, by a crew where there is one, and the lesser of the least bound and the bound after it.
+/// Routes one more phase, by the crew if there is one, and keeps the smaller of the least bound and the bound after it.
 pub(crate) fn next<'a, G: Gate, R: Threads + Sync>(
     run: &Run<'a, G, R>,
     crew: Option<&mut Crew<'_, Share<'a, G>>>,
@@ -125,7 +125,7 @@ pub(crate) fn next<'a, G: Gate, R: Threads + Sync>(
     })
 }
 
-/// So many phases, as a fraction of every amount, where the fullest cell has this capacity and load.
+/// The fraction of every amount that is carried after `phases` phases, where the fullest cell has this capacity and load.
 pub fn lower(phases: u32, fill: Fill) -> Frac
     requires phases { phases ≤ MAX_PHASES }
     requires fill { IsFill fill }

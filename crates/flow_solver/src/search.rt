@@ -61,13 +61,13 @@ pub struct Search {
     pub spare: Vec<Hand>,
     /// The rows of paths, and who routed what in each phase.
     pub history: PathHistory,
-    /// The rows that each commodity had of late.
+    /// The rows that each commodity had in the last phases.
     pub sought: Sought,
     /// How work is shared out with other threads.
     pub pace: Pace,
 }
 
-// So many zeros.
+// `count` zeros.
 fn zeros(alloc: Global, count: usize) -> Result<Vec<u64>, AllocError>
     ensures { IfOk result (λ v. v.items ≡ replicate count 0) }
 {
@@ -129,7 +129,7 @@ pub(crate) fn whole_history(
     Ok(history)
 }
 
-// One phase over words of its own. Searches begin at the trees of the rows, which the bound before has left. `Err` is for want of memory.
+// One phase over words of its own. Searches begin at the trees of the rows, which the bound before has left. `Err`: out of memory.
 fn phase_over<G: Gate, R: Threads + Sync>(
     rt: &R,
     task: &Task<'_, G>,
@@ -172,7 +172,7 @@ fn phase_over<G: Gate, R: Threads + Sync>(
     }
 }
 
-/// One phase more, by the spare hands. `Err` is for want of memory, and then the search can't go on.
+/// One phase more, by the spare hands. `Err`: out of memory, and then the search can't go on.
 pub(crate) fn route<G: Gate, R: Threads + Sync>(
     rt: &R,
     task: &Task<'_, G>,
@@ -194,7 +194,7 @@ pub(crate) fn route<G: Gate, R: Threads + Sync>(
 }
 
 // The end of a phase over these words, after all turns. Should a turn share them still, which none does then, it is the whole phase
-// instead, over words of its own, by threads of its own. `Err` is for want of memory.
+// instead, over words of its own, by threads of its own. `Err`: out of memory.
 fn end_over<G: Gate, R: Threads + Sync>(
     rt: &R,
     task: &Task<'_, G>,
@@ -233,7 +233,7 @@ fn end_over<G: Gate, R: Threads + Sync>(
 }
 
 // As `phase_over`, with the turns in the threads of a crew: what `lead` answers, which the caller's thread calls before it takes a turn,
-// and the hands after the phase. `Err` is for want of memory, or where the crew gave up.
+// and the hands after the phase. `Err`: out of memory, or where the crew gave up.
 fn phase_with<'a, G: Gate, R: Threads + Sync, T, F: FnMut() -> T>(
     rt: &R,
     task: &Task<'a, G>,
@@ -298,7 +298,7 @@ fn has_routed(hands: &[Hand]) -> bool {
 }
 
 /// As `route`, with a crew in whose threads the hands take their turns; meanwhile the first commodities of the phase before are
-/// noted, whose entries stand in `entries` then. `Err` is for want of memory, or where the crew gave up or a turn shares the rows still,
+/// noted, whose entries stand in `entries` then. `Err`: out of memory, or where the crew gave up or a turn shares the rows still,
 /// which no run does; and then the search can't go on.
 pub(crate) fn route_with<'a, G: Gate, R: Threads + Sync>(
     rt: &R,

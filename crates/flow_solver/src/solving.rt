@@ -156,7 +156,7 @@ fn cut_off(
     Ok(Solved::new(proof, entries))
 }
 
-// The same options with no more workers than so many processors have, but with two where several are asked for.
+// The options with at most one worker a processor, but with two where several are asked for.
 fn with_fewer_workers(options: &SolveOptions, processors: u16) -> SolveOptions
     requires { 1 ≤ options.now.workers }
     ensures { IsWithFewer options.now result }
@@ -231,7 +231,7 @@ fn certified<G: Gate, R: Threads + Sync>(
 
 /// A certificate of the network, and its history. Paths carry one fraction of every amount within every capacity, and
 /// lengths bound the fraction of every feasible routing. It is closed exactly where the two lie within the asked gap,
-/// and open only after the whole phase budget. `Err` is for want of memory, or, with several workers, where a thread of its own has been at
+/// and open only after the whole phase budget. `Err`: out of memory, or, with several workers, where a thread of its own has been at
 /// one turn, or at its rows of one bound, while the caller's waited for minutes of the processor. It may wait for its workers.
 pub fn solve<G: Gate, R: Threads + Sync>(
     rt: &R,
@@ -248,8 +248,8 @@ pub fn solve<G: Gate, R: Threads + Sync>(
     solve_in(rt, alloc, net, options, gate, MAX_WORKERS)
 }
 
-/// As `solve`, with bounds that are made in at most so many threads, their caller's among them, one of which may note the rows
-/// meanwhile; 0 stands for 1. So with 1, and with one worker, a solve starts no thread of its own.
+/// As `solve`, with bounds that are made in at most `threads` threads, the caller's among them, one of which may note the rows
+/// meanwhile; 0 stands for 1. With 1, and with one worker, a solve starts no thread.
 pub fn solve_in<G: Gate, R: Threads + Sync>(
     rt: &R,
     alloc: Global,

@@ -182,7 +182,7 @@ fn hands_of<G: Gate>(
 }
 
 /// What `lead` answers, which the caller's thread calls before it takes a turn, and the hands after their work, in their order: each turn
-/// is taken in a thread of the crew, or in the caller's. `Err` is for want of memory, or where the crew gave up, since a turn was under way
+/// is taken in a thread of the crew, or in the caller's. `Err`: out of memory, or where the crew gave up, since a turn was under way
 /// for minutes.
 pub(crate) fn take_all<'a, G: Gate, T, F: FnMut() -> T>(
     task: &Task<'a, G>,

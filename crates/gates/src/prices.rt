@@ -13,7 +13,7 @@ use flow_model::{Cell, Net};
 use flow_paths::Dual;
 use mcf_limits::MAX_LENGTH;
 
-// The lesser of two prices, if there is one.
+// The smaller of two prices, if there is one.
 fn lesser(a: Option<u64>, b: Option<u64>) -> Option<u64>
     ensures { result ≡ lesser_of a b }
 {

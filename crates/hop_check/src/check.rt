@@ -100,7 +100,7 @@ fn check_rows(
 }
 
 /// The verdict on a certificate with hop limits: valid with its fractions, or the first of the ten conditions that fails.
-/// There is one limit, or none, for each commodity, of at most 64 cells. `Err` is for want of memory alone.
+/// There is one limit, or none, for each commodity, of at most 64 cells. `Err` means out of memory alone.
 pub fn check_hops(
     alloc: Global,
     net: &Net,

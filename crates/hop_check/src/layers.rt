@@ -45,7 +45,7 @@ impl Layers {
         }
     }
 
-    /// Appends a row: the numbers, of at most 2^62 each, are one per node. `Err` is for want of memory, and leaves the
+    /// Appends a row: the numbers, of at most 2^62 each, are one per node. `Err`: out of memory, and leaves the
     /// rows as they were.
     pub fn push(
         &mut self,

@@ -26,7 +26,7 @@ fn below(most: u32, nodes: u16) -> Option<u32>
     }
 }
 
-// The limit of a demand in a network of so many nodes, if it has one.
+// The limit of a demand in a network of `nodes` nodes, if it has one.
 fn limit(nodes: u16, row: &DemandRow<'_>) -> Option<u32>
     requires { nodes ≤ MAX_NODES }
     ensures { result ≡ limit_of nodes (demand_row_view row.now) }

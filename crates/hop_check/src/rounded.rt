@@ -32,7 +32,7 @@ fn followed(start: u32, digits: &[u8]) -> u32
     n
 }
 
-// That many zeros behind the digits of `start`, up to `MANY`.
+// `start` with `zeros` zeros behind it, or `MANY` if that is less.
 fn raised(start: u32, zeros: usize) -> u32
     requires { start ≤ MANY }
     ensures { result ≡ min (start * 10 ^ zeros) MANY }
@@ -44,7 +44,7 @@ fn raised(start: u32, zeros: usize) -> u32
     n
 }
 
-// The number of the digits without that many at their end, up to `MANY`.
+// The number of the digits without the last `cut`, or `MANY` if that is less.
 fn cut(whole: &[u8], fraction: &[u8], cut: usize) -> u32
     requires whole { AllDigits 10 whole.now }
     requires fraction { AllDigits 10 fraction.now }

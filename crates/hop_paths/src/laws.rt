@@ -2,7 +2,7 @@
 
 ghost use Rattle.hop_paths.specs.Laws.{LayersBoundWalks};
 
-/// Layers bound the length of every walk of at most so many cells as there are layers above the
+/// Layers bound the length of every walk of no more cells than there are layers above the
 /// first, be its cells empty or not.
 pub fn layers_bound_walks()
     ensures { LayersBoundWalks }

@@ -1,5 +1,5 @@
-//! Limits of hops: the least walks of at most so many cells, and layers of numbers that bound
-//! every walk of at most so many cells.
+//! Limits of hops: the least walks within a number of cells, and layers of numbers that bound
+//! every such walk.
 #![tactic(auto)]
 
 mod laws;

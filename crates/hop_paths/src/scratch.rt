@@ -11,10 +11,10 @@ use mcf_limits::MAX_LENGTH;
 use std::alloc::{AllocError, Global};
 use std::marker::Model;
 
-/// Distances from one node over at most so many cells, for each number of cells up to a
-/// greatest. It is seen as its numbers of nodes and of the greatest layer, how many layers the
-/// last search made, and the distance of each node in each layer, if there is one, with the
-/// steps that lead there.
+/// Distances from one node over at most i cells, for each i up to a greatest. It is seen as
+/// its number of nodes, the number of its greatest layer, how many layers the last search
+/// made, and the distance of each node in each layer, if there is one, with the steps that
+/// lead there.
 #[derive(Drop)]
 pub struct HopScratch {
     nodes: u16,
@@ -112,8 +112,8 @@ impl HopScratch {
     ghost use Rattle.hop_paths.specs.Lending.{Keeps};
     ghost use Rattle.hop_paths.specs.Searched.{layer_dist, layer_path, IsShortPath};
 
-    /// Room for searches over so many nodes, for walks of at most so many cells. No layer is
-    /// made yet.
+    /// Room for searches over `nodes` nodes, for walks of at most `layers` cells. No layer
+    /// is made yet.
     pub fn new(alloc: Global, nodes: u16, layers: u8) -> Result<Self, AllocError>
         requires { layers ≤ MAX_HOPS }
         ensures nodes { IfOk result (λ s. s.nodes ≡ nodes) }

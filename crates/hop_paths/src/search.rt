@@ -135,7 +135,7 @@ fn rise(
     }
 }
 
-// Puts the first so many nodes out of reach.
+// Puts the first `nodes` nodes out of reach.
 fn clear(dist: &mut [u64], steps: &mut [Option<HopStep>], nodes: usize)
     requires size { nodes ≤ length dist.old }
     requires room { length steps.old ≡ length dist.old }
@@ -147,7 +147,7 @@ fn clear(dist: &mut [u64], steps: &mut [Option<HopStep>], nodes: usize)
     }
 }
 
-/// Makes the first layer, of no cells, and so many behind it.
+/// Makes the first layer, of no cells, and `layers` more.
 pub fn search(
     graph: &Graph,
     lengths: &[u64],

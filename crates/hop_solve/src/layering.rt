@@ -57,7 +57,7 @@ fn put_numbers(layered: &HopScratch, index: u8, kind: Numbers, values: &mut [u64
     }
 }
 
-// Appends so many layers of the node, from layer 0 on, of which the search has the numbers.
+// Appends the first `count` layers of the node, from layer 0 on, as the search has them.
 fn push_layers(
     alloc: Global,
     finder: &mut Finder,

@@ -38,7 +38,7 @@ pub struct HopReached {
     pub kept: HopBound,
 }
 
-// The lesser of two bounds, the earlier where they are equal.
+// The smaller of two bounds; the earlier where they are equal.
 fn lesser(earlier: HopBound, later: HopBound) -> HopBound
     ensures { result ≡ (if fraction_le earlier.value later.value then earlier else later) }
 {
@@ -83,7 +83,7 @@ pub fn first(
     })
 }
 
-/// One phase more, and the lesser of the least bound and the bound after it.
+/// Routes one more phase, and keeps the smaller of the least bound and the bound after it.
 pub fn next(
     alloc: Global,
     on: &Given<'_>,
@@ -122,7 +122,7 @@ pub fn next(
     })
 }
 
-/// So many phases, as a fraction of every amount, where the fullest cell has this capacity and load.
+/// The fraction of every amount that is carried after `phases` phases, where the fullest cell has this capacity and load.
 pub fn lower(phases: u32, fill: Fill) -> Frac
     requires phases { phases ≤ MAX_PHASES }
     requires fill { IsFill fill }

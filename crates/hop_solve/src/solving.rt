@@ -174,7 +174,7 @@ fn run(alloc: Global, on: &Given<'_>, options: &RunOptions) -> Result<HopProof, 
 /// one fraction of every amount within every capacity, each over at most as many cells as its commodity's limit; lengths,
 /// potentials and layers bound the fraction of every such routing. It is closed exactly where the two lie within the asked
 /// gap, which is in millionths, and open only after the whole phase budget. Where some commodity has no walk over positive
-/// cells within its limit, it is closed without a phase, and the bound is 0. `Err` is for want of memory.
+/// cells within its limit, it is closed without a phase, and the bound is 0. `Err`: out of memory.
 pub fn solve_hops(
     alloc: Global,
     net: &Net,

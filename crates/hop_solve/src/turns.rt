@@ -57,7 +57,7 @@ fn add_along(loads: &mut [u64], path: &[u16], amount: u64)
     }
 }
 
-// The amount goes for the commodity along the path, and the lengths follow. `Err` is for want of memory.
+// The amount goes for the commodity along the path, and the lengths follow. `Err`: out of memory.
 fn route(
     on: &Given<'_>,
     routed: &mut Routed,
@@ -136,7 +136,7 @@ fn free_turn(
     turn_along(on, routed, k, found, commodity.amount)
 }
 
-// Whether the path has at most so many cells, where there is one.
+// Whether the path has at most `limit` cells, where there is one.
 fn is_short(found: Option<&[u16]>, limit: u8) -> bool
     ensures { IsTrue result → MatchOption (option_map (λ path. path.now) found.entry) (Unit {0})
         (λ walk. length walk ≤ limit) }

@@ -130,8 +130,8 @@ fn put_along(own: &mut [u64], path: &[u16], amount: u64)
 }
 
 impl Loads {
-    /// Word 0 is 0, and each cell's word is its base. The pass is that of worker 0, with a split for each other worker. `Err` is for
-    /// want of memory.
+    /// Word 0 is 0, and each cell's word is its base. The pass is that of worker 0, with a split for each other worker. `Err`: out
+    /// of memory.
     pub fn new(
         alloc: Global,
         net: &Net,

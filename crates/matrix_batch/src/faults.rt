@@ -11,7 +11,7 @@ use sndlib_grammar::is_number;
 
 const UNLIMITED: &[u8] = b"UNLIMITED";
 
-/// The lesser of two lines, where both are there.
+/// The smaller of two line numbers, where both are there.
 pub fn lesser(a: Option<u32>, b: Option<u32>) -> Option<u32>
     ensures { result ≡ lesser_line a b }
 {

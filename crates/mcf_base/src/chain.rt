@@ -10,7 +10,7 @@ ghost use Rattle.mcf_base.specs.Chain.{AreAccepted};
 use std::thread;
 use std::thread::Threads;
 
-/// In how many threads work is to be shared out: as many as there are processors, but at most so many. None stands for one.
+/// How many threads share work out: as many as there are processors, but at most `most`. 0 stands for 1.
 pub fn thread_count(rt: &impl Threads, most: u16) -> usize
     ensures some { 1 ≤ result }
     ensures few { result ≤ max most 1 }

@@ -58,7 +58,7 @@ pub struct Form {
     pub options: &'static [&'static str],
 }
 
-// A command that reads so many files at least, and so many at most.
+// A command that reads `least` to `most` files.
 fn takes_some(
     word: &'static [u8],
     least: usize,
@@ -78,7 +78,7 @@ fn takes_some(
     }
 }
 
-// A command that reads just so many files.
+// A command that reads just `files` files.
 fn takes(word: &'static [u8], files: usize, options: &'static [&'static str]) -> Form
     ensures word { result.word.now ≡ word.entry.now }
     ensures least { result.least ≡ files }

@@ -143,8 +143,8 @@ fn put_demands(
     Ok(())
 }
 
-/// The canonical text of the network of that seed, with so many nodes, links and demands. It is within the limit of
-/// texts that are read.
+/// The canonical text of the network that is drawn from the seed, with these numbers of nodes, links and demands.
+/// It is within the limit of texts that are read.
 pub fn generate(
     alloc: Global,
     seed: u64,

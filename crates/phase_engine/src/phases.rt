@@ -32,7 +32,7 @@ fn clear_all(hands: &mut [Hand])
 }
 
 /// The end of a phase of these words: the passes are taken out of the hands, and the load of each cell is put in its place.
-/// Where some worker has stopped the phase is whole, although another was refused room. Else `Err`, for want of memory,
+/// Where some worker has stopped the phase is whole, although another was refused room. Else `Err`, since memory ran out,
 /// is the pass of all workers, none of which has stopped: the loads are as before, and the routes are cleared.
 pub fn finish(table: Loads, loads: &mut [u64], hands: &mut [Hand]) -> Result<(), Pass>
     requires start { IsStart table.terms }
@@ -60,7 +60,7 @@ pub fn finish(table: Loads, loads: &mut [u64], hands: &mut [Hand]) -> Result<(),
 
 /// One phase over the loads, which grow by the routes of the hands. The words and the pass are new ones of these loads; a hand's room is
 /// of this network, or it has none.
-/// Where some worker has stopped the phase is whole, although another was refused room. Else `Err`, for want of memory,
+/// Where some worker has stopped the phase is whole, although another was refused room. Else `Err`, since memory ran out,
 /// is the pass of all workers, none of which has stopped: the loads are as before, and the routes are cleared.
 pub fn phase<G: Gate, R: Threads + Sync>(
     rt: &R,

@@ -18,8 +18,8 @@ pub struct Room {
 }
 
 impl Room {
-    /// Room for a phase: that of an earlier one, with new lengths where its own are under another setting, or else new room. `Err` is for
-    /// want of memory.
+    /// Room for a phase: that of an earlier one, with new lengths where its own are under another setting, or else new room. `Err`: out
+    /// of memory.
     pub(crate) fn for_phase(
         alloc: Global,
         input: &PhaseInput<'_>,

@@ -13,7 +13,7 @@ use load_table::{Loads, Pass};
 use std::alloc::{AllocError, Global};
 use std::marker::Model;
 
-/// A commodity, and where the cells of its path stand: the first of them so many places before the end of the buffer.
+/// A commodity, and where the cells of its path stand: how many places before the end of the buffer the first of them is.
 #[derive(Clone, Copy, Debug, PartialEq, Eq)]
 pub(crate) struct Span {
     pub commodity: u32,
@@ -93,7 +93,7 @@ impl RouteBuffer {
         self.free = self.cells.len();
     }
 
-    // Makes more places ready, of those that there is room for: so many, or as many as there are already, if that is more.
+    // Makes `cells` more places ready, or as many as there are already if that is more, of those that there is room for.
     fn widen(&mut self, cells: usize)
         requires { cells ≤ self.old.cells }
         ensures same { self.new.routes ≡ self.old.routes }
@@ -108,7 +108,7 @@ impl RouteBuffer {
         self.free += more;
     }
 
-    /// Makes so many cells ready, for which there is room.
+    /// Makes `cells` places ready, for which there is room.
     pub(crate) fn make_ready(&mut self, cells: usize)
         requires { cells ≤ self.old.cells }
         ensures same { self.new.routes ≡ self.old.routes }
@@ -121,7 +121,7 @@ impl RouteBuffer {
         }
     }
 
-    /// Makes room for so many more paths, of so many cells together.
+    /// Makes room for `paths` more paths, of `cells` cells together.
     pub(crate) fn reserve(&mut self, paths: usize, cells: usize) -> Result<(), AllocError>
         ensures same { self.new.routes ≡ self.old.routes }
         ensures paths { OnOk result (paths ≤ self.new.paths) }
@@ -168,7 +168,7 @@ impl RouteBuffer {
     }
 }
 
-// Appends so many cells, for which there is room.
+// Appends `count` blank cells, for which there is room.
 fn append_blank(cells: &mut Vec<u16>, count: usize)
     requires { vec_len cells.old + count ≤ vec_capacity cells.old }
     ensures items { cells.new.items ≡ cells.old.items ++ replicate count 0 }

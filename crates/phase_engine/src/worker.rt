@@ -144,7 +144,7 @@ fn claim_all<G: Watch>(
 }
 
 /// The work of one worker of a phase. It takes its room, or makes it, and then makes room for the paths of one more group
-/// before each claim. `memory` is the answer for want of memory; then no claimed group is left half routed.
+/// before each claim. `memory` says that memory ran out; then no claimed group is left half routed.
 pub fn work<G: Watch>(
     alloc: Global,
     shared: &Shared<'_, G>,

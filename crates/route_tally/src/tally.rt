@@ -46,7 +46,7 @@ impl Tally {
     }
 
     /// A turn that routes the amount, in units, for the commodity along the path: its row grows, or is a new one.
-    /// `Err` is for want of memory, and leaves the tally as it was.
+    /// `Err`: out of memory, and leaves the tally as it was.
     pub fn add(&mut self, k: u32, path: &[u16], amount: u64) -> Result<(), AllocError>
         requires room { length self.old < 4294967295 }
         requires weight { carried self.old k + amount ≤ MAX_LENGTH }

@@ -14,7 +14,7 @@ use std::thread::Threads;
 // Turns that a job waits for the others at most.
 const TURNS: u32 = 10_000_000;
 
-// A number to be doubled once so many jobs have begun.
+// A number that is doubled once `jobs` jobs have begun.
 #[derive(Drop)]
 struct Doubling<'a> {
     number: u64,
@@ -50,7 +50,7 @@ impl<'a> Job for Doubling<'a> {
     }
 }
 
-// A number that waits until so many have begun.
+// A number that waits until `jobs` jobs have begun.
 fn one(number: u64, begun: &AtomicU64, jobs: u64) -> Option<Doubling<'_>>
     ensures { IsSome result }
 {
@@ -61,7 +61,7 @@ fn one(number: u64, begun: &AtomicU64, jobs: u64) -> Option<Doubling<'_>>
     })
 }
 
-// The numbers 1, 2 and 3, which wait until so many have begun.
+// The numbers 1, 2 and 3, which wait until `jobs` jobs have begun.
 fn three(
     alloc: Global,
     begun: &AtomicU64,
@@ -96,7 +96,7 @@ fn are_doubled(jobs: &[Option<Doubling<'_>>]) -> bool {
     jobs.len() == 3
 }
 
-// Whether the crew has worked on three jobs, which wait until so many have begun.
+// Whether the crew has worked on three jobs, which wait until `count` of them have begun.
 fn work_on<'a>(
     alloc: Global,
     crew: &mut Crew<'_, Doubling<'a>>,

@@ -274,7 +274,7 @@ fn files_that_do_not_stand(rt: HostRuntime) -> Result<(), Fail> {
     Ok(())
 }
 
-// A program that always answers want of memory meets its contract, and fails here.
+// A program that always answers that memory ran out meets its contract, and fails here.
 #[test]
 fn always_memory(rt: HostRuntime) -> Result<(), Fail> {
     for case in [&CHECK, &PRINT, &SOLVE, &UPGRADE, &SWEEP, &TIGHTEN, &WHAT_IF] {

@@ -11,7 +11,7 @@ const TRIANGLE: &[u8] =
 const ROUTED: &[u8] =
     b"mcf-certificate 2\nverdict open\nlinks undirected\nmodules largest\nnet nodes 3 cells 3 commodities 2 decimals 0 skipped 0 left 0 hops 0\ngap 0.050000\nphases 1\nscale 10 8\nlower 10/8 1.250000\nupper 22/12 1.833334\npath D1 8 =L1\npath D2 4 =L3\nlength =L1 1\nlength =L2 1\nlength =L3 1\npotential A 0 1 1\nend\n";
 
-// One with the lesser lower fraction, and the bound of the cut round the node.
+// One with the smaller lower fraction, and the bound of the cut round the node.
 const CUT_OUT: &[u8] =
     b"mcf-certificate 2\nverdict open\nlinks undirected\nmodules largest\nnet nodes 3 cells 3 commodities 2 decimals 0 skipped 0 left 0 hops 0\ngap 0.050000\nphases 2\nscale 6 10\nlower 12/10 1.200000\nupper 16/12 1.333334\npath D1 14 =L1\npath D1 2 =L3 =L2\npath D2 8 =L3\nlength =L1 1\nlength =L2 0\nlength =L3 1\npotential A 0 1 1\nend\n";
 

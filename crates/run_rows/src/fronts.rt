@@ -39,7 +39,8 @@ fn fronts_of_a_network(rt: HostRuntime) -> Result<(), Fail> {
     Ok(())
 }
 
-// The front of a certificate or a routing: no header of so many bytes, or cut off in its last line.
+// What is said of the first `count` bytes of a certificate or a routing, whose header has `header` bytes: that there is no header where it
+// is cut off, else that the last line is.
 fn expect_front(
     rt: &(impl Abort + Threads + Sync),
     alloc: Global,

@@ -101,7 +101,7 @@ fn id_of_unknown_bytes(rt: HostRuntime) -> Result<(), Fail> {
     expect_net(&rt, rt.alloc(), "id_of_unknown_bytes", PRINT, &net, 0, &net)
 }
 
-// The network of one link with another line in its nodes, in which so many bytes stand for the `@`.
+// The network of one link with another line in its nodes, in which `times` bytes stand in place of the `@`.
 fn lengthened(alloc: Global, line: &[u8], times: u32) -> Result<Vec<u8>, AllocError> {
     let marked = edited(alloc, ONE_LINK, b"  B\n", line)?;
     edited(alloc, &marked, b"@", &repeated(alloc, b"x", times)?)

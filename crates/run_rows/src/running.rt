@@ -17,7 +17,7 @@ pub fn is_line(answer: &Answer, status: u8, front: &[u8]) -> bool {
     answer.begins(status, front) && is_one_line(answer.text())
 }
 
-/// The answer to the words, where these files stand, with room for so many bytes.
+/// The answer to the words, where these files stand, with room for `room` bytes of output.
 pub fn answer_within<R: Threads + Sync>(
     rt: &R,
     alloc: Global,

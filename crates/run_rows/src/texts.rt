@@ -5,7 +5,7 @@ use std::alloc::{AllocError, Global};
 /// A script for the certificate of one link.
 pub const SCRIPT: &[u8] = b"set L1 14\nshow close L1\nshow";
 
-/// The text with so many bytes from that place on replaced.
+/// The text with `count` bytes from place `at` on replaced.
 pub fn spliced(
     alloc: Global,
     text: &[u8],

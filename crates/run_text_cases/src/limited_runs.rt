@@ -36,7 +36,7 @@ fn triangle(alloc: Global, others: u64) -> Result<Net, AllocError>
     Ok(Net::new(3, cells, vec![in alloc; commodity]?))
 }
 
-// What is solved of a triangle, where a path may have so many links.
+// What is solved of a triangle, where a path may have `limit` links.
 fn solved(alloc: Global, others: u64, limit: Option<u8>, step: u32) -> Result<HopProof, AllocError>
     requires others { others ≤ MAX_UNITS }
     requires limit { MatchOption limit (Unit {0}) (λ n. n ≤ MAX_HOPS) }

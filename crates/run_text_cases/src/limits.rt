@@ -29,7 +29,7 @@ const CASES: &[Wanted] = &[
     (67, "65", None),
 ];
 
-// A network of so many nodes, with one link and one demand.
+// A network of `nodes` nodes, with one link and one demand.
 fn text_of(alloc: Global, nodes: u32, longest: &str) -> Result<String, AllocError> {
     let mut text = String::from_str(
         alloc,
@@ -45,7 +45,7 @@ fn text_of(alloc: Global, nodes: u32, longest: &str) -> Result<String, AllocErro
     Ok(text)
 }
 
-// The limits of a network's commodities; want of memory where the text is refused.
+// The limits of a network's commodities; out of memory where the text is refused.
 fn limits_in(alloc: Global, text: &[u8]) -> Result<Vec<Option<u8>>, ScaleEnd>
     requires { length text.now ≤ MAX_NET_BYTES }
 {

@@ -65,7 +65,7 @@ fn other_end(cell: &Cell, at: u16) -> Option<u16> {
     }
 }
 
-// Goes over every walk of at most so many cells more, and keeps for each node the least length of those that lead to it.
+// Goes over every walk of at most `left` more cells, and keeps for each node the least length of those that lead to it.
 fn list_walks(cells: &[Cell], lengths: &[u64], at: u16, left: u8, length: u64, best: &mut [u64]) {
     if let Some(least) = best.get_mut(at as usize) {
         *least = length.min(*least);

@@ -124,7 +124,7 @@ fn certificates_of_one_link(rt: HostRuntime) -> Result<(), Fail> {
     Ok(())
 }
 
-// The certificate of a run of at most so many phases.
+// The certificate of a run of at most `phases` phases.
 fn solved(alloc: Global, gap: u64, phases: u32, step: u32) -> Result<PartProof, AllocError>
     requires gap { gap ≤ MAX_GAP }
     requires phases { (1 ≤ phases) × (phases ≤ MAX_PHASES) }

@@ -18,7 +18,7 @@ use std::alloc::Global;
 
 const LAYER: &[u8] = b"layer";
 
-// The two words behind the keyword and that many words, none of them empty.
+// The two words behind the keyword, where just `count` words follow them, none of them empty.
 fn row_of_count(count: usize, line: &[u8]) -> Option<(&[u8], &[u8], Option<&[u8]>)>
     ensures { option_map (λ p. (p.0.now, p.1.now, words_in (option_map (λ w. w.now) p.2))) result
         ≡ with_count count (row_behind (codes "layer") (words_of line.now)) }

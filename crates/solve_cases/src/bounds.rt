@@ -55,7 +55,7 @@ fn bound_in_kept_rows<R: Abort + Threads + Sync>(
     Ok(())
 }
 
-// How many rows the lesser of an earlier bound without rows, of this numerator, and the bound under a load of 10 has.
+// How many rows the smaller of two bounds has: an earlier one without rows, of this numerator, and that under a load of 10.
 fn rows_of_the_lesser<R: Threads + Sync>(
     rt: &R,
     alloc: Global,

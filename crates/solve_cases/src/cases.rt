@@ -43,7 +43,7 @@ pub fn solved<G: Gate, R: Threads + Sync>(
     Ok(Some(solved))
 }
 
-/// The same, with bounds in at most so many threads.
+/// What is solved with bounds in at most `threads` threads.
 pub fn solved_in<G: Gate, R: Threads + Sync>(
     rt: &R,
     alloc: Global,

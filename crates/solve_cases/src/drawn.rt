@@ -30,7 +30,7 @@ impl Words {
     }
 }
 
-/// So many loads, each the next number below that one.
+/// `count` loads, each drawn below `below`.
 pub fn loads(
     alloc: Global,
     words: &mut Words,

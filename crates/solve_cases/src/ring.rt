@@ -42,7 +42,7 @@ fn ring_cells(
     Ok(cells)
 }
 
-/// The network of so many nodes in a ring, with further links between any two, and one demand.
+/// A network of `nodes` nodes in a ring, with `links` further links between any two, and one demand.
 pub fn ring_network(
     alloc: Global,
     words: &mut Words,

@@ -106,7 +106,7 @@ fn the_first_bound_is_kept(rt: HostRuntime) -> Result<(), Fail> {
     Ok(())
 }
 
-// In how many threads bounds are taken has no bearing.
+// The number of threads that make bounds changes no answer.
 #[test]
 fn the_same_in_all_threads(rt: HostRuntime) -> Result<(), Fail> {
     let alloc = rt.alloc();

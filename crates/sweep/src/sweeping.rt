@@ -12,9 +12,9 @@ use std::thread::Threads;
 use unit_scale::LinkMode;
 use whatif::{Bounds, Plan};
 
-/// For each of so many links, in their order, both fractions of the plan with that link's cells at capacity 0 and every other
-/// capacity as the plan has it. The plan has the cells of that many links. Links are shared out among at most 16 threads,
-/// each with a copy of the plan, and it may wait for its own threads. `Err` is for want of memory.
+/// For each of `links` links, in their order, both fractions of the plan with that link's cells at capacity 0 and every other
+/// capacity as the plan has it. The plan has the cells of just these links. They are shared out among at most 16 threads,
+/// each with a copy of the plan, and the call waits for these threads. `Err`: out of memory.
 pub fn sweep_plan<R: Threads + Sync>(
     rt: &R,
     alloc: Global,

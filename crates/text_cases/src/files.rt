@@ -33,7 +33,7 @@ fn code(kind: NetKind) -> &'static str {
     }
 }
 
-/// The refusal of a network, with its line; nothing where it is want of memory.
+/// The refusal of a network, with its line; nothing where memory ran out.
 pub fn tell_refusal(rt: &HostRuntime, refusal: Option<NetRefusal>) -> Result<()> {
     match refusal {
         Some(r) => println!(rt; "refused {} line {}", code(r.kind), r.line)?,

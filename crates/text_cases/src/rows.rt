@@ -111,7 +111,7 @@ pub fn tell_cuts(rt: &HostRuntime, name: &str) -> Result<()> {
     Ok(())
 }
 
-/// A text with a skipped section of that many nested groups.
+/// A text with a skipped section of `count` nested groups.
 pub fn tell_nested(rt: &HostRuntime, count: &str) -> Result<()> {
     let groups = match count.parse::<u32>() {
         Ok(groups) => groups as usize,

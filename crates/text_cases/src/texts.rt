@@ -6,7 +6,7 @@ use std::str;
 const FRONT: &[u8] =
     b"?SNDlib native format; type: network;\nNODES ( )\nLINKS ( )\nDEMANDS ( )\nMETA ";
 
-/// A text with a skipped section of that many nested groups.
+/// A text with a skipped section of `groups` nested groups.
 pub fn nested_text(alloc: Global, groups: usize) -> Result<Vec<u8>, AllocError> {
     let mut text = Vec::new(alloc);
     for b in FRONT {

@@ -61,7 +61,7 @@ fn check_rows(
 }
 
 /// The verdict on a certificate of a total: valid with its fractions, or the first of the ten conditions that fails. `Err`
-/// is for want of memory alone.
+/// means out of memory alone.
 pub fn check_part(alloc: Global, net: &Net, p: &PartProof) -> Result<Verdict, AllocError>
     requires { IsPartProofOf net.now p.now }
     ensures verdict { IfOk result (IsVerdictBy (PartHolds net.now p.now) (part_lower_of p.now.routing)

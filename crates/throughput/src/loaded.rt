@@ -21,7 +21,7 @@ pub struct Loaded {
     pub tally: Tally,
 }
 
-/// So many zeros.
+/// `count` zeros.
 pub fn zeros(alloc: Global, count: usize) -> Result<Vec<u64>, AllocError>
     ensures { IfOk result (λ v. v.items ≡ replicate count 0) }
 {

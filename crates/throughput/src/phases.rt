@@ -36,8 +36,8 @@ fn begun(on: &Prepared<'_>, setting: Setting, lengths: &mut [u64], loaded: &Load
     tops
 }
 
-/// One phase under the setting: each commodity has its turn, where the least price is this one at the start. `Err` is for
-/// want of memory, and then the run can't go on.
+/// One phase under the setting: each commodity has its turn, where the least price is this one at the start. `Err`: out
+/// of memory, and then the run can't go on.
 pub fn phase(
     on: &Prepared<'_>,
     setting: Setting,

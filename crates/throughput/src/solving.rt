@@ -194,7 +194,7 @@ fn certified(
 
 /// A certificate of the greatest total, each demand carried in part: paths carry at most every amount within every capacity,
 /// and a threshold bounds the total of every such routing. Amounts are in units, the gap in millionths. It is closed exactly
-/// where the two lie within the asked gap, and open only after the whole phase budget. `Err` is for want of memory. It starts
+/// where the two lie within the asked gap, and open only after the whole phase budget. `Err`: out of memory. It starts
 /// no thread.
 pub fn solve_parts(alloc: Global, net: &Net, options: &RunOptions) -> Result<PartProof, AllocError>
     requires options { AreRunOptions (length net.now.commodities) options.now }

@@ -82,7 +82,7 @@ fn bounded(
     }
 }
 
-// The lesser of two bounds, the earlier where they are equal.
+// The smaller of two bounds; the earlier where they are equal.
 fn lesser(earlier: Kept, later: Kept) -> Kept
     ensures { result ≡ (if fraction_le earlier.value later.value then earlier else later) }
 {
@@ -138,7 +138,7 @@ pub fn first(
     })
 }
 
-/// One phase more, and the lesser of the least bound and the bound after it.
+/// Routes one more phase, and keeps the smaller of the least bound and the bound after it.
 pub fn next(
     alloc: Global,
     on: &Prepared<'_>,

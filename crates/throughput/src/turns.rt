@@ -41,7 +41,7 @@ pub(crate) fn under(on: &Prepared<'_>, tops: &Tops) -> Under
     }
 }
 
-// Routes the amount of commodity k along the path: loads, rows and lengths follow. `Err` is for want of memory.
+// Routes the amount of commodity k along the path: loads, rows and lengths follow. `Err`: out of memory.
 fn route(
     on: &Prepared<'_>,
     k: u32,
@@ -111,8 +111,8 @@ fn add_at(tops: &Tops, gates: &[Cell], k: usize, amount: u64, loads: &mut [u64])
     exponent(&tops.setting, &gates[k], load).max(tops.gates)
 }
 
-/// The turn of commodity k: where its price is at most this one, its amount is routed along a least walk. `Err` is for
-/// want of memory.
+/// The turn of commodity k: where its price is at most this one, its amount is routed along a least walk. `Err`: out
+/// of memory.
 pub fn turn(
     on: &Prepared<'_>,
     most: u64,

@@ -61,7 +61,7 @@ fn sign_place(mode: LinkMode, sign: Sign) -> Option<u16>
     }
 }
 
-/// How many cells so many links have: one each, or two where links are bidirected.
+/// How many cells `links` links have: one each, or two where links are bidirected.
 pub fn cells_of(mode: LinkMode, links: u16) -> u16
     requires { links ≤ MAX_LINKS }
     ensures { result ≡ cells_of mode links }

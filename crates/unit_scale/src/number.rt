@@ -12,7 +12,7 @@ use crate::short::{are_zeros, extended, raised, shortened};
 use mcf_limits::MAX_DECIMALS;
 use sndlib_grammar::NumberParts;
 
-/// The number of the digits with that many zeros more, in short.
+/// The number of the digits with `zeros` zeros behind them, in short.
 pub fn raised_digits(whole: &[u8], fraction: &[u8], zeros: usize) -> u64
     requires whole { AllDigits 10 whole.now }
     requires fraction { AllDigits 10 fraction.now }
@@ -22,7 +22,7 @@ pub fn raised_digits(whole: &[u8], fraction: &[u8], zeros: usize) -> u64
     shortened(raised(all, zeros) as u128)
 }
 
-/// The number of the digits without that many at their end, in short, if these are zeros.
+/// The number of the digits without the last `cut`, in short, if these are zeros.
 pub fn cut_digits(whole: &[u8], fraction: &[u8], cut: usize) -> Option<u64>
     requires whole { AllDigits 10 whole.now }
     requires fraction { AllDigits 10 fraction.now }

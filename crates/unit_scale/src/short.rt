@@ -41,7 +41,7 @@ pub fn extended(start: u64, digits: &[u8]) -> u64
     n
 }
 
-/// That many zeros more.
+/// The number with `zeros` zeros behind it, in short.
 pub fn raised(start: u64, zeros: usize) -> u64
     ensures { short result ≡ short (start * 10 ^ zeros) }
 {
