@@ -22,8 +22,8 @@ impl<'a, J: Job> Crew<'a, J> {
         }
     }
 
-    /// Takes on one more, at a post whose seats these are. What is answered is for the thread, which is to stay there. `Err`: out of
-    /// memory.
+    /// Takes on one more thread, at the post of these two sides. The side that is answered is for that thread, which is to stay
+    /// there. `Err`: out of memory.
     pub fn take_on(&mut self, post: &'a Post<J>, seats: Seats<J>) -> Result<Mate<'a, J>, AllocError>
         requires { AreAt post.now.table.shared.table_id seats.end.table_id seats.mate.table_id }
     {
@@ -32,21 +32,22 @@ impl<'a, J: Job> Crew<'a, J> {
         Ok(Mate::new(post, mate))
     }
 
-    /// Whether none of the threads has gone. One goes when it is told to or had no job for a while, and doesn't come back. No proof rests on
-    /// what this tells.
+    /// Whether all threads are still there. A thread ends when it is told to, or had no job for a while, and does not come back. No proof
+    /// rests on the answer.
     pub fn is_there(&self) -> bool {
         self.ends.iter().all(|end| end.is_there())
     }
 
-    /// Which thread the caller's waited for last, counted from the first that was taken on, when jobs were last worked on: as far as the
-    /// caller's thread could see, that was done after all others. None where it waited for none. No proof rests on what this tells.
+    /// The thread that the caller's waited for last when jobs were last worked on, counted from the first that was taken on: as far as
+    /// the caller's thread could see, it finished last. `None` where it waited for none. No proof rests on the answer.
     pub fn last_waited_for(&self) -> Option<usize> {
         self.ends.iter().position(|end| end.has_waited())
     }
 
-    /// Works on each job: on the first in the first thread that was taken on, and so on. The caller's thread calls `lead` meanwhile, and
-    /// then works on those that are too many, on each whose thread has gone, and on each that its thread has not begun. So it waits for
-    /// jobs under way alone. `false` where one of them has been under way for minutes of the processor; then that job is lost.
+    /// Works on each job: the first in the first thread that was taken on, and so on. The caller's thread calls `lead` meanwhile, and
+    /// then works on the jobs beyond the number of threads, on each whose thread has ended, and on each that its thread has not begun.
+    /// So it waits only for jobs that are under way. `false` where one of them was under way for minutes of processor time; that job is
+    /// lost.
     pub fn work_beside<T, F: FnMut() -> T>(
         &mut self,
         jobs: &mut [Option<J>],
@@ -85,7 +86,7 @@ fn work_all<J: Job>(jobs: &mut [Option<J>])
     }
 }
 
-// Hands the job over, unless the thread that is to take it has gone: then it stays.
+// Hands the job over; it stays here where the thread that is to take it has ended.
 fn hand_over<J: Job>(end: &mut End<'_, J>, job: &mut Option<J>) -> bool
     requires { Waits J.asks job.old }
     ensures out { IsTrue result → (end.new.out ≡ true) × IsOut job.old end.new.seat.me.0 × (job.new ≡ None) }
@@ -104,7 +105,7 @@ fn hand_over<J: Job>(end: &mut End<'_, J>, job: &mut Option<J>) -> bool
     }
 }
 
-// Works on all jobs: on each of the first with the thread of an end, and on the others here, after a call of `lead`.
+// Works on all jobs: each of the first in its thread, and the others here, after a call of `lead`.
 #[cycle(work_from)]
 fn work_from<J: Job, T, F: FnMut() -> T>(
     ends: &mut [End<'_, J>],

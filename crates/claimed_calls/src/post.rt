@@ -12,7 +12,7 @@ use atomic_table::{Seat, Table};
 use std::alloc::{AllocError, Global};
 use std::sync::atomic::{AtomicBool, Ordering};
 
-// What the word of a post says: no job is out; one waits; it is done; the other thread has gone; or a job is under way.
+// The states of a post: no job is out; a job waits; it is done; the other thread has ended; or a job is under way.
 const FREE: u64 = 0;
 
 const HANDED: u64 = 1;
@@ -23,11 +23,11 @@ const AWAY: u64 = 3;
 
 const TAKEN: u64 = 4;
 
-// How often the owner looks for a job that is under way before it gives it up: minutes of the processor, which take longer where that is
-// busy.
+// How often the owner polls for a job that is under way before it gives the job up: minutes of processor time, and longer by the clock
+// on a busy machine.
 const LOOKS: u64 = SOON + 200_000;
 
-// How often a thread has a job or looks for one in vain before it goes for good, which no run comes to.
+// How many jobs and vain polls end a thread for good; no run comes to that.
 const ROUNDS: u64 = 1 << 32;
 
 /// A seat at a post.
@@ -49,7 +49,7 @@ pub struct Seats<J: Job> {
     ghost mate_is: { mate.me ≡ (Serves, []) },
 }
 
-/// What the owner of jobs has of a post, whether a job of its is out, and whether the one that it offered last went out and had to be waited for.
+/// The owner's side of a post: whether a job is out, and whether the last one had to be waited for.
 #[derive(Drop)]
 pub(crate) struct End<'a, J: Job> {
     post: &'a Post<J>,
@@ -60,7 +60,7 @@ pub(crate) struct End<'a, J: Job> {
     ghost is_end: { IsEnd out seat.me },
 }
 
-/// What another thread has of a post, which is there for its owner's jobs.
+/// The other thread's side of a post: the thread works on the owner's jobs.
 #[derive(Drop)]
 pub struct Mate<'a, J: Job> {
     post: &'a Post<J>,
@@ -98,18 +98,17 @@ impl<'a, J: Job> End<'a, J> {
         }
     }
 
-    /// Whether the job that was offered last went out and was waited for: it was not done when it was first looked for. No proof rests on what
-    /// this tells.
+    /// Whether the owner had to wait for the last job: it was not done when the owner first polled for it. No proof rests on the answer.
     pub(crate) fn has_waited(&self) -> bool {
         self.has_waited
     }
 
-    /// Whether the other thread has not gone. No proof rests on what this tells.
+    /// Whether the other thread is still there. No proof rests on the answer.
     pub(crate) fn is_there(&self) -> bool {
         self.post.word() != AWAY
     }
 
-    /// Hands over a job, unless one is out or the other thread has gone: then the job comes back.
+    /// Hands over a job; it comes back where another one is out or the other thread has ended.
     pub(crate) fn hand(&mut self, job: J) -> Result<(), J>
         requires { J.asks job }
         ensures out { OnOk result (self.new.seat.me.0 ≡ Given job) }
@@ -131,12 +130,12 @@ impl<'a, J: Job> End<'a, J> {
         }
     }
 
-    // Whether the job that is out waits for its thread. No proof rests on what this tells.
+    // Whether the job that is out still waits for its thread. No proof rests on the answer.
     fn is_waiting(&self) -> bool {
         self.post.word() == HANDED
     }
 
-    // Whether the job that is out may be taken back. No proof rests on what this tells.
+    // Whether the job that is out may be taken back. No proof rests on the answer.
     fn is_done(&self) -> bool {
         self.post.word() == DONE
     }
@@ -169,7 +168,7 @@ impl<'a, J: Job> End<'a, J> {
         shared.exchange(&mut self.seat, 0, None)
     }
 
-    // Waits for what a thread makes of the job that is out and under way. `None` where it has been under way for all looks.
+    // Waits for the result of the job that is under way. `None` where it was still under way at the last poll.
     fn wait_back(&mut self) -> Option<J>
         requires { self.old.out ≡ true }
         ensures { IfSome result (IsMade J.does self.old.seat.me) }
@@ -186,8 +185,8 @@ impl<'a, J: Job> End<'a, J> {
         None
     }
 
-    /// What is made of the job that is out: here, where no thread has begun it, and else in the thread that has, for which it waits. `None`
-    /// where that has been at it for all looks.
+    /// The result of the job that is out: made here where no thread has begun it, else waited for. `None` where it was still under way at
+    /// the last poll.
     pub(crate) fn bring_back(&mut self) -> Option<J>
         requires { self.old.out ≡ true }
         ensures { IfSome result (IsMade J.does self.old.seat.me) }
@@ -240,7 +239,7 @@ impl<'a, J: Job> Mate<'a, J> {
         closed.load(Ordering::SeqCst) && (self.go() || self.post.word() == DONE)
     }
 
-    // Works on the next job, or goes where it is told to or looks for one in vain: whether it stays.
+    // Works on the next job; answers whether the thread stays: not where it is told to go, or has polled in vain.
     fn serve_next(&mut self, closed: &AtomicBool) -> bool {
         for looks in 0..SOON {
             if self.has_job() && self.serve() {

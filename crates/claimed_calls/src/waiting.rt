@@ -3,14 +3,14 @@
 use std::hint::spin_loop;
 use std::thread::yield_now;
 
-// Before this many looks a thread looks again at once: some ten microseconds. Then it lets others run in between, since the one that it
-// waits for may be on the same processor.
+// Up to this many polls a thread polls again at once: some ten microseconds. Then it yields in between, since the thread that it waits
+// for may need the same processor.
 const SPINS: u64 = 200;
 
-/// Looks of a thread that soon has to go on. On a processor of its own they last some twenty milliseconds.
+/// Polls before an idle thread gives up. On a processor of its own they last some twenty milliseconds.
 pub(crate) const SOON: u64 = 40_000;
 
-// Pauses between looks of a thread that has waited for longer: about a millisecond of the processor.
+// Pauses between polls of a thread that has waited for longer: about a millisecond of processor time.
 const PAUSES: u32 = 20_000;
 
 /// Lets some time pass before a thread looks again.

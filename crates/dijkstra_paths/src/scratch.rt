@@ -237,7 +237,8 @@ impl Scratch {
         search_along(graph, lengths, from, tree, &mut self.room, &mut self.front);
     }
 
-    /// The same from a tree that is left as it is, where there is one. As with `search_from` it is a hint alone.
+    /// A search from the node, which begins at a tree, if one is given, and leaves the tree as it is. As in `search_from` the tree is a
+    /// hint alone.
     pub fn search_near(&mut self, graph: &Graph, lengths: &[u64], from: u16, tree: Option<&Tree>)
         requires lengths { AreLengths graph.now.cells lengths.now }
         requires nodes { self.old.nodes ≡ graph.now.nodes }

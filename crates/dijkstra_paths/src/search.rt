@@ -495,9 +495,9 @@ pub fn search(graph: &Graph, lengths: &[u64], from: u16, front: &mut Front)
     let _ = keys;
 }
 
-/// The same from an earlier tree on, which changes no distance: it makes the search quick where it is one from that node,
-/// and few nodes have moved since. `false` where it opened no node: then each node that was reached still stands behind the one that it
-/// was reached from, in the tree's order.
+/// A search that begins at an earlier tree. The tree changes no distance: it makes the search quick where it is one from the same node
+/// and few distances have changed since. `false` where no node was opened: then each node that was reached still stands behind the one
+/// that it was reached from, in the tree's order.
 #[inline(never)]
 pub fn search_on(
     graph: &Graph,

@@ -183,7 +183,7 @@ fn dist_of(dist: &[u64], node: u16) -> u64 {
     }
 }
 
-// Moves the node at that place before those that are farther, among the nodes at places so far apart.
+// Moves the node at a place before the nodes with greater distances, among those at places `apart` apart.
 fn settle(kept: &mut [Kept], dist: &[u64], place: usize, apart: usize)
     requires apart { 0 < apart }
     requires place { place < length kept.old }
@@ -199,7 +199,7 @@ fn settle(kept: &mut [Kept], dist: &[u64], place: usize, apart: usize)
     kept[at] = moved;
 }
 
-// Puts the nodes at places so far apart into the order of their distances.
+// Puts the nodes at places `apart` apart into the order of their distances.
 fn sort(kept: &mut [Kept], dist: &[u64], apart: usize)
     requires { 0 < apart }
 {
@@ -208,7 +208,7 @@ fn sort(kept: &mut [Kept], dist: &[u64], apart: usize)
     }
 }
 
-// Puts all nodes into the order of their distances, whatever order they are in.
+// Puts all nodes into the order of their distances.
 fn sort_anew(kept: &mut [Kept], dist: &[u64]) {
     for apart in [109, 41, 19, 5, 1] {
         sort(kept, dist, apart);

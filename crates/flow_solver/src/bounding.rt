@@ -218,7 +218,7 @@ fn note_with_bound<'a, G: Gate>(
 }
 
 // As `phase_alone`, with a crew, in whose threads hands take their turns and rows of the bound are filled. `Err`: out of
-// memory, or where the crew gave up; and then the search can't go on.
+// memory, or the crew gave up, and the search cannot go on.
 fn phase_by_crew<'a, G: Gate, R: Threads + Sync>(
     run: &Run<'a, G, R>,
     task: &Task<'a, G>,

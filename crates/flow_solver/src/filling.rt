@@ -22,9 +22,9 @@ use std::alloc::{AllocError, Global};
 use std::mem;
 use std::sync::Arc;
 
-// What `lead` answers, which the caller's thread calls before it fills its own rows, and whether all rows were filled anew with distances,
-// each search from the tree of the one before: parts of them in threads of the crew, and the others here. `Err`: out of memory, or
-// where the crew gave up; and then rows are lost.
+// What `lead` answers, which the caller's thread calls before it fills its own rows, and whether all rows were filled anew with
+// distances, each search from the tree of the one before: parts of them in threads of the crew, and the others here. `Err`: out of
+// memory, or the crew gave up, and rows are lost.
 fn fill_with<'a, G: Gate, T, F: FnMut() -> T>(
     task: &Task<'a, G>,
     lengths: &Arc<Vec<u64>, Global>,
@@ -78,8 +78,9 @@ fn bound_after(
     Ok(bounded)
 }
 
-/// What `lead` answers, and the bound as of `bound_of`, with the rows shared out among the crew and the caller's thread, which calls `lead`
-/// before it fills its own. `Err`: out of memory, or where the crew gave up or a part shares the lengths still, which no run does.
+/// What `lead` answers, and the bound as of `bound_of`, with the rows shared out among the crew and the caller's thread, which calls
+/// `lead` before it fills its own. `Err`: out of memory, or the crew gave up, or a part still shares the lengths, which happens in no
+/// run.
 pub(crate) fn bound_with<'a, G: Gate, T, F: FnMut() -> T>(
     task: &Task<'a, G>,
     loads: &[u64],

@@ -161,8 +161,8 @@ fn with_mate<'a, 'c, G: Gate, R: Threads + Sync>(
     share_beside(run.rt, mate, closed, &mut lead)
 }
 
-/// One phase more or several, with a thread beside the caller's for each other hand. It ends where the gap is met or the budget is spent,
-/// and may end before, since threads leave that have had nothing to do for a while. `Err`: out of memory, or where the crew gave up.
+/// One or more further phases, with a thread beside the caller's for each other hand. It ends where the gap is met or the budget is
+/// spent, or sooner, since threads end that have had nothing to do for a while. `Err`: out of memory, or the crew gave up.
 pub(crate) fn further<'a, G: Gate, R: Threads + Sync>(
     run: &Run<'a, G, R>,
     reached: Reached,

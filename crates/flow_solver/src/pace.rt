@@ -10,10 +10,10 @@ const PARTS: u16 = 64;
 // The most threads beside the caller's.
 const OTHERS: usize = MAX_WORKERS as usize - 1;
 
-// What a thread's part of the rows weighs at first, beside those of the others.
+// The weight of a thread's part of the rows at the start.
 const EVEN: u32 = 1024;
 
-// About so much less it weighs after a bound that the thread was done with last.
+// About how much of its weight goes from the thread that finished a bound last.
 const LESS: u32 = 16;
 
 // So much it weighs at least.
