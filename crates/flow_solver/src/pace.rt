@@ -14,7 +14,7 @@ const OTHERS: usize = MAX_WORKERS as usize - 1;
 const EVEN: u32 = 1024;
 
 // About how much of its weight goes from the thread that finished a bound last.
-const LESS: u32 = 16;
+const WEIGHT_STEP: u32 = 16;
 
 // So much it weighs at least.
 const LEAST: u32 = EVEN / 4;
@@ -139,7 +139,7 @@ fn shifted(weights: [u32; OTHERS], threads: usize, last: Option<usize>) -> [u32;
         return weights;
     }
     let mut weights = weights;
-    let more = LESS.div_ceil(threads as u32 - 1);
+    let more = WEIGHT_STEP.div_ceil(threads as u32 - 1);
     let less = more.saturating_mul(threads as u32 - 1);
     if weights[last] < LEAST.saturating_add(less) {
         return weights;
