@@ -110,7 +110,7 @@ read_head head = Ok head
 -- ---- what is answered
 
 -- the answer is the certificate or routing of which this is the text, and a refusal where it is the
--- text of none; want of memory says nothing
+-- text of none; if memory ran out, nothing is said
 abbrev pub IsReading : Sheets → List ℕ → Result Paper CertEnd → Type 0
 IsReading sheets text (Ok paper) = IsTextOf sheets text paper
 IsReading sheets text (Err (Refused refusal)) = (paper : Paper) → ¬ (IsTextOf sheets text paper)

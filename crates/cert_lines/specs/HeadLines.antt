@@ -75,7 +75,7 @@ abbrev pub behind_net : Line → Option Line
 behind_net [] = None
 behind_net (word ∷ words) = if bytes_eq word (codes "net") then Some words else None
 
--- that many numbers, each within the limit of a count
+-- four numbers, or three, each within the limit of a count
 unfoldable pub four_counts : (List ℕ × List ℕ × List ℕ × List ℕ × Line) → Result (List ℕ) CertKind
 four_counts words = do
   a ← number_within MAX_COUNT words.0

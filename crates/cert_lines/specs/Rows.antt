@@ -18,7 +18,7 @@ length_row sheet words = do
   value ← number_within MAX_LENGTH parts.1
   Ok (record { cell = cell; value = value })
 
--- the cells of these words, when that many were read before: one more than a path may have is one too many
+-- the cells of these words, where `count` cells stand before them: a path has no more than the limit
 unfoldable pub cells_from : Sheet → ℕ → Line → Result (List ℕ) CertKind
 cells_from sheet count [] = Ok []
 cells_from sheet count (word ∷ words) = if nat_lt count MAX_PATH_CELLS
@@ -45,7 +45,7 @@ potentials_from (word ∷ words) = do
   values ← potentials_from words
   Ok (value ∷ values)
 
--- a node's word and that many words, none of them empty
+-- a node's word and `count` words behind it, none of them empty
 abbrev pub of_that_many : ℕ → Option (List ℕ × Line) → Option (List ℕ × Line)
 of_that_many count None = None
 of_that_many count (Some parts) = if nat_eq (length parts.1) count then Some parts else None

@@ -26,6 +26,6 @@ module _ {F T : Type 0} (g : Shared F (ℕ × Unit {0}) (Result T AllocError)) (
   pub record AreClaimed (entries : List (ℕ × T)) : Type 0 where
     pub each : (i : ℕ) (x : T) → Contains entries (i, x) → Answers i x
 
-  -- each of the first so many is what a call of f with its place may answer
+  -- each of the first `count` values is what a call of f with its place may answer
   abbrev pub AreAnswers : ℕ → List T → Type 0
   AreAnswers count xs = (i : ℕ) (d : T) → i < count → Answers i (slice_index_or xs i d)

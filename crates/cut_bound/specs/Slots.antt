@@ -20,7 +20,7 @@ use Rattle.cut_bound.specs.Search.{kept, level_cut, row_at, value_of, IsDualOf, 
 abbrev pub IsCrossed : SummedCut → Type 0
 IsCrossed cut = 0 < cut.crossing
 
--- of two cuts the lesser, the first of equals
+-- the smaller of two cuts; the first where they are equal
 abbrev pub lesser : SummedCut → SummedCut → SummedCut
 lesser first second = if fraction_le (value_of first) (value_of second) then first else second
 

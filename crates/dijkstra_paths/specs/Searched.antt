@@ -9,12 +9,12 @@ use Rattle.dijkstra_paths.specs.Tree.{step_at, IsFront}
 use Rattle.flow_model.specs.Least.{AreDifferent}
 use Rattle.mcf_limits.specs.declared.TheConstants.{MAX_LENGTH}
 
--- the cells of the steps that lead to a node, at most so many
+-- the cells of the steps that lead to a node, cut off after a number of steps
 unfoldable pub trail : List Step → ℕ → ℕ → ℕ → List ℕ
 trail via from zero v = []
 trail via from (suc fuel) v = if v == from then [] else trail via from fuel (step_at via v).from ++ (step_at via v).cell ∷ []
 
--- the steps lead back to the first node, before so many are gone
+-- the steps lead back to the first node within a number of steps
 abbrev pub Ends : List Step → ℕ → ℕ → ℕ → ℕ → Type 0
 Ends via nodes from zero v = ⊥
 Ends via nodes from (suc fuel) v = (v ≡ from) ⊎ (((step_at via v).from < nodes) × Ends via nodes from fuel (step_at via v).from)

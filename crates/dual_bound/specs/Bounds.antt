@@ -78,6 +78,6 @@ IsBounded net lengths b = IsBoundOf net lengths b.dual × ShowsBound net lengths
 abbrev pub lesser : Option Bounded → Bounded → Bounded
 lesser earlier later = option_map_or (λ e. if fraction_le e.value later.value then e else later) earlier later
 
--- the lesser of an earlier bound, if there is one, and that of these lengths
+-- the smaller of an earlier bound, if there is one, and that of these lengths
 abbrev pub IsLesser : Network → List ℕ → Option Bounded → Bounded → Type 0
 IsLesser net lengths earlier b = (later : Bounded) × IsBounded net lengths later × (b ≡ lesser earlier later)

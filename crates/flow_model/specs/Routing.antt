@@ -31,6 +31,6 @@ pub record IsFeasible (net : Network) (rows : List Row) (a q : ℕ) : Type 0 whe
   pub carried : (k : ℕ) (commodity : Commodity) → slice_get net.commodities k ≡ Some commodity → carried rows k ≡ a * commodity.amount
   pub within : (c : ℕ) (cell : Cell) → slice_get net.cells c ≡ Some cell → load_of rows c ≤ q * cell.cap
 
--- the same walks, each of that many times the weight
+-- the walks with each weight times a factor
 abbrev pub scaled : ℕ → List Row → List Row
 scaled factor rows = map (λ r. record { commodity = r.commodity; walk = r.walk; weight = factor * r.weight }) rows

@@ -7,7 +7,7 @@ pub record EntriesView : Type 0 where
   pub commodities : ℕ
   pub phases : List (List Entry)
 
--- so many phases, each of that many entries, one after the other
+-- entries cut into phases of `width` entries, one after the other
 abbrev pub by_phase : ℕ → ℕ → List Entry → List (List Entry)
 by_phase width zero entries = []
 by_phase width (suc n) entries = take width entries ∷ by_phase width n (drop width entries)

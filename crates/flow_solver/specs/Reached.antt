@@ -18,7 +18,7 @@ use Rattle.flow_solver.specs.Search.{ArePhasesOf, IsSearch, phase_count}
 abbrev pub AllDivide : Network → List DualRows → Type 0
 AllDivide net duals = All (λ (d : DualRows). 1 ≤ (upper_of net d).den) duals
 
--- so many phases, as a fraction of every amount, where the fullest cell has this capacity and load
+-- the fraction of every amount that is carried after n phases, where the fullest cell has this capacity and load
 abbrev pub carried : ℕ → Fill → Fraction
 carried n f = record { num = n * f.cap; den = f.load }
 

@@ -21,7 +21,7 @@ use Rattle.flow_solver.specs.declared.search.Search.{Search}
 use Rattle.flow_solver.specs.declared.search.BoundRoom.{BoundRoom}
 use Rattle.fixed_exp.specs.LoadedNetwork.{LoadedNetwork}
 
--- hand k between two phases on this network: its number, no turn, a scratch for so many nodes, and room of the network, or none yet
+-- hand k between two phases on this network: its number, no turn, a scratch for the network's nodes, and room of the network, or none yet
 abbrev pub IsIdle : Network → ℕ → Hand → Type 0
 IsIdle net k h = (h.worker ≡ k) × (h.turn ≡ None) × (h.scratch.nodes ≡ net.nodes) × HasRoomOf net h
 
@@ -118,7 +118,7 @@ pub record IsRoutedByCrew (net : Network) (setting : Setting) (old new : Search)
 abbrev pub CanBeBounded : Network → Setting → List ℕ → BoundRoom → Type 0
 CanBeBounded net setting loads room = IsSetting setting × (length loads ≡ length net.cells) × All (λ (x : ℕ). x ≤ MAX_LENGTH) loads × IsBoundRoom net room
 
--- the lesser of an earlier bound, if there is one, and that of the lengths under these loads
+-- the smaller of an earlier bound, if there is one, and that of the lengths under these loads
 abbrev pub IsLesserUnder : Network → Setting → List ℕ → Option Bounded → Bounded → Type 0
 IsLesserUnder net setting loads earlier b = IsLesser net (lengths_of net setting loads) earlier b
 

@@ -42,7 +42,7 @@ pub record IsPrice (net : Network) (lengths : List ℕ) (k price : ℕ) : Type 0
   pub least : IsLeast net.cells lengths commodity.from commodity.to (Some distance)
   pub sum : price ≡ distance + slice_index lengths (length net.cells + k)
 
--- the price of some commodity, and no commodity has a lesser one
+-- the price of some commodity, and no commodity has a smaller one
 pub record IsLeastPrice (net : Network) (lengths : List ℕ) (price : ℕ) : Type 0 where
   pub some : (k : ℕ) × IsPrice net lengths k price
   pub least : (k other : ℕ) → IsPrice net lengths k other → price ≤ other

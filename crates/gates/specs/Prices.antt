@@ -1,9 +1,9 @@
--- The least price of the first so many commodities.
+-- The least price of the first commodities.
 use Rattle.std.specs.Prelude.{ℕ, ◌<◌, ◌≤◌, min, List, Option, Some, None, MatchOption}
 use Rattle.flow_model.specs.Network.{Network}
 use Rattle.gates.specs.Gates.{IsPrice, IsLeastPrice}
 
--- the lesser of two prices, if there is one
+-- the smaller of two prices, if there is one
 abbrev pub lesser_of : Option ℕ → Option ℕ → Option ℕ
 lesser_of None b = b
 lesser_of (Some a) None = Some a

@@ -14,7 +14,7 @@ use Rattle.unit_scale.specs.Scaling.{ScaledNet, first_line, refused}
 abbrev pub whole_of : Number → ℕ
 whole_of n = digits n * 10 ^ n.up / 10 ^ places n
 
--- the limit of a demand in a network of so many nodes: its longest path rounded down, and none where every walk without repeated
+-- the limit of a demand in a network of a number of nodes: its longest path rounded down, and none where every walk without repeated
 -- nodes keeps it
 abbrev pub limit_of : ℕ → NetDemand → Option ℕ
 limit_of nodes d = option_and_then (λ n. if nat_lt (whole_of n + 1) nodes then Some (whole_of n) else None) (number_of d.longest)

@@ -11,7 +11,7 @@ use Rattle.hop_paths.specs.Layers.{IsLayers}
 use Rattle.hop_check.specs.LayerRows.{Layer, layer_at}
 use Rattle.hop_check.specs.Layers.{HopDual, layer_in}
 
--- where the layer of that source and index stands in a table with so many places for each node
+-- where the layer of a source and an index stands in a table that has a place for each index of each node
 abbrev pub place_of : ℕ → ℕ → ℕ
 place_of v i = v * (MAX_HOPS + 1) + i
 

@@ -1,4 +1,4 @@
--- Layers of numbers, which bound walks of so many cells.
+-- Layers of numbers: the i-th bounds walks of at most i cells.
 use Rattle.std.specs.Prelude.{◌≡◌, ℕ, ◌+◌, ◌≤◌, ◌<◌, List, Some, slice_get, slice_index}
 use Rattle.flow_model.specs.declared.net.Cell.{Cell}
 use Rattle.flow_model.specs.Network.{Network}

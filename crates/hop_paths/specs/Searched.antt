@@ -34,7 +34,7 @@ layer_path s i v = option_map (λ _. hop_trail s.steps s.nodes i v) (layer_dist 
 abbrev pub IsShortPath : List Cell → List ℕ → ℕ → ℕ → ℕ → ℕ → List ℕ → Type 0
 IsShortPath cells lengths u v i d walk = IsShortWalk cells u v i walk × (walk_length lengths walk ≡ d)
 
--- a number and a step for each node and layer, within the limit of layers, of which so many are made, and room for a path
+-- a number and a step for each node and layer, within the limit of layers, of which `made` are made, and room for a path
 pub record IsHopReady (nodes layers made : ℕ) (dist : List ℕ) (steps : List (Option HopStep)) (path : List ℕ) : Type 0 where
   pub small : layers ≤ MAX_HOPS
   pub made_few : made ≤ layers + 1

@@ -48,7 +48,7 @@ pub record IsBehind (cells : List Cell) (lengths : List ℕ) (nodes : ℕ) (dist
   pub next : IsNext cells lengths nodes dist steps base
   pub all : (u : ℕ) → u < nodes → slice_index dist (base + u) < MAX_LENGTH → IsGoneOn cells lengths nodes dist base u
 
--- the first layer and so many behind it
+-- the first layer and `layers` layers behind it
 pub record IsSearched (cells : List Cell) (lengths : List ℕ) (from nodes : ℕ) (dist : List ℕ) (steps : List (Option HopStep)) (layers : ℕ) : Type 0 where
   pub start : slice_index dist from ≡ 0
   pub far : (v : ℕ) → v < nodes → v ≢ from → slice_index dist v ≡ MAX_LENGTH

@@ -39,7 +39,7 @@ pub record AddsLayers (nodes : ℕ) (Q : ℕ → ℕ → ℕ → ℕ → Type 0)
   pub places_are : map (λ (r : Layer). (r.node, r.index)) rows ≡ places
   pub each : All (IsLayerWith nodes Q) rows
 
--- the first so many layers of a node
+-- the first `count` layers of a node
 abbrev pub first_layers : ℕ → ℕ → List (ℕ × ℕ)
 first_layers node count = map (λ i. (node, i)) (range_with_len 0 count)
 

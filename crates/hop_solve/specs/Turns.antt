@@ -43,7 +43,7 @@ pub record IsRouted (net : Network) (before : List Row) (r : Routed) : Type 0 wh
 abbrev pub lengths_then : Routed → List ℕ
 lengths_then r = lengths_of r.table.net r.table.setting r.table.loads
 
--- so many turns more, of this weight together, are within the limits
+-- `count` more turns, of this weight together, are within the limits
 pub record HasRoom (net : Network) (count weight : ℕ) (r : Routed) : Type 0 where
   pub before : List Row
   pub routed : IsRouted net before r

@@ -19,14 +19,14 @@ use Rattle.matrix_batch.specs.declared.refusal.BatchEnd.{BatchEnd}
 use Rattle.matrix_batch.specs.declared.refusal.BatchEnd.TheVariants.{Net, List as OfList, Memory}
 use Rattle.matrix_batch.specs.Views.{batch_view}
 
--- the text's batch, or its first refusal; want of memory says nothing
+-- the text's batch, or its first refusal; if memory ran out, nothing is said
 abbrev pub Answers : NetRows → NetOptions → List ℕ → Result (Vec MatrixRows Global) BatchEnd → Type 0
 Answers rows o text (Ok v) = IsBatch rows o text (Ok (batch_view v.items))
 Answers rows o text (Err (Net r)) = IsBatch rows o text (Err (InNet r))
 Answers rows o text (Err (OfList r)) = IsBatch rows o text (Err (InList r))
 Answers rows o text (Err Memory) = Unit {0}
 
--- at most so many matrices, each with sound rows and the network that these stand for
+-- matrices within their limit, each with sound rows and the network that these stand for
 pub record AreOwn (o : NetOptions) (batch : List Matrix) : Type 0 where
   pub few : length batch ≤ MAX_MATRICES
   pub each : All (λ (m : Matrix). AreNetRows m.rows × (scaled_of m.rows o ≡ Ok m.net)) batch

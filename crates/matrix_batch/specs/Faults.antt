@@ -21,13 +21,13 @@ use Rattle.matrix_batch.specs.Matrices.{rows_of, decimals_for}
 abbrev pub all_demands : List MatrixEntry → List DemandEntry
 all_demands matrices = flat_map (λ m. m.demands) matrices
 
--- the lesser of two lines, where both are there
+-- the smaller of two line numbers, where both are there
 abbrev pub lesser_line : Option ℕ → Option ℕ → Option ℕ
 lesser_line None other = other
 lesser_line (Some a) None = Some a
 lesser_line (Some a) (Some b) = Some (if nat_le a b then a else b)
 
--- the name of the first matrix too many, or the id of the first demand too many in all: the lesser line
+-- the name of the first matrix too many, or the id of the first demand too many in all: the smaller line number
 abbrev pub too_many : List MatrixEntry → Option ℕ
 too_many matrices = lesser_line
     (line_of (slice_get (map (λ (m : MatrixEntry). m.name) matrices) MAX_MATRICES))

@@ -21,7 +21,7 @@ matrix_view m = record {
 abbrev pub matrices_view : Vec MatrixRows Global → List NamedDemands
 matrices_view v = map matrix_view v.items
 
--- these are the matrices of the text, or this is its refusal; want of memory says nothing
+-- these are the matrices of the text, or this is its refusal; if memory ran out, nothing is said
 abbrev pub Answers : NetRows → List ℕ → Result (Vec MatrixRows Global) ReadListEnd → Type 0
 Answers rows text (Ok v) = IsRead rows text (Ok (matrices_view v))
 Answers rows text (Err (Refused r)) = IsRead rows text (Err r)

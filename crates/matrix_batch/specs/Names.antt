@@ -19,7 +19,7 @@ use Rattle.matrix_batch.specs.Lists.{named_demands, at_line}
 use Rattle.matrix_batch.specs.ListAnswer.{matrices_view}
 use Rattle.matrix_batch.specs.Stored.{Stored}
 
--- the refusal of this kind; want of memory says nothing
+-- the refusal of this kind; if memory ran out, nothing is said
 abbrev pub IsEnd : ListKind → Option ℕ → ReadListEnd → Type 0
 IsEnd kind found Memory = Unit {0}
 IsEnd kind found (Refused r) = at_line kind found ≡ Some r

@@ -3,7 +3,7 @@ use Rattle.std.specs.Prelude.{◌≡◌, Option, Some, None, Result, Ok, Err}
 use Rattle.mcf_words.specs.declared.request.WordsEnd.{WordsEnd}
 use Rattle.mcf_words.specs.declared.request.WordsEnd.TheVariants.{Usage, Memory}
 
--- usage exactly where nothing is read; of want of memory nothing is said
+-- usage exactly where nothing is read; if memory ran out, nothing is said
 abbrev pub Fails : {Y : Type 0} → WordsEnd → Option Y → Type 0
 Fails Usage read = read ≡ None
 Fails Memory read = Unit {0}

@@ -95,7 +95,7 @@ least_files command = (form_of command).least
 abbrev pub most_files : Command → ℕ
 most_files command = (form_of command).most
 
--- the command reads so many files
+-- whether the command reads n files
 abbrev pub reads_files : Command → ℕ → Bool
 reads_files command n = nat_le (least_files command) n && nat_le n (most_files command)
 

@@ -24,7 +24,7 @@ pub record IsNumberWord (low high : ℕ) (word : List ℕ) (n : ℕ) : Type 0 wh
   pub from_low : low ≤ n
   pub to_high : n ≤ high
 
--- a number of the form in network files, whose value is just that many millionths, within the limit
+-- a number of the form in network files, whose value is just this number of millionths, within the limit
 pub record IsGapWord (word : List ℕ) (gap : ℕ) : Type 0 where
   pub number : Number
   pub form : number_of word ≡ Some number

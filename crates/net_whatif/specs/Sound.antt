@@ -8,7 +8,7 @@ use Rattle.script.specs.declared.step.Step.TheVariants.{Show}
 use Rattle.whatif.specs.Planned.{Planned, AreBounds, after_steps, shown_of}
 use Rattle.whatif.specs.Shown.{show_line, shown_lines}
 
--- the plan after so many steps
+-- the plan after the first `count` steps
 abbrev pub plan_after : LinkMode → Planned → List Step → ℕ → Planned
 plan_after mode p steps count = after_steps mode p (take count steps)
 

@@ -28,7 +28,7 @@ start_view t k = view_of t 0 (if k == 0 then t.workers - 1 else 0) (hand k idle 
 abbrev pub HasRoomOf : Network → Hand → Type 0
 HasRoomOf net h = IfSome h.room (IsRoomOf net)
 
--- hand k before a phase on this network: its number, no turn, no routes, a scratch for so many nodes, and room of the network, or none yet
+-- hand k before a phase on this network: its number, no turn, no routes, a scratch for the network's nodes, and room of the network, or none yet
 abbrev pub IsFresh : Network → ℕ → Hand → Type 0
 IsFresh net k h = (h.worker ≡ k) × (h.turn ≡ None) × (h.routes ≡ []) × (h.scratch.nodes ≡ net.nodes) × HasRoomOf net h
 

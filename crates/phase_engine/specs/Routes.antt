@@ -14,7 +14,7 @@ pub record RouteRoom : Type 0 where
   pub cells : ℕ
   pub ready : ℕ
 
--- the commodity, and as many cells as its path has, of which the first stands so many places before the end
+-- the commodity, and the cells of its path, of which the first stands `back` places before the end
 abbrev pub route_of : List ℕ → Span → Route
 route_of cells s = record { commodity = s.commodity; path = take s.len (drop (length cells - s.back) cells) }
 

@@ -5,7 +5,7 @@ use Rattle.gap_fraction.specs.Fraction.{Fraction}
 use Rattle.mcf_limits.specs.declared.TheConstants.{MAX_GAP, MAX_PHASES, MAX_STEP, MAX_WORK}
 use Rattle.route_tally.specs.declared.options.RunOptions.{RunOptions}
 
--- within the limits, and so are the phases of so many commodities
+-- within the limits, and so is the work: phases times commodities
 pub record AreRunOptions (commodities : ℕ) (o : RunOptions) : Type 0 where
   pub gap : o.gap ≤ MAX_GAP
   pub some_phase : 1 ≤ o.phases

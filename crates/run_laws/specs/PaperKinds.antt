@@ -92,7 +92,7 @@ IsRoleFault sheet node line kind = (begins (codes "potential") line ≡ true) ×
 IsRoleFault sheet last line kind = (kind ≡ Syntax) × (join_with_byte 32 line ≢ codes "end")
 IsRoleFault sheet nothing line kind = kind ≡ Syntax
 
--- so many lines stand before the rows
+-- how many lines stand before the rows
 abbrev pub head_count : Kind → ℕ
 head_count Certificate = 10
 head_count Routing = 5

@@ -57,7 +57,7 @@ pub record IsNoCommand (text : List ℕ) : Type 0 where
   pub close : text ≢ codes "close"
   pub show : text ≢ codes "show"
 
--- the token is a word, and a number that is so many units
+-- the token is a word, and a number of this many units
 pub record IsUnits (terms : Terms) (t : Lexeme) (units : ℕ) : Type 0 where
   pub word : IsWord t
   pub value : Numeral

@@ -12,7 +12,7 @@ abbrev pub files_in : Option Request → List (List ℕ)
 files_in None = []
 files_in (Some request) = request.names
 
--- The shelf holds what it held, and no fault of it is forgotten. Of the files that are to be read so many were started, from
+-- The shelf holds what it held, and no fault of it is forgotten. Of the files that are to be read some were started: from
 -- the first on, each once.
 pub record Starts (files : List (List ℕ)) (old new : ShelfView) : Type 0 where
   pub holds : new.holds ≡ old.holds

@@ -16,7 +16,7 @@ use Rattle.hop_check.specs.declared.hop_proof.HopProof.{HopProof}
 use Rattle.run_texts.specs.Heads.{header_at}
 use Rattle.run_texts.specs.Rows.{flows_at}
 
--- the parts of a row behind two words, where that many words follow
+-- the parts of a row behind two words, where just `count` words follow
 abbrev pub with_count : ℕ → Option (List ℕ × List ℕ × Line) → Option (List ℕ × List ℕ × Line)
 with_count count None = None
 with_count count (Some parts) = if nat_eq (length parts.2) count then Some parts else None

@@ -19,7 +19,7 @@ Reads view (Ok x) read = read ≡ Ok (view x)
 Reads view (Err Memory) read = Unit {0}
 Reads view (Err (Refused r)) read = read ≡ Err r
 
--- the link that is expected to change is one of so many
+-- the link that is expected to change is one of `links` links
 abbrev pub IsExpected : ℕ → Expected → Type 0
 IsExpected links Command = Unit {0}
 IsExpected links (Link change) = Unit {0}

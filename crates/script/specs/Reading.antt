@@ -120,7 +120,7 @@ scan terms end s (t ∷ ts) = go_on t.line (λ m. scan terms end (after s m) ts)
 abbrev pub terms_of : NetRows → ScaledNet → Terms
 terms_of rows net = record { links = names_of_links rows; decimals = net.decimals }
 
--- the capacities of so many links, each that of the link's first cell
+-- the capacities of `links` links, each that of the link's first cell
 abbrev pub link_caps : LinkMode → List ℕ → ℕ → List ℕ
 link_caps mode caps links = map (λ link. slice_index caps (cells_of mode link)) (range_with_len 0 links)
 

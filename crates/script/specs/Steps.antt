@@ -20,7 +20,7 @@ IsStep links Show = Unit {0}
 abbrev pub AreSteps : ℕ → List Step → Type 0
 AreSteps links steps = All (IsStep links) steps
 
--- the cells of so many links, within the limit, are among so many cells, and the steps are of these links
+-- the steps are of links whose cells are among `cells` cells, and there are no more links than the limit
 pub record AreStepsOfCells (mode : LinkMode) (cells : ℕ) (steps : List Step) : Type 0 where
   pub links : ℕ
   pub few : links ≤ MAX_LINKS

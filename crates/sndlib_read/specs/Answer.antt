@@ -11,7 +11,7 @@ pub record IsAnswer (text : List ℕ) (answer : Result NetRows NetRefusal) : Typ
   pub is : IsNetOf text answer
   pub only : (other : Result NetRows NetRefusal) → IsNetOf text other → other ≡ answer
 
--- these are the rows of the text, or this is its refusal; want of memory says nothing
+-- these are the rows of the text, or this is its refusal; if memory ran out, nothing is said
 abbrev pub Answers : List ℕ → Result NetRows ReadNetEnd → Type 0
 Answers text (Ok rows) = IsAnswer text (Ok rows)
 Answers text (Err (Refused r)) = IsAnswer text (Err r)

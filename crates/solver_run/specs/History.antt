@@ -68,7 +68,7 @@ pub record NamesRows (net : Network) (rows : List Row) (entries : List Entry) : 
   pub count : length entries ≡ length net.commodities
   pub each : (k : ℕ) (e : Entry) → slice_get entries k ≡ Some e → (e.row < length rows) × ((row_at rows e.row).commodity ≡ k)
 
--- each commodity was routed by one of so many workers
+-- each commodity was routed by one of `workers` workers
 abbrev pub AreRoutedBy : ℕ → List (List Routed) → Type 0
 AreRoutedBy workers phases = All (λ (entries : List Routed). All (λ (r : Routed). r.worker < workers) entries) phases
 

@@ -12,6 +12,6 @@ abbrev pub sweep_evaluation : LinkMode → Network → Proof → List ℕ → �
 sweep_evaluation mode net proof caps link =
     evaluation net proof.routing.phases proof.routing.paths proof.dual (with_link mode caps link 0)
 
--- that of each of so many links, in their order
+-- that of each of `links` links, in their order
 abbrev pub sweep_evaluations : LinkMode → Network → Proof → List ℕ → ℕ → List Evaluation
 sweep_evaluations mode net proof caps links = map (sweep_evaluation mode net proof caps) (range_with_len 0 links)

@@ -20,7 +20,7 @@ sign_place _ _ = None
 abbrev pub per : LinkMode → ℕ
 per mode = length (signs mode)
 
--- how many cells so many links have
+-- how many cells `links` links have
 abbrev pub cells_of : LinkMode → ℕ → ℕ
 cells_of mode links = per mode * links
 

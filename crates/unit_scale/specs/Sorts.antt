@@ -41,7 +41,7 @@ scaled_at rows o =
 
 -- ---- what scaling answers
 
--- the network of the rows, or their first refusal with the sort of its row; want of memory says nothing
+-- the network of the rows, or their first refusal with the sort of its row; if memory ran out, nothing is said
 abbrev pub ScalesAt : NetRows → NetOptions → Result ScaledNet RowEnd → Type 0
 ScalesAt rows o (Ok scaled) = scaled_at rows o ≡ Ok scaled
 ScalesAt rows o (Err rowends.Memory) = Unit {0}

@@ -14,7 +14,7 @@ use Rattle.unit_scale.specs.declared.commodities.Kept.{Kept}
 use Rattle.unit_scale.specs.declared.refusal.ScaleEnd.{ScaleEnd}
 use Rattle.unit_scale.specs.declared.refusal.ScaleEnd.TheVariants.{Refused, Memory}
 
--- the end tells the first row that has the fault; want of memory says nothing
+-- the end tells the first row that has the fault; if memory ran out, nothing is said
 abbrev pub Faulted : NetKind → Option ℕ → ScaleEnd → Type 0
 Faulted kind line Memory = Unit {0}
 Faulted kind line (Refused r) = refused kind line ≡ Some r

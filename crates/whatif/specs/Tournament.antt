@@ -20,7 +20,7 @@ pub record IsWinner (r x y : Ratio) : Type 0 where
 abbrev pub IsWon : List Ratio → ℕ → Type 0
 IsWon nodes i = IsWinner (node nodes i) (node nodes (2 * i)) (node nodes (2 * i + 1))
 
--- every node but the leaves, of which there are so many, is the winner of the two below it
+-- every node but the `leaves` leaves is the winner of the two below it
 pub record IsTournament (leaves : ℕ) (nodes : List Ratio) : Type 0 where
   pub count : length nodes ≡ 2 * leaves
   pub ratios : All IsRatio nodes
