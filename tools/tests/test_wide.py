@@ -123,7 +123,7 @@ def test_mcf_wide_does_not_ask_itself(wide: Program, tmp_path: Path) -> None:
 def test_the_api_solves_checks_and_asks_what_if(program: Program, wide: Program, large: Path, monkeypatch: pytest.MonkeyPatch) -> None:
     monkeypatch.setenv("MCF", program.path)
     network = mcf.read(large)
-    certificate = network.solve(workers=1, step=NARROW.step)
+    certificate = network.solve(workers=1, step=NARROW.step, gap=0.2)
     assert certificate.closed and certificate.lower <= 20 <= certificate.upper
     assert mcf.check(network, certificate)
     assert network.whatif(certificate, [("close", "L0")]).table()["upper"][0] < certificate.upper
@@ -152,13 +152,13 @@ def test_a_batch_with_more_demands_than_mcf_takes(program: Program, wide: Progra
 def test_workers_of_studies_and_the_desk_ask_mcf_wide(program: Program, wide: Program, large: Path, caplog: pytest.LogCaptureFixture) -> None:
     worker = children.Program(program.path)
     try:
-        answer = worker.run("solve", ["--workers", "1", "--step", str(NARROW.step)], large.read_bytes())
+        answer = worker.run("solve", ["--workers", "1", "--step", str(NARROW.step), "--gap", "0.2"], large.read_bytes())
     finally:
         worker.close()
     # (the one who asked for the study is told, and not each worker)
     assert (answer.status, answer.program) == (0, wide.path) and not caplog.records
     with Held(large.read_bytes()) as net:
-        ended = Work().ask(program.path, "solve", {"net": net}, ["--workers", "1", "--step", str(NARROW.step)])
+        ended = Work().ask(program.path, "solve", {"net": net}, ["--workers", "1", "--step", str(NARROW.step), "--gap", "0.2"])
     assert ended.out == answer.data and len(caplog.records) == 1
 
 
