@@ -1,5 +1,6 @@
 """What hatchling puts into a wheel or a source distribution beside the package: version, commit and licences; and into a wheel, where
-`program/mcf` stands beside this file, the proved program, byte for byte as it was built, with man pages and completions.
+`program/mcf` stands beside this file, the proved program, byte for byte as it was built, with man pages and completions; `program/mcf-wide`
+likewise.
 
 tools/release makes such a folder. Without a program the wheel is one for every system, and `mcf` is looked for on the path.
 """
@@ -35,15 +36,15 @@ class Extras(BuildHookInterface):
         commit.chmod(0o644)
         inner = "mcf/" if self.target_name == "wheel" else ""
         files = {at_top("VERSION"): f"{inner}VERSION", commit: f"{inner}COMMIT"}
-        program = HERE / "program/mcf"
+        programs = sorted((HERE / "program").glob("mcf*"))
         if self.target_name == "sdist":
             files |= {at_top(name): name for name in LICENCES}
-        elif program.is_file():
+        elif programs:
             data = f"{self.metadata.core.name.replace('-', '_')}-{self.metadata.version}.data"
-            files |= {program: f"{data}/scripts/mcf"}
+            files |= {program: f"{data}/scripts/{program.name}" for program in programs}
             files |= {file: f"{data}/data/share/{file.relative_to(HERE / 'share')}" for file in sorted((HERE / "share").rglob("*")) if file.is_file()}
             build_data["pure_python"] = False
-            build_data["tag"] = "py3-none-manylinux_{}_{}_x86_64".format(*glibc(program))
+            build_data["tag"] = "py3-none-manylinux_{}_{}_x86_64".format(*max(glibc(program) for program in programs))
         build_data["force_include"] |= {str(file): name for file, name in files.items()}
 
     def finalize(self, version: str, build_data: dict[str, Any], artifact_path: str) -> None:

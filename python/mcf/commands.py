@@ -14,9 +14,9 @@ from fractions import Fraction
 from .children import Ended
 from .errors import Invalid, NoMemory, NoProgram, ReadFault, Refused, TextError, Usage, WriteFault
 from .given import Number, decimal_word, name_of, number_of
-from .limits import MAX_GAP
+from .limits import MAX_GAP, limits_of
 from .numbers import MILLION
-from .program import INVALID, REFUSED, find_program
+from .program import INVALID, REFUSED, find_program, wide_for
 from .running import in_memory, require_program, require_status, run
 from .tokens import NATIVE
 
@@ -88,12 +88,16 @@ def _option_word(name: str, value: object) -> str:
 def ask(command: str, texts: Mapping[str, bytes], options: Sequence[str] = (), timeout: float | None = None) -> Ended:
     """Runs a command on texts in memory, which are its files in this order.
 
-    Statuses 0 and 1 are answers. Usage, Refused, Invalid, ReadFault, WriteFault, NoMemory, NoProgram and Timeout otherwise.
+    Statuses 0 and 1 are answers. Usage, Refused, Invalid, ReadFault, WriteFault, NoMemory, NoProgram and Timeout otherwise. A text that is
+    beyond the limits of `mcf` is given to `mcf-wide`, if it is there.
     """
     path = program_path()
     with in_memory(list(texts.values())) as files:
         words = [command, *options, "--", *(f"/proc/self/fd/{number}" for number in files)]
         ended = run([path, *words], files, timeout, name=f"mcf {command}")
+        if wide := wide_path(path, ended):
+            path = wide
+            ended = run([path, *words], files, timeout, name=f"mcf-wide {command}")
     require_status(ended, path)
     require_answer(command, ended, path, words, texts)
     return ended
@@ -109,13 +113,24 @@ def program_path() -> str:
     return path
 
 
+def wide_path(path: str, ended: Ended) -> str | None:
+    """The path of the program with wide limits, where the one at a path refused a text that is beyond its own and there is such a program."""
+    if ended.status != 3:
+        return None
+    try:
+        wide = wide_for(path, ended.line)
+    except TextError as error:
+        raise NoProgram(str(error)) from None
+    return wide.path if wide else None
+
+
 def require_answer(command: str, ended: Ended, path: str, words: list[str], texts: Mapping[str, bytes]) -> None:
     """The error of an end that is no answer."""
     line, status = ended.line, ended.status
     if status == 2 and line == "usage":
-        raise Usage(f"mcf {command}: {_misfit(words)}")
+        raise Usage(f"mcf {command}: {_misfit(words, path)}")
     if status == 3 and (refused := REFUSED.fullmatch(line)):
-        raise _refusal(command, refused, texts)
+        raise _refusal(command, refused, texts, path)
     if status == 4 and line == "read fault":
         raise ReadFault(f"mcf {command}: a file could not be read to its end")
     if status == 5:
@@ -123,7 +138,7 @@ def require_answer(command: str, ended: Ended, path: str, words: list[str], text
     if status == 6 and line == "memory":
         raise NoMemory(f"mcf {command}: out of memory")
     if status == 1 and command in FRONTS and (invalid := INVALID.fullmatch(line)):
-        raise Invalid(invalid[1], sentence_of(line, command, texts), line)
+        raise Invalid(invalid[1], sentence_of(line, command, texts, path), line)
     judges = command.startswith("check")
     known = judgement_of(line, Fraction(1)) is not None if judges else line.startswith(FRONTS[command]) or _is_empty(command, ended)
     if status > 1 or not known:
@@ -135,30 +150,30 @@ def _is_empty(command: str, ended: Ended) -> bool:
     return command in ("batch", "sweep", "sweepsolve", "whatif") and not ended.out
 
 
-def _misfit(words: list[str]) -> str:
-    """What the hints say of words that are not in the grammar."""
+def _misfit(words: list[str], path: str) -> str:
+    """What the hints say of words that are not in the grammar of the program at a path."""
     from .hints.words import Misfit, read
     try:
-        read(words)
+        read(words, limits_of(path))
     except Misfit as misfit:
         return str(misfit)
     return "the words are not in the grammar"
 
 
-def _refusal(command: str, refused: re.Match[str], texts: Mapping[str, bytes]) -> Refused:
-    """The exception of a refusal's line."""
+def _refusal(command: str, refused: re.Match[str], texts: Mapping[str, bytes], path: str) -> Refused:
+    """The exception of a refusal's line, which the program at a path wrote."""
     said, file = refused[0], refused[1]
     kind = "work" if refused[5] else refused[4] or refused[2]
     line = int(refused[3]) if refused[3] else None
-    sentence = sentence_of(said, command, texts)
+    sentence = sentence_of(said, command, texts, path)
     rows = texts.get(file, b"").split(b"\n", line)[:line] if line else []
     if line and len(rows) == line and file in ("net", "list", "script"):
         sentence += f"; the line is {name_of(rows[-1].decode('latin-1')).strip()[:200]!r}"
     return Refused(kind, file, line, sentence, said)
 
 
-def sentence_of(line: str, command: str, texts: Mapping[str, bytes]) -> str:
-    """The sentence of the hints on a line of the program."""
+def sentence_of(line: str, command: str, texts: Mapping[str, bytes], path: str = "mcf") -> str:
+    """The sentence of the hints on a line of the program at a path."""
     from .hints.hint import sentence_of as hinted
     name = "cert2" if line.startswith("refused cert2 ") else "cert"
-    return hinted(line, command, texts.get(name, b"")[:16], texts.get("net", b"")[:4096])
+    return hinted(line, command, texts.get(name, b"")[:16], texts.get("net", b"")[:4096], limits_of(path))

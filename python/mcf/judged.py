@@ -16,6 +16,7 @@ from pathlib import Path as File
 from .certificate import Routing, judge_of, load_text, read_any, save_text
 from .errors import TextError
 from .hints.hint import explained
+from .limits import limits_of
 from .program import Program, refused_at
 from .ranges import Range
 
@@ -88,7 +89,7 @@ def judge_there(program: Program, net: str | File, file: str | File, command: st
     """What a command says of a file, which is not read here and may be large, likewise."""
     answer = program.check(net, file, command=command)
     if answer.status != 0 or not (_VALID.fullmatch(answer.line) or _FEASIBLE.fullmatch(answer.line)):
-        meaning = explained(answer.line, [command, str(net), str(file)]) if answer.status in (1, 3, 4) else ""
+        meaning = explained(answer.line, [command, str(net), str(file)], limits_of(answer.program)) if answer.status in (1, 3, 4) else ""
         # (the name of the file that the text is from is the caller's)
         fault = NotValid(command, answer.line or f"status {answer.status}", meaning)
         raise refused_at(fault, answer.line, {"net": str(net)})

@@ -6,6 +6,8 @@ otherwise: the ones of `crates/wide_limits/src/lib.rt`.
 
 from __future__ import annotations
 
+import os
+from dataclasses import dataclass
 from typing import Final
 
 # texts, in bytes
@@ -57,3 +59,32 @@ class Wide:
     MAX_WORK: Final = 1 << 30
     MAX_PATH_CELLS: Final = 999
     DEFAULT_STEP: Final = 524_288
+
+
+@dataclass(frozen=True)
+class Limits:
+    """The limits of one of the two programs, as far as they differ.
+
+    nodes, demands: how many a network has at most. net_bytes, cert_bytes: how many bytes a text has at most. work: the most demands times
+    phases. path_cells: how many links a path has at most. step: the step where none is asked.
+    """
+
+    nodes: int
+    demands: int
+    net_bytes: int
+    cert_bytes: int
+    work: int
+    path_cells: int
+    step: int
+
+
+NARROW = Limits(MAX_NODES, MAX_DEMANDS, MAX_NET_BYTES, MAX_CERT_BYTES, MAX_WORK, MAX_PATH_CELLS, DEFAULT_STEP)
+WIDE = Limits(Wide.MAX_NODES, Wide.MAX_DEMANDS, Wide.MAX_NET_BYTES, Wide.MAX_CERT_BYTES, Wide.MAX_WORK, Wide.MAX_PATH_CELLS, Wide.DEFAULT_STEP)
+WIDE_NAME = "mcf-wide"
+
+
+def limits_of(program: str) -> Limits:
+    """The limits of the program at a path: the wide ones where its file is called `mcf-wide`, or MCF_WIDE in the environment names it."""
+    named = os.environ.get("MCF_WIDE")
+    is_named = bool(named) and os.path.abspath(named or "") == os.path.abspath(program)
+    return WIDE if is_named or os.path.basename(program) == WIDE_NAME else NARROW

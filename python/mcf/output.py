@@ -10,6 +10,7 @@ import atexit
 import contextlib
 import errno
 import io
+import logging
 import os
 import secrets
 import signal
@@ -129,7 +130,8 @@ def status_of(function: Callable[[], int], name: str) -> int:
     jsons.begin(name, sys.argv[1:])
     try:
         try:
-            status = function()
+            with _noted(name):
+                status = function()
         except SystemExit as end:
             # (argparse ends so, and has said why)
             status = end.code if isinstance(end.code, int) else 0 if end.code is None else TROUBLE
@@ -146,6 +148,30 @@ def status_of(function: Callable[[], int], name: str) -> int:
         with contextlib.suppress(OSError, ValueError):
             jsons.fail(fault, status, why)
         return status
+
+
+class _Notes(logging.Handler):
+    """Tells what the package logs, as notes of a tool."""
+
+    def __init__(self, tool: str) -> None:
+        """For the tool of that name."""
+        super().__init__()
+        self._tool = tool.rpartition("/")[2]
+
+    def emit(self, record: logging.LogRecord) -> None:
+        """Tells one line."""
+        jsons.note(one_line(record.getMessage()), self._tool)
+
+
+@contextlib.contextmanager
+def _noted(tool: str) -> Iterator[None]:
+    """What the logger of the package is told within the block is a note of the tool."""
+    notes, logger = _Notes(tool), logging.getLogger("mcf")
+    logger.addHandler(notes)
+    try:
+        yield
+    finally:
+        logger.removeHandler(notes)
 
 
 def _why(fault: BaseException) -> str:

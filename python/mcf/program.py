@@ -3,6 +3,7 @@
 from __future__ import annotations
 
 import errno
+import logging
 import os
 import re
 import shutil
@@ -12,7 +13,7 @@ import sysconfig
 import tempfile
 from collections.abc import Mapping, Sequence
 from dataclasses import dataclass
-from functools import cached_property
+from functools import cached_property, lru_cache
 from pathlib import Path
 from typing import TypeVar
 
@@ -20,6 +21,7 @@ from . import children
 from .certificate import save_text
 from .errors import TextError
 from .hints.hint import explained, files_of
+from .limits import WIDE_NAME, limits_of
 from .network import Network, read_network
 
 PACKAGES, ROOT = Path(__file__).resolve().parents[1:3]
@@ -27,6 +29,8 @@ BUILD = "./mcf there builds it, which takes from 20 minutes to an hour since all
 
 _Fault = TypeVar("_Fault", bound=TextError)
 REFUSED = re.compile(r"refused (\w+) (?:(\w+) line (\d+)|(TooLong)|(\d+))")
+BEYOND = re.compile(r"refused (?:net N4 line \d+|net TooLong|cert2? TooLong|list M2 line \d+)")
+"""The refusals of a text that is beyond the limits of `mcf`, and may be within those of `mcf-wide`."""
 INVALID = re.compile(r"invalid2? (C\d+)")
 TINY = ("?SNDlib native format; type: network; version: 1.0\nNODES (\n  A\n  B\n)\nLINKS (\n  L ( A B ) 1 0 0 0 ( )\n)\n"
         "DEMANDS (\n  D ( A B ) 1 1 UNLIMITED\n)\n")
@@ -34,10 +38,11 @@ TINY = ("?SNDlib native format; type: network; version: 1.0\nNODES (\n  A\n  B\n
 
 @dataclass(frozen=True)
 class Answer:
-    """What a run of the program wrote, and its status."""
+    """What a run of the program wrote, and its status; `program` is the path of the one that answered, `mcf` or `mcf-wide`."""
 
     status: int
     text: str
+    program: str = "mcf"
 
     @property
     def line(self) -> str:
@@ -52,7 +57,16 @@ class Program:
     path: str
 
     def run(self, *words: str, seconds: float | None = None) -> Answer:
-        """Runs a command; TextError where the program cannot be started or takes longer than so many seconds."""
+        """Runs a command; TextError where the program cannot be started or takes longer than so many seconds.
+
+        Where a file is beyond the limits of `mcf`, `mcf-wide` answers, if there is one; that is said once.
+        """
+        answer = self._run(words, seconds)
+        wide = wide_for(self.path, answer.line)
+        return wide.run(*words, seconds=seconds) if wide else answer
+
+    def _run(self, words: Sequence[str], seconds: float | None) -> Answer:
+        """Runs a command by this program alone."""
         if not os.access(self.path, os.X_OK):
             why = os.strerror(errno.EACCES if os.path.exists(self.path) else errno.ENOENT)
             raise TextError(f"{self.path}: {why}").at(self.path, kind="program")
@@ -63,7 +77,7 @@ class Program:
             raise TextError(f"{self.path}: {error.strerror}").at(self.path, kind="program") from error
         except subprocess.TimeoutExpired as error:
             raise TextError(f"mcf {words[0]} was not done in {seconds:.3g} seconds").at(kind="timeout") from error
-        return Answer(done.status, done.text)
+        return Answer(done.status, done.text, self.path)
 
     def ask(self, *words: str, statuses: tuple[int, ...] = (0,), seconds: float | None = None) -> str:
         """The text that a command wrote; TextError, with its line and what that means, where the status is another one."""
@@ -98,7 +112,8 @@ class Program:
 
 def _no_answer(words: Sequence[str], answer: Answer) -> TextError:
     """The error of a command that ended without an answer."""
-    fault = TextError(f"mcf {words[0]}: {explained(answer.line, [*words]) if answer.line else _silent(answer.status)}")
+    why = explained(answer.line, [*words], limits_of(answer.program)) if answer.line else _silent(answer.status)
+    fault = TextError(f"mcf {words[0]}: {why}")
     return refused_at(fault, answer.line, files_of([*words])) if answer.line else fault.at(kind="program")
 
 
@@ -127,16 +142,37 @@ def find_program(path: str | None = None) -> Program:
 
 def find_wide_program(beside: Program) -> Program | None:
     """The program with wide limits: that of the environment's MCF_WIDE, else `mcf-wide` beside another program, else the one that was built
-    in the repository; None where there is none."""
+    in the repository; None where there is none, or MCF_WIDE is empty."""
     named = os.environ.get("MCF_WIDE")
+    if named == "":
+        return None
     if named and not os.path.isfile(named):
-        raise TextError(f"{named}: no such program; MCF_WIDE names the program with wide limits")
-    built = ROOT / ".built/mcf-wide"
-    places = [Path(named)] if named else [Path(beside.path).with_name("mcf-wide"), *([built] if (ROOT / "crates").is_dir() else [])]
+        raise TextError(f"{named}: no such program; MCF_WIDE names the program with wide limits").at(named, kind="program")
+    built = ROOT / ".built" / WIDE_NAME
+    places = [Path(named)] if named else [Path(beside.path).with_name(WIDE_NAME), *([built] if (ROOT / "crates").is_dir() else [])]
     found = next((place for place in places if place.is_file()), None)
     if found == built and is_old(built, ROOT / "crates"):
-        raise TextError(f"{built} is older than its sources: ./mcf-wide in {ROOT} builds it anew; or name one by MCF_WIDE")
+        raise TextError(f"{built} is older than its sources: ./mcf-wide in {ROOT} builds it anew; or name one by MCF_WIDE").at(kind="program")
     return Program(os.path.abspath(found)) if found else None
+
+
+def wide_for(path: str, line: str, tell: bool = True) -> Program | None:
+    """The program with wide limits, where the program at a path wrote that a text is beyond its own; None where the line says something
+    else, or there is no other program. With `tell` that is told, once in a process, by the logger `mcf`."""
+    if not BEYOND.fullmatch(line):
+        return None
+    wide = find_wide_program(Program(path))
+    if wide is None or os.path.realpath(wide.path) == os.path.realpath(path):
+        return None
+    if tell:
+        _tell_wide(wide.path)
+    return wide
+
+
+@lru_cache(maxsize=None)
+def _tell_wide(path: str) -> None:
+    """Tells that the program with wide limits is asked."""
+    logging.getLogger("mcf").warning("a file is beyond the limits of mcf, so mcf-wide is asked: %s", path)
 
 
 def built_program(root: Path) -> str:

@@ -21,6 +21,10 @@ sys.path[:0] = [str(ROOT / "python"), str(ROOT / "bench")]
 
 from mcf import Program, find_program  # noqa: E402
 
+# (what is beyond the limits of mcf is refused in all tests but those that ask for the program with wide limits)
+WIDE = os.environ.get("MCF_WIDE") or str(ROOT / ".built/mcf-wide")
+os.environ["MCF_WIDE"] = ""
+
 try:
     from hypothesis import settings
 except ImportError:
@@ -45,6 +49,15 @@ def program() -> Program:
     if not os.path.isfile(path):
         pytest.skip("mcf was not built, and MCF names none")
     return find_program(path)
+
+
+@pytest.fixture
+def wide(monkeypatch: pytest.MonkeyPatch) -> Program:
+    """The program with wide limits, which tools then ask where mcf refuses; tests that need it are skipped where there is none."""
+    if not os.path.isfile(WIDE):
+        pytest.skip("mcf-wide was not built, and MCF_WIDE names none")
+    monkeypatch.setenv("MCF_WIDE", WIDE)
+    return Program(WIDE)
 
 
 @pytest.fixture

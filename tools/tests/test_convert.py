@@ -511,10 +511,18 @@ def test_a_file_that_is_not_there():
 
 
 def test_more_than_the_limits_is_refused(tmp_path: Path):
+    lines = "\n".join(f"N{i},N{i + 1},1" for i in range(1000))
+    (tmp_path / "big.csv").write_text(f"source,target,capacity\n{lines}\n")
+    assert refusal(tmp_path / "big.csv", "-", "--to", "net") == "convert: 1001 nodes: at most 1000 are taken"
+    assert len(convert(tmp_path / "big.csv", "-", "--to", "graphml")[0]) > 1000
+
+
+def test_what_the_program_with_wide_limits_alone_takes_is_written_and_said(tmp_path: Path):
     lines = "\n".join(f"N{i},N{i + 1},1" for i in range(600))
     (tmp_path / "big.csv").write_text(f"source,target,capacity\n{lines}\n")
-    assert refusal(tmp_path / "big.csv", "-", "--to", "net") == "convert: 601 nodes: at most 512 are taken"
-    assert len(convert(tmp_path / "big.csv", "-", "--to", "graphml")[0]) > 600
+    text, said = convert(tmp_path / "big.csv", "-", "--to", "net")
+    assert text.count("\n  N") >= 601
+    assert "note: 601 nodes and 0 demands are beyond the limits of mcf, 512 and 32,768: mcf-wide takes them" in said
 
 
 @pytest.mark.parametrize(

@@ -216,7 +216,7 @@ def test_words_are_shown_safely() -> None:
 KINDS = [
     (b"", "is empty"), (b"\xef\xbb\xbf" + NET, "begins with a byte order mark, which tools/convert"),
     (b"\xff\xfe?\0S\0", "begins with a byte order mark of UTF-16, which tools/convert"),
-    (gzip.compress(NET), "is gzip, which tools/convert"),
+    (gzip.compress(NET, mtime=0), "is gzip, which tools/convert"),
     (b'<?xml version="1.0"?>\n<network xmlns="http://sndlib.zib.de/network">', "is XML, which tools/convert"),
     (b"\xef\xbb\xbf<?xml version='1.0'?>\n<network>", "is XML, which tools/convert"),
     (b'<?xml version="1.0"?>\n<graphml xmlns="http://graphml.graphdrawing.org/xmlns">', "is GraphML, which tools/convert"),

@@ -6,16 +6,16 @@ import re
 from pathlib import Path
 
 import mcf.limits
-from mcf.hints.words import DRAWN, RANGES
+from mcf.hints.words import RANGES, drawn
 from mcf.limits import (DEFAULT_GAP, DEFAULT_PHASES, DEFAULT_STEP, DEFAULT_WORKERS, FEW_COMMODITIES, MAX_DEMANDS, MAX_GAP, MAX_LENGTH, MAX_LINKS,
-                        MAX_NODES, MAX_PATH_CELLS, MAX_PHASES, MAX_STEP, MAX_UNITS, MAX_WORD_BYTES, MAX_WORK, MAX_WORKERS)
+                        MAX_NODES, MAX_PATH_CELLS, MAX_PHASES, MAX_STEP, MAX_UNITS, MAX_WORD_BYTES, MAX_WORK, MAX_WORKERS, NARROW)
 
 
 def test_limits_are_those_of_the_program(root: Path) -> None:
     text = (root / "crates/mcf_limits/src/lib.rt").read_text()
     found = dict(re.findall(r"^pub const (\w+): \w+ = ([0-9_ <]+);", text, re.M))
     assert found and text.count("pub const") == len(found)
-    there = {name: value for name, value in vars(mcf.limits).items() if name.isupper()}
+    there = {name: value for name, value in vars(mcf.limits).items() if name.isupper() and isinstance(value, int)}
     assert there == {name: _value(word) for name, word in found.items()}
 
 
@@ -33,7 +33,7 @@ def _value(word: str) -> int:
 
 def test_words_of_the_command_line_keep_the_limits() -> None:
     assert RANGES == {"--phases": (1, MAX_PHASES), "--workers": (1, MAX_WORKERS), "--step": (1, MAX_STEP)}
-    assert {name: most for name, (_, most) in DRAWN.items()} == {
+    assert {name: most for name, (_, most) in drawn(NARROW).items()} == {
         "SEED": 2**64 - 1, "NODES": MAX_NODES, "LINKS": MAX_LINKS, "DEMANDS": MAX_DEMANDS}  # fmt: skip
 
 

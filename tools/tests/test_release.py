@@ -14,10 +14,11 @@ from pathlib import Path
 import pytest
 
 from mcf import Program, TextError
-from mcf.release.archive import archive, built_program, files_of, try_archive, version_of
+from mcf.release.archive import archive, built_program, built_wide_program, files_of, try_archive, version_of
+from mcf.release.elf import glibc, is_program, libraries, symbol_versions
 from mcf.release.pages import scripts
 from mcf.release.sources import sources
-from mcf.release.elf import glibc, is_program, libraries, symbol_versions
+from mcf.release.staged import Release
 from mcf.version import commit_of
 
 STANDS_IN = Path("/bin/true")
@@ -32,7 +33,7 @@ def unpacked(data: bytes, folder: Path) -> Path:
 
 
 def test_archive_has_what_a_receiver_needs(root: Path, tmp_path: Path) -> None:
-    name, data = archive(root, STANDS_IN, 1_000_000_000)
+    name, data = archive(Release(root, STANDS_IN, 1_000_000_000))
     top = unpacked(data, tmp_path)
     assert top.name == name == f"mcf-{version_of(root)}-x86_64-linux"
     for file in ("mcf", "program/mcf", "docs/mcf.1", "docs/guide.md", "docs/formats.md", "LICENSE-APACHE", "LICENSE-MIT", "README.md",
@@ -51,7 +52,7 @@ def test_archive_has_what_a_receiver_needs(root: Path, tmp_path: Path) -> None:
 
 
 def test_checksums_are_of_every_other_file(root: Path, tmp_path: Path) -> None:
-    top = unpacked(archive(root, STANDS_IN, 0)[1], tmp_path)
+    top = unpacked(archive(Release(root, STANDS_IN, 0))[1], tmp_path)
     sums = {line.split("  ", 1)[1]: line.split("  ", 1)[0] for line in (top / "SHA256SUMS").read_text().splitlines()}
     files = {str(file.relative_to(top)) for file in top.rglob("*") if file.is_file()}
     assert set(sums) == files - {"SHA256SUMS"}
@@ -60,7 +61,7 @@ def test_checksums_are_of_every_other_file(root: Path, tmp_path: Path) -> None:
 
 
 def test_the_same_files_give_the_same_bytes(root: Path) -> None:
-    one, other = archive(root, STANDS_IN, 7), archive(root, STANDS_IN, 7)
+    one, other = archive(Release(root, STANDS_IN, 7)), archive(Release(root, STANDS_IN, 7))
     assert one == other
     with tarfile.open(fileobj=io.BytesIO(one[1])) as tar:
         assert {(member.mtime, member.uid, member.gid, member.uname) for member in tar} == {(7, 0, 0, "root")}
@@ -68,7 +69,7 @@ def test_the_same_files_give_the_same_bytes(root: Path) -> None:
 
 def test_version_stands_in_one_file(root: Path) -> None:
     version = version_of(root)
-    files = files_of(root, STANDS_IN)
+    files = files_of(Release(root, STANDS_IN, 0))
     assert files["docs/mcf.1"][1].decode().startswith(f'.TH MCF 1 "2026" "mcf {version}" "User commands"\n')
     word = re.compile(rb"(?<![\w.])" + re.escape(version.encode()) + rb"(?![\w.])")
     listed = [name for name, (_, data) in files.items() if word.search(data) and not name.startswith("examples/")]
@@ -77,7 +78,7 @@ def test_version_stands_in_one_file(root: Path) -> None:
 
 
 def test_starter_of_the_release_has_help_and_no_build(root: Path, tmp_path: Path) -> None:
-    top = unpacked(archive(root, STANDS_IN, 0)[1], tmp_path)
+    top = unpacked(archive(Release(root, STANDS_IN, 0))[1], tmp_path)
     assert Program(str(top / "mcf")).ask("--version") == f"mcf {version_of(root)} ({commit_of(root)})\n"
     assert Program(str(top / "mcf")).ask("help", "check").startswith("usage: mcf check")
     assert Program(str(top / "mcf")).run("solve").status == 0
@@ -113,7 +114,7 @@ def test_kind_of_program() -> None:
 
 
 def test_an_archive_that_does_not_work_is_not_kept(root: Path, tmp_path: Path) -> None:
-    name, data = archive(root, STANDS_IN, 0)
+    name, data = archive(Release(root, STANDS_IN, 0))
     with pytest.raises(TextError, match=r"mcf check, mcf solve$"):
         try_archive(name, data, version_of(root))
     words = [str(root / "tools/release"), "archive", "--mcf", str(STANDS_IN), "--to", str(tmp_path / "dist")]
@@ -178,7 +179,8 @@ def require_tools_work(top: Path, room: Path) -> None:
 def test_release_of_the_program_works_where_it_is_unpacked(program: Program, root: Path, tmp_path: Path) -> None:
     to = tmp_path / "dist"
     ran = subprocess.run([str(root / "tools/release"), "archive", "--mcf", program.path, "--to", str(to)], capture_output=True, text=True)
-    assert (ran.returncode, ran.stderr) == (0, "")
+    without = "tools/release: without mcf-wide, which was not built of these sources: ./mcf-wide builds it, or --wide names one\n"
+    assert (ran.returncode, ran.stderr) == (0, "" if built_wide_program(root) else without)
     file = Path(ran.stdout.rstrip("\n"))
     assert subprocess.run(["sha256sum", "--quiet", "-c", f"{file.name}.sha256"], cwd=to).returncode == 0
     (tmp_path / "a folder").mkdir()

@@ -12,6 +12,7 @@ import pytest
 
 from mcf.hints.words import COMMANDS
 from mcf.release.pages import parsers, scripts, shared_files
+from mcf.release.staged import Release
 
 for module, package in (("shtab", "python3-shtab"), ("build_manpages", "python3-argparse-manpage")):
     pytest.importorskip(module, reason=f"{package} is missing: tools/setup --tests")
@@ -23,7 +24,7 @@ EPOCH = 1_700_000_000
 @pytest.fixture(scope="module")
 def files(root: Path) -> dict[str, str]:
     """All pages and completions by their names."""
-    return shared_files(root, EPOCH, "site-functions")
+    return shared_files(Release(root, Path("/bin/true"), EPOCH, Path("/bin/true")), "site-functions")
 
 
 def options_of(parser: argparse.ArgumentParser) -> list[str]:
@@ -32,7 +33,7 @@ def options_of(parser: argparse.ArgumentParser) -> list[str]:
 
 
 def test_each_tool_has_a_page_and_completions(files: dict[str, str]) -> None:
-    names = ("mcf", *TOOLS)
+    names = ("mcf", "mcf-wide", *TOOLS)
     assert set(files) == {file for name in names for file in (
         f"man/man1/{name}.1", f"bash-completion/completions/{name}", f"zsh/site-functions/_{name}")}
 

@@ -13,8 +13,9 @@ from typing import NoReturn
 
 from mcf import TextError, jsons
 from mcf.arguments import Arguments
+from mcf.limits import WIDE_NAME
 from mcf.output import main_of, write
-from mcf.release.archive import built_program, try_archive, version_of
+from mcf.release.archive import built_program, built_wide_program, try_archive, version_of
 from mcf.release.archive import archive as pack
 from mcf.release.deb import deb
 from mcf.release.elf import is_program
@@ -31,7 +32,7 @@ examples:
   tools/release wheel --to /tmp/dist
   tools/release archive --mcf /somewhere/mcf
 
-The program has to be built (./mcf once). The archive is unpacked and tried before anything is kept. The same files and the same last
+The program has to be built (./mcf once); the one with wide limits goes along where ./mcf-wide built it. The archive is unpacked and tried before anything is kept. The same files and the same last
 commit give the same bytes; SOURCE_DATE_EPOCH stands for the time of the commit. Of the sources those are taken that git knows.
 
 status: 0 all is made; 1 something is not, for which a package of Debian is missing; 2 nothing is made
@@ -43,23 +44,27 @@ def options() -> Arguments:
     parser = Arguments("release", __doc__, EXAMPLES)
     parser.add_argument("kinds", nargs="*", metavar="KIND", help=f"what is made: {', '.join(KINDS)} [all]")
     parser.add_argument("--mcf", metavar="PATH", type=Path, help="the program to ship, in place of the one that was built here")
+    parser.add_argument("--wide", metavar="PATH", type=Path, help="the program with wide limits to ship beside it, likewise")
     parser.add_argument("--to", metavar="FOLDER", type=Path, default=ROOT / "dist", help="where the files go [dist]")
     return parser
 
 
 def archive(release: Release) -> tuple[str, bytes]:
     """The name and the bytes of the archive."""
-    name, data = pack(release.root, release.program, release.seconds)
+    name, data = pack(release)
     return f"{name}.tar.gz", data
 
 
-def release_of(program: Path | None) -> Release:
-    """What is released: the program given or built here, which works in an archive."""
-    found = program or built_program(ROOT)
-    if not found.is_file() or not is_program(found):
-        raise TextError(f"{found} is no program for Linux on x86-64").at(str(found), kind="program")
-    release = Release(ROOT, found, commit_seconds(ROOT))
-    try_archive(*pack(ROOT, found, release.seconds), version_of(ROOT))
+def release_of(program: Path | None, wide: Path | None) -> Release:
+    """What is released: the programs given or built here, which work in an archive."""
+    found, wide = program or built_program(ROOT), wide or built_wide_program(ROOT)
+    for file in (found, wide):
+        if file and not (file.is_file() and is_program(file)):
+            raise TextError(f"{file} is no program for Linux on x86-64").at(str(file), kind="program")
+    if wide is None:
+        jsons.note(f"without {WIDE_NAME}, which was not built of these sources: ./{WIDE_NAME} builds it, or --wide names one", "tools/release")
+    release = Release(ROOT, found, commit_seconds(ROOT), wide)
+    try_archive(*pack(release), version_of(ROOT))
     return release
 
 
@@ -78,7 +83,7 @@ def released() -> int:
     others = [kind for kind in words.kinds if kind not in KINDS]
     if others:
         parser.error(f"{others[0]} is not made: the kinds are {', '.join(KINDS)}")
-    release = release_of(words.mcf)
+    release = release_of(words.mcf, words.wide)
     makers = {"archive": archive, "wheel": wheel, "deb": deb}
     made: list[dict[str, object]] = []
     missing: list[dict[str, object]] = []

@@ -6,7 +6,7 @@ from collections.abc import Callable
 from dataclasses import dataclass, field, replace
 from fractions import Fraction
 
-from ..limits import MAX_DECIMALS, MAX_DEMANDS, MAX_LINKS, MAX_MATRICES, MAX_NODES, MAX_TOTAL, MAX_UNITS
+from ..limits import MAX_DECIMALS, MAX_LINKS, MAX_MATRICES, MAX_TOTAL, MAX_UNITS, WIDE
 from .model import Demand, Link, Matrix, Network, Notes, Refused, Source
 from .numbers import brief, is_fine, plain, rounded
 
@@ -133,8 +133,8 @@ def require_fit(network: Network, linked: bool, limited: bool) -> None:
 
 
 def _require_counts(network: Network, linked: bool, limited: bool) -> None:
-    counts = [(len(network.nodes), MAX_NODES, "nodes"), (len(network.links), MAX_LINKS, "links")]
-    counts.append((sum(len(m.demands) for m in network.matrices), MAX_DEMANDS, "demands (--merge may help)"))
+    counts = [(len(network.nodes), WIDE.nodes, "nodes"), (len(network.links), MAX_LINKS, "links")]
+    counts.append((sum(len(m.demands) for m in network.matrices), WIDE.demands, "demands (--merge may help)"))
     counts.append((len(network.matrices), MAX_MATRICES, "matrices"))
     over = next(((n, most, what) for n, most, what in counts if n > most), None)
     if over and limited:

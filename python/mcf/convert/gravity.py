@@ -6,7 +6,7 @@ from dataclasses import replace
 from fractions import Fraction
 from itertools import combinations, permutations
 
-from ..limits import MAX_DECIMALS, MAX_DEMANDS
+from ..limits import MAX_DECIMALS, WIDE
 from .model import Demand, Matrix, Network, Notes, Refused
 from .numbers import plain, rounded
 from .words import Words
@@ -26,8 +26,8 @@ def with_gravity(network: Network, total: Fraction, notes: Notes) -> Network:
             weights[end] += size
     ends = [name for name, weight in weights.items() if weight]
     pairs = list(permutations(ends, 2) if network.one_way else combinations(ends, 2))
-    if len(pairs) > MAX_DEMANDS:
-        raise Refused(f"--gravity makes {len(pairs)} demands between {len(ends)} nodes: at most {MAX_DEMANDS} are taken")
+    if len(pairs) > WIDE.demands:
+        raise Refused(f"--gravity makes {len(pairs):,} demands between {len(ends):,} nodes: at most {WIDE.demands:,} are taken")
     if not pairs:
         raise Refused("--gravity makes demands up between nodes whose links have capacities, and there are no two")
     whole = sum((weights[a] * weights[b] for a, b in pairs), Fraction(0))

@@ -6,6 +6,7 @@ import io
 from dataclasses import dataclass, field, replace
 from fractions import Fraction
 
+from ..limits import NARROW, WIDE_NAME
 from ..output import require_output
 from . import assemble, files, native, repetita, tables
 from .adjust import Changes, adjusted, in_unit, require_fit
@@ -84,9 +85,18 @@ def convert(task: Task, notes: Notes) -> Network:
     require_fit(network, kind in ("net", "graphml", "links"), kind in ("net", "list"))
     text = _text(network, kind, notes)
     _tell(network, kind, notes)
+    _tell_size(network, kind, notes)
     _tell_meta(sources, kind, notes)
     files.write(task.target, text)
     return network
+
+
+def _tell_size(network: Network, kind: str, notes: Notes) -> None:
+    """Says where only the program with wide limits takes what is written."""
+    demands = sum(len(matrix.demands) for matrix in network.matrices)
+    if kind in ("net", "list") and (len(network.nodes) > NARROW.nodes or demands > NARROW.demands):
+        notes.say("note", f"{len(network.nodes):,} nodes and {demands:,} demands are beyond the limits of mcf, {NARROW.nodes:,} and "
+                          f"{NARROW.demands:,}: {WIDE_NAME} takes them")
 
 
 def _read_all(task: Task, notes: Notes) -> list[Source]:

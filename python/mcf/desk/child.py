@@ -13,7 +13,7 @@ from collections.abc import Iterator, Sequence
 from pathlib import Path
 
 from ..children import PATIENCE, Ended, started
-from ..commands import require_answer
+from ..commands import require_answer, wide_path
 from ..errors import McfError, NoProgram
 from ..running import TOOL, require_status
 
@@ -110,6 +110,9 @@ class Work:
         """Runs a command of the proved program, as `mcf.commands.ask` does, on texts that are held already."""
         words = [command, *options, "--", *(f"/proc/self/fd/{text.number}" for text in texts.values())]
         ended = self.run([path, *words], list(texts.values()))
+        if wide := wide_path(path, ended):
+            path = wide
+            ended = self.run([path, *words], list(texts.values()))
         require_status(ended, path)
         require_answer(command, ended, path, words, {name: text.data for name, text in texts.items()})
         return ended

@@ -9,7 +9,7 @@ from functools import cached_property
 
 from ..errors import TextError
 from ..given import decimal_word
-from ..limits import MAX_UNITS
+from ..limits import MAX_UNITS, NARROW, WIDE_NAME
 from ..network import Network, write_network
 from ..numbers import fraction_of
 from ..report.layout import Layout, layout
@@ -43,6 +43,13 @@ class Ground:
     def places(self) -> Layout:
         """Where nodes stand."""
         return layout(self.scaled)
+
+    @property
+    def command(self) -> str:
+        """The name of the program that takes the network: `mcf`, or `mcf-wide` where it is beyond the limits of the other."""
+        network = self.network
+        fits = len(network.nodes) <= NARROW.nodes and len(network.demands) <= NARROW.demands and len(self.text.data) <= NARROW.net_bytes
+        return "mcf" if fits else WIDE_NAME
 
     @property
     def modes(self) -> list[str]:

@@ -30,7 +30,7 @@ class Outs:
     def rows(self, one: Certificate) -> list[Out]:
         """The files, each with the commands that judge it."""
         desk, first = self.desk, next(iter(self.desk.certificates.values()))
-        net, cert = self.net_file(one), self.cert_file(one)
+        net, cert, command = self.net_file(one), self.cert_file(one), self.ground.command
         modes = " ".join(self.ground.modes)
         now = desk.shown
         rows = []
@@ -38,12 +38,12 @@ class Outs:
         if steps:
             says = f"show {_pair(now)}" if isinstance(now, Bounds) else ""
             rows.append(Out("The script of the edits", f"{self.stem}-edits.script", "/out/script",
-                            (f"mcf whatif {net} {cert} {self.stem}-edits.script",), says))
+                            (f"{command} whatif {net} {cert} {self.stem}-edits.script",), says))
         if desk.history.done:
-            rows.append(Out("The edited network", f"{self.stem}-edited.net", "/out/edited", (f"mcf solve {self.stem}-edited.net {modes}",)))
-        rows.append(Out(f"The certificate {one.name}", cert, "/out/certificate", (f"mcf check {net} {cert}",), one.bounds.line))
+            rows.append(Out("The edited network", f"{self.stem}-edited.net", "/out/edited", (f"{command} solve {self.stem}-edited.net {modes}",)))
+        rows.append(Out(f"The certificate {one.name}", cert, "/out/certificate", (f"{command} check {net} {cert}",), one.bounds.line))
         if one.network is not self.ground.text:
-            rows.append(Out(f"The network that {one.name} is of", net, "/out/network", (f"mcf print {net}",)))
+            rows.append(Out(f"The network that {one.name} is of", net, "/out/network", (f"{command} print {net}",)))
         page = f"{self.stem}-{one.name}.html"
         rows.append(Out(f"The report page of {one.name}" + (", without the edits behind it" if steps else ""), page, "/out/report",
                         (f"tools/report {net} {cert} --html {page} --title {shlex.quote(self.ground.stem)}",)))

@@ -27,7 +27,7 @@ from .edits import Edit, changed
 from .state import Certificate, Desk, Key
 from .weights import weights_of
 
-SOLVERS = {"solve": "mcf solve", "certify": "tools/certify"}
+SOLVERS = {"solve": "{mcf} solve", "certify": "tools/certify"}
 METHODS = {
     "ecmp": "equal-cost multipath, by hops", "hops": "one shortest path, by hops", "capacity": "one shortest path, by 1/capacity",
     "cost": "one shortest path, by the file's routing cost", "ecmp-capacity": "equal-cost multipath, by 1/capacity",
@@ -145,13 +145,13 @@ class Works:
         def run(work: Work) -> str:
             """Solves, judges, and adds the certificate."""
             of = self.edited(edits)
-            made = " ".join([SOLVERS[kind], "NET", *self.ground.modes, *options])
+            made = " ".join([SOLVERS[kind].format(mcf=self.ground.command), "NET", *self.ground.modes, *options])
             text = self._solved(work, kind, of.network, options)
             one = self.judged(work, made, self._name(kind), of, text, before)
             self.desk.add(one)
             return f"{one.name}: {one.bounds.line}"
 
-        self.desk.start(f"{SOLVERS[kind]} of the network {_with(len(edits))}", run)
+        self.desk.start(f"{SOLVERS[kind].format(mcf=self.ground.command)} of the network {_with(len(edits))}", run)
 
     def _solved(self, work: Work, kind: str, network: Held, options: Sequence[str]) -> bytes:
         """The certificate of a solver."""
@@ -176,10 +176,10 @@ class Works:
         assert one is not None
         if key[1]:
             lines = list(self._turned(one, key, [(link, Fraction(0)) for link in range(len(capacities))], capacities))
-            command = "mcf whatif NET CERT, with each link closed in turn behind these edits"
+            command = f"{self.ground.command} whatif NET CERT, with each link closed in turn behind these edits"
         else:
             lines = self.desk.asked("sweep", {"net": one.network, "cert": one.text})
-            command = "mcf sweep NET CERT"
+            command = f"{self.ground.command} sweep NET CERT"
         cases = [Failure(link, bounds_of(line)) for link, line in enumerate(lines)]
         self._keep(Failures(key, count, base, *self._ordered(cases, base, capacities), command))
 
@@ -220,7 +220,7 @@ class Works:
         with self.desk.lock:
             before, edits = self.found.failures, tuple(self.desk.history.done)
         assert before is not None
-        self.desk.start(f"mcf sweepsolve of the network {_with(len(edits))}", partial(self._failed, before=before, edits=edits))
+        self.desk.start(f"{self.ground.command} sweepsolve of the network {_with(len(edits))}", partial(self._failed, before=before, edits=edits))
 
     def _failed(self, work: Work, before: Failures, edits: tuple[Edit, ...]) -> str:
         """Solves without each link, and puts the answers beside those of the same paths."""
@@ -228,7 +228,7 @@ class Works:
         lines = work.ask(self.ground.program, "sweepsolve", {"net": network}, self.ground.modes).text.splitlines()
         by_link = {one.link: one for one in before.cases}
         cases = [replace(by_link[link], routed=bounds_of(line)) for link, line in enumerate(lines)]
-        command = " ".join(["mcf sweepsolve NET", *self.ground.modes])
+        command = " ".join([f"{self.ground.command} sweepsolve NET", *self.ground.modes])
         ordered, said = self._ordered(cases, before.base, self.ground.capacities(changed(edits)))
         self._keep(Failures(before.key, before.edits, before.base, ordered, said, command, True))
         return said

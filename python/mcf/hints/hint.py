@@ -4,8 +4,9 @@ from __future__ import annotations
 
 import os
 
+from ..limits import NARROW, WIDE, Limits, limits_of
 from .netfile import front_of, kind_of
-from .table import TABLE, Row
+from .table import Row, table
 from .told import line_of
 from .words import Misfit, Request, read, shown
 
@@ -26,7 +27,7 @@ def hint(status: int, program: str, words: list[str], output: int) -> str | None
         odd = next((word for word in words if not _is_text(word)), None)
         return None if odd is None else _told("no words", f"{shown(odd)} is not UTF-8, as each word has to be: rename the file", WRONG)
     try:
-        request = read(words)
+        request = read(words, limits_of(program))
     except Misfit as misfit:
         return _told("usage", str(misfit), misfit.part or WRONG) if status == 2 else None
     if status == 2:
@@ -42,24 +43,25 @@ def _told(line: str, sentence: str, part: int) -> str:
     return f"hint: {line}: {sentence} (docs/guide.md, part {part})"
 
 
-def explained(line: str, words: list[str]) -> str:
-    """A line that the program wrote for words, with the sentence on it; files that are there are not named, since they may be temporary."""
+def explained(line: str, words: list[str], limits: Limits = NARROW) -> str:
+    """A line that the program with these limits wrote for words, with the sentence on it; files that are there are not named, since they
+    may be temporary."""
     try:
-        request = read(words)
+        request = read(words, limits)
     except Misfit:
         return line
     if line == "refused net N1 line 1":
         return f"{line}: it {kind_of(front_of(request.words['NET']))}"
     if line == "read fault":
         return f"{line}: {_unreadable(request)}"
-    row = _row_of(line, request)
+    row = _row_of(line, request, limits)
     return f"{line}: {row.sentence}" if row else line
 
 
 def files_of(words: list[str]) -> dict[str, str]:
     """The files of a command's words, by the names that the program's lines have for them; none where the words are not in the grammar."""
     try:
-        return {name.lower(): file for name, file in read(words).words.items()}
+        return {name.lower(): file for name, file in read(words, WIDE).words.items()}
     except Misfit:
         return {}
 
@@ -69,9 +71,9 @@ def _is_text(word: str) -> bool:
     return not any("\udc80" <= letter <= "\udcff" for letter in word)
 
 
-def _row_of(line: str, request: Request) -> Row | None:
+def _row_of(line: str, request: Request, limits: Limits) -> Row | None:
     """The row of the table for a line."""
-    return _row(line, _kind_of_certificate(line, request), request.command)
+    return _row(line, _kind_of_certificate(line, request), request.command, limits)
 
 
 def _kind_of_certificate(line: str, request: Request) -> str:
@@ -83,7 +85,7 @@ def _of_line(line: str, program: str, request: Request) -> str:
     """The hint for a line of a request that is in the grammar."""
     if line == "refused net N1 line 1":
         return _told(line, f"{shown(request.words['NET'])} {kind_of(front_of(request.words['NET']))}", 1)
-    row = _row_of(line, request)
+    row = _row_of(line, request, limits_of(program))
     if row is None:
         return _told(line, UNKNOWN, WRONG)
     is_overfull = line == "invalid C3" and _kind_of_certificate(line, request) == "routing"
@@ -91,17 +93,17 @@ def _of_line(line: str, program: str, request: Request) -> str:
     return _told(line, found or row.sentence, row.part)
 
 
-def sentence_of(line: str, command: str, certificate: bytes, network: bytes) -> str:
-    """The sentence on a line of a command, for texts that begin with these bytes."""
+def sentence_of(line: str, command: str, certificate: bytes, network: bytes, limits: Limits = NARROW) -> str:
+    """The sentence on a line of a command of the program with these limits, for texts that begin with these bytes."""
     if line == "refused net N1 line 1":
         return f"the network {kind_of(network)}"
-    row = _row(line, _kind(certificate), command)
+    row = _row(line, _kind(certificate), command, limits)
     return UNKNOWN if row is None else row.sentence
 
 
-def _row(line: str, kind: str, command: str) -> Row | None:
+def _row(line: str, kind: str, command: str, limits: Limits) -> Row | None:
     """The row of the table for a line, of a command and with a second file of a kind."""
-    return next((row for row in TABLE if row.line.fullmatch(line) and row.of in ("", kind, command)), None)
+    return next((row for row in table(limits) if row.line.fullmatch(line) and row.of in ("", kind, command)), None)
 
 
 def _kind(front: bytes) -> str:

@@ -36,6 +36,8 @@ answer_help() {
         '' | */* | .*) return ;;
     esac
     if [ -f "$here/python/mcf/hints/help/$page.txt" ]; then
+        # (the program with wide limits has other numbers)
+        [ "${name:-mcf}" = mcf-wide ] && exec sed -f "$here/python/mcf/hints/wide.sed" "$here/python/mcf/hints/help/$page.txt"
         exec cat "$here/python/mcf/hints/help/$page.txt"
     fi
 }

@@ -4,9 +4,9 @@ from __future__ import annotations
 
 import re
 from dataclasses import dataclass
+from functools import lru_cache
 
-from ..limits import (MAX_DEMANDS, MAX_HOPS, MAX_LINKS, MAX_MATRICES, MAX_NET_BYTES, MAX_NODES, MAX_PATH_CELLS, MAX_TOTAL, MAX_UNITS,
-                      MAX_WORD_BYTES, MAX_WORK)
+from ..limits import MAX_HOPS, MAX_LINKS, MAX_MATRICES, MAX_TOTAL, MAX_UNITS, MAX_WORD_BYTES, WIDE, WIDE_NAME, Limits
 
 
 @dataclass(frozen=True)
@@ -28,7 +28,7 @@ def _row(line: str, sentence: str, part: int = 10, of: str = "") -> Row:
     return Row(re.compile(line.replace(" line N", " line [0-9]+").replace(" W", " [0-9]+")), sentence, part, of)
 
 
-_UNITS, _TOTAL, _WORK = f"2^{MAX_UNITS.bit_length() - 1}", f"2^{MAX_TOTAL.bit_length() - 1}", f"{MAX_WORK:,}"
+_UNITS, _TOTAL = f"2^{MAX_UNITS.bit_length() - 1}", f"2^{MAX_TOTAL.bit_length() - 1}"
 _OTHER = "mostly since the network's file was changed after the certificate was made: make a new one"
 _EDITED = "mostly in a file that was edited by hand or cut off"
 _GREATER = " (if the work limit leaves few phases, a greater --step closes sooner)"
@@ -38,9 +38,6 @@ TABLE = (
     _row("refused net N3 line N",
          "the text cannot go on as this line does; mostly the line before lacks its `( )` of modules, the sections stand in "
          "another order, or the file is cut off"),
-    _row("refused net N4 line N",
-         f"there are more than {MAX_NODES} nodes, {MAX_LINKS:,} links or {MAX_DEMANDS:,} demands, mostly since demands of the "
-         "same ends are not merged"),
     _row("refused net N5 line N",
          "an id stands twice among the nodes, the links or the demands, mostly in a row that was copied; the line is that of "
          "the second"),
@@ -58,15 +55,6 @@ TABLE = (
     _row("refused net N11 line N",
          f"the longest path of a demand limits its paths to more than {MAX_HOPS} links: write {MAX_HOPS} or less, or UNLIMITED; a number "
          "that is not less than the nodes less one is no limit", 8),
-    _row("refused net TooLong", f"the network file is over {MAX_NET_BYTES >> 20} MiB, mostly by sections that are skipped anyway: take them out"),
-    _row("refused work W",
-         f"links times demands times phases are over {_WORK}, so --phases has to be less, or left out; if it is, the network is "
-         "too large to be solved once for each link, and sweep tells what a certificate is worth without each", 4, "sweepsolve"),
-    _row("refused work W",
-         f"demands of all matrices times phases are over {_WORK}, so --phases has to be less, or left out, or the list cut into several", 7,
-         "batch"),
-    _row("refused work W",
-         f"demands times phases are over {_WORK}, so with so many demands --phases has to be less, or left out", 5),
     _row("refused cert K1 line 1",
          "this is no certificate with hop limits: mostly one of solve, which check judges, one of a total, which checkthroughput judges, "
          "or line ends as on Windows, which sed 's/\\r$//' mends", 8, "checkhops"),
@@ -96,16 +84,11 @@ TABLE = (
          "the network has no demand, link or node of that name, mostly since it is another network; in form 2 a sign stands "
          "before each link's id, one that the links have (a demand of amount 0 is left out)"),
     _row("refused cert2? K4 line N", f"a word is no number of a certificate's form, as one with a zero in front, {_EDITED}"),
-    _row("refused cert K5 line N",
-         f"a number is over its limit, as a layer's index over {MAX_HOPS}, or a path has more than {MAX_PATH_CELLS} links, {_EDITED}", 10, "checkhops"),
-    _row("refused cert2? K5 line N", f"a number is over its limit or a path has more than {MAX_PATH_CELLS} links, {_EDITED}"),
     _row("refused cert2 K6 line [34]",
          "the second certificate reads links or modules otherwise than the first: solve with the same --links and --modules"),
     _row("refused cert2? K6 line 5",
          "the certificate's counts are not those of this network; mostly it is another network, or rows or sections were added "
          "or taken away"),
-    _row("refused cert2? TooLong",
-         "the certificate is over 1 GiB, mostly of very many phases: ask for a greater gap, or for fewer phases"),
     _row("refused script S1 line N",
          "a command has to stand there: set, add, sub, close or show, with a link and a number; mostly a word is missing"),
     _row("refused script S2 line N", "the network has no such link, mostly by a misspelt id, or with a sign, which scripts do not take"),
@@ -149,7 +132,6 @@ TABLE = (
     _row("invalid2? C10", f"the verdict is not that of the gap and of both fractions, {_EDITED}"),
     _row("refused list M1 line N",
          "the list cannot go on as this line does; mostly a matrix lacks its name or its `( )`, or the file is no list"),
-    _row("refused list M2 line N", f"there are more than {MAX_MATRICES} matrices, or more than {MAX_DEMANDS:,} demands in all: cut the list into several"),
     _row("refused list M3 line N",
          "two matrices have one name, or an id stands twice in one matrix, mostly in rows that were copied; the line is that of the second"),
     _row("refused list M4 line N", "an end of a demand is no node of the network, mostly by a misspelt name"),
@@ -183,3 +165,53 @@ TABLE = (
     _row("status 1", "a condition of the certificate fails; the line on standard output names the first one"),
     _row("status 3", "a file is refused; the line on standard output names the kind of the fault and its line"),
 )
+
+
+@lru_cache(maxsize=None)
+def table(limits: Limits) -> tuple[Row, ...]:
+    """All rows, for the program with these limits."""
+    return TABLE + _texts_beyond(limits) + _work_beyond(limits) + _paths_beyond(limits)
+
+
+def _texts_beyond(limits: Limits) -> tuple[Row, ...]:
+    """The rows on texts that are beyond the program's limits; of `mcf` they name those of the other program."""
+    is_wide = limits == WIDE
+    counts = "" if is_wide else f"; {WIDE_NAME} takes {WIDE.nodes:,} nodes and {WIDE.demands:,} demands"
+    size = "" if is_wide else f", or take {WIDE_NAME}, which reads {WIDE.net_bytes >> 20} MiB"
+    longer = "" if is_wide else f"; {WIDE_NAME} reads {WIDE.cert_bytes >> 30} GiB"
+    return (
+        _row("refused net N4 line N",
+             f"there are more than {limits.nodes:,} nodes, {MAX_LINKS:,} links or {limits.demands:,} demands, mostly since demands of the "
+             f"same ends are not merged{counts}"),
+        _row("refused net TooLong",
+             f"the network file is over {limits.net_bytes >> 20} MiB, mostly by sections that are skipped anyway: take them out{size}"),
+        _row("refused cert2? TooLong",
+             f"the certificate is over {limits.cert_bytes >> 30} GiB, mostly of very many phases: ask for a greater gap, or for fewer "
+             f"phases{longer}"),
+        _row("refused list M2 line N",
+             f"there are more than {MAX_MATRICES} matrices, or more than {limits.demands:,} demands in all: cut the list into several"),
+    )
+
+
+def _work_beyond(limits: Limits) -> tuple[Row, ...]:
+    """The rows on work that is beyond the program's limit."""
+    return (
+        _row("refused work W",
+             f"links times demands times phases are over {limits.work:,}, so --phases has to be less, or left out; if it is, the network is "
+             "too large to be solved once for each link, and sweep tells what a certificate is worth without each", 4, "sweepsolve"),
+        _row("refused work W",
+             f"demands of all matrices times phases are over {limits.work:,}, so --phases has to be less, or left out, or the list cut into "
+             "several", 7, "batch"),
+        _row("refused work W",
+             f"demands times phases are over {limits.work:,}, so with so many demands --phases has to be less, or left out", 5),
+    )
+
+
+def _paths_beyond(limits: Limits) -> tuple[Row, ...]:
+    """The rows on numbers and paths that are beyond those of a certificate."""
+    return (
+        _row("refused cert K5 line N",
+             f"a number is over its limit, as a layer's index over {MAX_HOPS}, or a path has more than {limits.path_cells} links, {_EDITED}",
+             10, "checkhops"),
+        _row("refused cert2? K5 line N", f"a number is over its limit or a path has more than {limits.path_cells} links, {_EDITED}"),
+    )

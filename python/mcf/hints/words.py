@@ -8,7 +8,7 @@ from collections.abc import Callable, Iterator
 from dataclasses import dataclass
 from fractions import Fraction
 
-from mcf.limits import MAX_DECIMALS, MAX_DEMANDS, MAX_GAP, MAX_LINKS, MAX_NODES, MAX_PHASES, MAX_STEP, MAX_WORKERS
+from mcf.limits import MAX_DECIMALS, MAX_GAP, MAX_LINKS, MAX_PHASES, MAX_STEP, MAX_WORKERS, NARROW, Limits
 
 MODES = {"--links": ("directed", "undirected", "bidirected"), "--modules": ("none", "largest", "sum")}
 RANGES = {"--phases": (1, MAX_PHASES), "--workers": (1, MAX_WORKERS), "--step": (1, MAX_STEP)}
@@ -17,7 +17,7 @@ ONE_WORKER_OPTIONS = tuple(option for option in OPTIONS if option != "--workers"
 FILES = ("NET", "CERT", "SCRIPT")
 READ_ORDER = ("NET", "CERT", "CERT2", "LIST", "SCRIPT")
 HOP_OPTIONS = ("--hops", "--hop", "--hop-limit", "--max-hops", "--limit")
-DRAWN = {"SEED": (0, 2**64 - 1), "NODES": (2, MAX_NODES), "LINKS": (2, MAX_LINKS), "DEMANDS": (1, MAX_DEMANDS)}
+DRAWN = ("SEED", "NODES", "LINKS", "DEMANDS")
 HELP_WORDS = ("--help", "-h", "--version", "help")
 MOST_GAP = MAX_GAP // 10**MAX_DECIMALS
 
@@ -58,8 +58,8 @@ COMMANDS = {
     "throughput": Command(FILES[:1], ONE_WORKER_OPTIONS),
     "checkthroughput": Command(FILES[:2]),
     "print": Command(FILES[:1]),
-    "gen": Command(tuple(DRAWN)),
-    "trial": Command(tuple(DRAWN), OPTIONS),
+    "gen": Command(DRAWN),
+    "trial": Command(DRAWN, OPTIONS),
 }
 
 
@@ -95,7 +95,12 @@ def listed(names: tuple[str, ...]) -> str:
     return " or ".join([*([", ".join(names[:-1])] if names[1:] else []), *names[-1:]])
 
 
-def read(words: list[str]) -> Request:
+def drawn(limits: Limits) -> dict[str, tuple[int, int]]:
+    """The ranges of the numbers by which a network is drawn."""
+    return {"SEED": (0, 2**64 - 1), "NODES": (2, limits.nodes), "LINKS": (2, MAX_LINKS), "DEMANDS": (1, limits.demands)}
+
+
+def read(words: list[str], limits: Limits = NARROW) -> Request:
     """The request of the words; Misfit at the first one with which no command line of the grammar goes on."""
     if not words:
         raise Misfit(f"a command has to stand there: {listed(tuple(COMMANDS))}; ./mcf --help explains them")
@@ -109,7 +114,7 @@ def read(words: list[str]) -> Request:
     seen: set[str] = set()
     for word in rest:
         if is_plain or word == "-" or not word.startswith("-"):
-            _take_word(name, command, found, word)
+            _take_word(name, command, found, word, limits)
         elif word == "--":
             is_plain = True
         else:
@@ -128,14 +133,14 @@ def _misfit_of_help(words: list[str]) -> Misfit:
     return Misfit(f"{shown(words[0])} is no command: help on one is ./mcf help {known[0] if known else 'COMMAND'}")
 
 
-def _take_word(name: str, command: Command, found: dict[str, str], word: str) -> None:
+def _take_word(name: str, command: Command, found: dict[str, str], word: str, limits: Limits) -> None:
     """One more positional word."""
     if len(found) == len(command.places):
         quotes = ", and a name with a blank stands in quotes" if "NET" in command.words else ""
         raise Misfit(f"{shown(word)} is one word too many: {name} takes {command.taken}{quotes}")
     place = command.places[len(found)]
     if place in DRAWN:
-        least, most = DRAWN[place]
+        least, most = drawn(limits)[place]
         least = int(found["NODES"]) if place == "LINKS" else least
         if not _is_whole(word, least, most):
             raise Misfit(f"{shown(word)} is no {place}, a whole number from {least} to {most} in digits alone")

@@ -13,11 +13,13 @@ from pathlib import Path
 from typing import IO, cast
 
 from mcf import Program, TextError
+from mcf.limits import WIDE_NAME
 from mcf.program import is_old
 from mcf.version import commit_of
 
 from .pages import scripts, titled
 from .sources import package, sources
+from .staged import Release
 
 # whole folders, and files by name, that are shipped as they stand, beside the package and the tools
 SHIPPED = ("VERSION", "LICENSE-APACHE", "LICENSE-MIT", "docs", "examples", "tools/mcf_texts")
@@ -40,10 +42,19 @@ def built_program(root: Path) -> Path:
     raise TextError("the program is missing or older than its sources: run ./mcf once, or name one by --mcf")
 
 
-def files_of(root: Path, program: Path) -> dict[str, tuple[int, bytes]]:
+def built_wide_program(root: Path) -> Path | None:
+    """The program with wide limits that was built and is not older than any source; None where there is none."""
+    wide = root / ".built" / WIDE_NAME
+    return wide if wide.is_file() and not is_old(wide, root / "crates") else None
+
+
+def files_of(release: Release) -> dict[str, tuple[int, bytes]]:
     """Each file of the archive by its name there, with its mode."""
-    files = {"mcf": (0o755, (root / "python/mcf/release/starter.sh").read_bytes()), "program/mcf": (0o755, program.read_bytes()),
-             "README.md": (0o644, (root / "python/mcf/release/README.md").read_bytes())}
+    root = release.root
+    starter = (root / "python/mcf/release/starter.sh").read_bytes()
+    files = {"README.md": (0o644, (root / "python/mcf/release/README.md").read_bytes())}
+    for name, program in release.programs.items():
+        files |= {name: (0o755, starter), f"program/{name}": (0o755, program.read_bytes())}
     files |= {name: (0o644, file.read_bytes()) for name, file in sources(root, *SHIPPED).items()}
     files |= {f"python/mcf/{name}": (0o644, file.read_bytes()) for name, file in package(root).items()}
     tools = [*(name.removeprefix("mcf-") for name in scripts(root)), *BESIDE_TOOLS]
@@ -54,13 +65,13 @@ def files_of(root: Path, program: Path) -> dict[str, tuple[int, bytes]]:
     return {**files, "SHA256SUMS": (0o644, sums.encode())}
 
 
-def archive(root: Path, program: Path, seconds: int) -> tuple[str, bytes]:
-    """The archive's name, without its ending, and its bytes; all files in it have that time."""
-    name = f"mcf-{version_of(root)}-x86_64-linux"
+def archive(release: Release) -> tuple[str, bytes]:
+    """The archive's name, without its ending, and its bytes; all files in it have the release's time."""
+    name, seconds = f"mcf-{version_of(release.root)}-x86_64-linux", release.seconds
     packed = io.BytesIO()
     with gzip.GzipFile(filename="", mode="wb", fileobj=packed, mtime=seconds) as zipped, \
             tarfile.open(fileobj=cast(IO[bytes], zipped), mode="w", format=tarfile.USTAR_FORMAT) as tar:
-        for file, (mode, data) in sorted(files_of(root, program).items()):
+        for file, (mode, data) in sorted(files_of(release).items()):
             info = tarfile.TarInfo(f"{name}/{file}")
             info.size, info.mode, info.mtime, info.uname, info.gname = len(data), mode, seconds, "root", "root"
             tar.addfile(info, io.BytesIO(data))
@@ -76,6 +87,7 @@ def try_archive(name: str, data: bytes, version: str) -> None:
         starter = Program(str(top / "mcf"))
         sums = subprocess.run(["sha256sum", "--quiet", "-c", "SHA256SUMS"], cwd=top, capture_output=True, check=False)
         net, certificate = str(top / "examples/polska.net"), str(top / "examples/polska.cert")
+        wide = Program(str(top / WIDE_NAME)) if (top / WIDE_NAME).is_file() else None
         answers = {
             "checksums": sums.returncode == 0,
             "mcf --version": starter.ask("--version").startswith(f"mcf {version} ("),
@@ -83,6 +95,9 @@ def try_archive(name: str, data: bytes, version: str) -> None:
             "mcf check": starter.check(net, certificate).text.startswith("valid closed undirected largest "),
             "mcf solve": starter.solve(net, "--workers", "1", seconds=60) == Path(certificate).read_text(),
             "tools/show --version": Program(str(top / "tools/show")).ask("--version").startswith(f"mcf {version} ("),
+            "mcf-wide --version": wide is None or wide.ask("--version").startswith(f"mcf-wide {version} ("),
+            "mcf-wide check": wide is None or wide.check(net, certificate).text.startswith("valid closed undirected largest "),
+            "mcf-wide gen": wide is None or wide.ask("gen", "1", "1000", "1000", "1").startswith("?SNDlib native format"),
         }
     wrong = [what for what, is_right in answers.items() if not is_right]
     if wrong:

@@ -21,7 +21,7 @@ _TESTS = "python3-pytest"
 _DOCUMENTS = ("docs/guide.md", "docs/formats.md", "docs/certify.md", "docs/formats")
 _SCRIPT = "#!/usr/bin/python3\nimport sys\n\nfrom {module} import {function}\n\nsys.exit({function}())\n"
 _CHANGES = "mcf ({version}) unstable; urgency=medium\n\n  * Built of commit {commit}.\n\n -- {maintainer}  {time}\n"
-_INSTALL = """program/mcf usr/bin
+_INSTALL = """program/* usr/bin
 bin/* usr/bin
 package/mcf usr/lib/python3/dist-packages
 share/* usr/share
@@ -56,7 +56,7 @@ def lay_out(release: Release, top: Path) -> None:
     for name, entry in scripts(release.root).items():
         module, _, function = entry.partition(":")
         place(top / "bin" / name, _SCRIPT.format(module=module, function=function).encode(), 0o755)
-    for name, text in shared_files(release.root, release.seconds, "vendor-completions").items():
+    for name, text in shared_files(release, "vendor-completions").items():
         place(top / "share" / name, text.encode())
     for name, file in sources(release.root, *_DOCUMENTS, "examples").items():
         place(top / name, file.read_bytes())

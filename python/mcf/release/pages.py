@@ -16,6 +16,7 @@ from mcf.needs import needed
 from mcf.version import version
 
 from .missing import require
+from .staged import Release
 
 TITLE = '.TH MCF 1 "2026" "mcf"'
 _FILES = frozenset({"NET", "NET2", "CERT", "CERT2", "LIST", "SCRIPT", "FILE", "OUT", "PATH", "FROM", "TO"})
@@ -38,9 +39,9 @@ def parsers(root: Path) -> dict[str, argparse.ArgumentParser]:
     return found
 
 
-def program_parser() -> argparse.ArgumentParser:
-    """The words of the proved program, as its hints know them, for completion alone."""
-    parser = argparse.ArgumentParser(prog="mcf", add_help=False)
+def program_parser(name: str) -> argparse.ArgumentParser:
+    """The words of the proved program, or of that with wide limits, as its hints know them, for completion alone."""
+    parser = argparse.ArgumentParser(prog=name, add_help=False)
     commands = parser.add_subparsers(dest="command", metavar="COMMAND")
     for name, command in COMMANDS.items():
         words = commands.add_parser(name, add_help=False, help=command.taken)
@@ -53,15 +54,16 @@ def program_parser() -> argparse.ArgumentParser:
     return parser
 
 
-def shared_files(root: Path, seconds: int, zsh: str) -> dict[str, str]:
+def shared_files(release: Release, zsh: str) -> dict[str, str]:
     """The files below share/ by their names there: pages, and completions of bash and zsh, the latter in a folder of that name."""
     require({"python3-argparse-manpage": "build_manpages", "python3-shtab": "shtab"})
     import shtab
 
-    tools = parsers(root)
-    files = {f"man/man1/{name}.1": page(parser, seconds) for name, parser in tools.items()}
-    files["man/man1/mcf.1"] = titled((root / "docs/mcf.1").read_text("utf-8"), version())
-    for name, parser in {"mcf": program_parser(), **tools}.items():
+    tools = parsers(release.root)
+    files = {f"man/man1/{name}.1": page(parser, release.seconds) for name, parser in tools.items()}
+    files |= {f"man/man1/{name}.1": ".so man1/mcf.1\n" for name in release.programs}
+    files["man/man1/mcf.1"] = titled((release.root / "docs/mcf.1").read_text("utf-8"), version())
+    for name, parser in {**{name: program_parser(name) for name in release.programs}, **tools}.items():
         _prepare(parser, shtab.FILE, shtab.DIRECTORY)
         files[f"bash-completion/completions/{name}"] = _with_all_choices(shtab.complete(parser, "bash"))
         files[f"zsh/{zsh}/_{name}"] = shtab.complete(parser, "zsh")

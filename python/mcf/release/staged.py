@@ -7,6 +7,7 @@ import tempfile
 from dataclasses import dataclass
 from pathlib import Path
 
+from mcf.limits import WIDE_NAME
 from mcf.version import commit_of
 
 from .sources import sources
@@ -16,11 +17,18 @@ AT_TOP = ("VERSION", "LICENSE-APACHE", "LICENSE-MIT")
 
 @dataclass(frozen=True)
 class Release:
-    """What a release is made of: the repository, the program that was built, and the time that all files get."""
+    """What a release is made of: the repository, the program that was built, and the one with wide limits, if it is shipped too; and the
+    time that all files get."""
 
     root: Path
     program: Path
     seconds: int
+    wide: Path | None = None
+
+    @property
+    def programs(self) -> dict[str, Path]:
+        """The programs by their names."""
+        return {"mcf": self.program, **({WIDE_NAME: self.wide} if self.wide else {})}
 
     @property
     def commit(self) -> str:
@@ -29,13 +37,14 @@ class Release:
 
 
 def staged(release: Release, top: Path) -> None:
-    """Lays the folder out as a source distribution has it, with the program as program/mcf."""
+    """Lays the folder out as a source distribution has it, with the program as program/mcf, and program/mcf-wide if that is shipped too."""
     for name, file in sources(release.root, "python").items():
         place(top / Path(name).relative_to("python"), file.read_bytes())
     for name in AT_TOP:
         place(top / name, (release.root / name).read_bytes())
     place(top / "COMMIT", f"{release.commit}\n".encode())
-    place(top / "program/mcf", release.program.read_bytes(), 0o755)
+    for name, program in release.programs.items():
+        place(top / "program" / name, program.read_bytes(), 0o755)
     for name, data in kernel_in(release).items():
         place(top / "mcf" / name, data)
 

@@ -20,7 +20,7 @@ def wheel(release: Release) -> tuple[str, bytes]:
     with tempfile.TemporaryDirectory() as room:
         top, out = Path(room, "mcf"), Path(room, "out")
         staged(release, top)
-        for name, text in shared_files(release.root, release.seconds, "site-functions").items():
+        for name, text in shared_files(release, "site-functions").items():
             place(top / "share" / name, text.encode())
         words = [sys.executable, "-I", "-B", "-m", "hatchling", "build", "--target", "wheel", "--directory", str(out)]
         ran = subprocess.run(words, cwd=top, env=environment(release), capture_output=True, text=True, check=False)

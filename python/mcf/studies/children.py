@@ -16,12 +16,12 @@ from dataclasses import dataclass
 from typing import BinaryIO
 
 from ..errors import TextError
-from ..program import find_program
+from ..program import find_program, wide_for
 
 _WATCH = "trap '' INT TERM HUP; read -r end; kill -s TERM 0; sleep 0.1; kill -s TERM 0"
 _NULL = ((os.POSIX_SPAWN_OPEN, 0, os.devnull, os.O_RDONLY, 0), (os.POSIX_SPAWN_OPEN, 2, os.devnull, os.O_WRONLY, 0))
 _DEFAULT = (signal.SIGINT, signal.SIGTERM, signal.SIGHUP, signal.SIGPIPE)
-_NO_MEMORY = 6
+_REFUSED, _NO_MEMORY = 3, 6
 _here = threading.local()
 
 
@@ -31,10 +31,11 @@ class Ended(Exception):
 
 @dataclass(frozen=True)
 class Answer:
-    """The status of a command and what it wrote."""
+    """The status of a command, what it wrote, and the path of the program that answered."""
 
     status: int
     data: bytes
+    program: str = "mcf"
 
     @property
     def line(self) -> str:
@@ -53,25 +54,32 @@ class Program:
                                        stderr=subprocess.DEVNULL, process_group=0)
 
     def run(self, command: str, options: Sequence[str], *texts: bytes) -> Answer:
-        """Runs a command on texts, which it reads as files; Ended where it gives no answer."""
+        """Runs a command on texts, which it reads as files; Ended where it gives no answer. What is beyond the limits of `mcf` is given to
+        `mcf-wide`, if it is there."""
+        answer = self._answer(self.path, command, options, texts)
+        wide = wide_for(self.path, answer.line, tell=False) if answer.status == _REFUSED else None
+        return self._answer(wide.path, command, options, texts) if wide else answer
+
+    def _answer(self, path: str, command: str, options: Sequence[str], texts: Sequence[bytes]) -> Answer:
+        """The answer of the program at a path."""
         with contextlib.ExitStack() as stack:
             out, *files = [stack.enter_context(in_memory(text)) for text in (b"", *texts)]
-            status = self._status([self.path, command, *options, "--", *map(path_of, files)], out.fileno())
+            status = self._status([path, command, *options, "--", *map(path_of, files)], out.fileno())
             out.seek(0)
             data = out.read()
         if status < 0:
             raise Ended(f"mcf {command} was ended by {signal.Signals(-status).name}")
         if status == _NO_MEMORY:
             raise Ended(f"mcf {command}: out of memory")
-        return Answer(status, data)
+        return Answer(status, data, path)
 
     def _status(self, words: list[str], out: int) -> int:
         """The status of a run, or the negative number of the signal that ended it."""
         actions = (*_NULL, (os.POSIX_SPAWN_DUP2, out, 1))
         try:
-            child = os.posix_spawn(self.path, words, self._environment, file_actions=actions, setpgroup=self._watch.pid, setsigdef=_DEFAULT)
+            child = os.posix_spawn(words[0], words, self._environment, file_actions=actions, setpgroup=self._watch.pid, setsigdef=_DEFAULT)
         except OSError as fault:
-            raise TextError(f"{self.path}: {fault.strerror}") from None
+            raise TextError(f"{words[0]}: {fault.strerror}") from None
         try:
             _, status = os.waitpid(child, 0)
         except BaseException:

@@ -175,7 +175,7 @@ def judged(mcf: Program, text: bytes, certificate: bytes) -> Found:
 def refused(command: str, answer: Answer, text: bytes) -> Found:
     """A refusal of the program with what it means; Ended where a file was not read or written, TextError where the words are wrong."""
     if answer.status == 3:
-        return Found(REFUSED, f"{answer.line}: {sentence_of(answer.line, command, {'net': text})}")
+        return Found(REFUSED, f"{answer.line}: {sentence_of(answer.line, command, {'net': text}, answer.program)}")
     if answer.status == 2:
         raise TextError(f"mcf {command} does not take these options")
     raise Ended(f"mcf {command} says: {answer.line or f'status {answer.status}'}")

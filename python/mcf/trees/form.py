@@ -5,7 +5,7 @@ from __future__ import annotations
 from dataclasses import dataclass
 
 from mcf import Program, TextError
-from mcf.limits import MAX_DEMANDS, MAX_LINKS, MAX_NET_BYTES, MAX_NODES, Wide
+from mcf.limits import MAX_LINKS, NARROW, WIDE, WIDE_NAME
 from mcf.output import contents
 from mcf.program import find_wide_program
 
@@ -53,10 +53,11 @@ def _judge(program: Program, network: Large, size: int) -> Program:
     """The program, or that with wide limits where the network is beyond the other's."""
     counts = network.counts
     demands = counts.commodities + counts.left
-    if counts.nodes <= MAX_NODES and demands <= MAX_DEMANDS and size <= MAX_NET_BYTES and len(network.capacity) <= 2 * MAX_LINKS:
+    fits = counts.nodes <= NARROW.nodes and demands <= NARROW.demands and size <= NARROW.net_bytes
+    if fits and len(network.capacity) <= 2 * MAX_LINKS:
         return program
     wide = find_wide_program(program)
     if wide is None:
-        raise TextError(f"{counts.nodes:,} nodes and {demands:,} demands are beyond the limits of {program.path}, {MAX_NODES} and "
-                        f"{MAX_DEMANDS:,}; ./mcf-wide is the program with wide limits, {Wide.MAX_NODES:,} and {Wide.MAX_DEMANDS:,}: MCF_WIDE names one")
+        raise TextError(f"{counts.nodes:,} nodes and {demands:,} demands are beyond the limits of {program.path}, {NARROW.nodes:,} and "
+                        f"{NARROW.demands:,}; {WIDE_NAME} takes {WIDE.nodes:,} and {WIDE.demands:,}: MCF_WIDE names one")
     return wide
