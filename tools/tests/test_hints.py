@@ -394,7 +394,7 @@ def test_every_row_of_the_table_is_reached() -> None:
 def test_every_refusal_and_condition_of_the_formats_has_a_row(root: Path) -> None:
     text = (root / "docs/judge/formats.md").read_text()
     kinds = re.findall(r"^\| `([NKSCM][0-9]+)` \|", text, re.M)
-    assert len(kinds) == 61 and {kind[0] for kind in kinds} == set("NKSCM")
+    assert len(kinds) == len(set(kinds)) == 41 and {kind[0] for kind in kinds} == set("NKSCM")
     of = {"N": "refused net {} line 1", "K": "refused cert {} line 1", "S": "refused script {} line 1", "M": "refused list {} line 1", "C": "invalid {}"}
     for kind in set(kinds) - {"N1"}:
         line = of[kind[0]].format(kind) if kind != "K6" else "refused cert K6 line 5"
