@@ -229,7 +229,7 @@ class Answer:
     def to_json(self, *, tables: bool = True, indent: int | None = None) -> str:
         """JSON of what it says: exact fractions as strings, floats beside. `tables` adds links, demands and paths.
 
-        docs/json.md explains its properties, and `mcf.jsons.schema("answer")` has their grammar.
+        docs/study/json.md explains its properties, and `mcf.jsons.schema("answer")` has their grammar.
         """
         said: dict[str, Any] = {
             "version": version.version(), "commit": _commit(), "kind": self.kind, "judged": self.judged.line if self.judged else None,

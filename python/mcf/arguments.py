@@ -20,7 +20,7 @@ class Arguments(argparse.ArgumentParser):
         self.register("action", "store", _Once)
         self.add_argument("--version", action=_Version, help="the version and the commit that it was built of, and nothing else")
         # (`jsons` looks for it among the words before they are read, since what is wrong with them is told in the object too)
-        self.add_argument(jsons.OPTION, action=_Nothing, nargs=0, help="say all as one JSON object on standard output (docs/json.md)")
+        self.add_argument(jsons.OPTION, action=_Nothing, nargs=0, help="say all as one JSON object on standard output (docs/study/json.md)")
 
     def error(self, message: str) -> NoReturn:
         """Ends with one line."""

@@ -15,8 +15,8 @@ if TYPE_CHECKING:
 class TextError(ValueError):
     """A text, a name or a program that is not what was expected; the message is one line for the user.
 
-    kind: a word for what sort of trouble it is, as docs/json.md lists them. code: that of a refusal or of a failed condition, as `N4` or
-    `C3`. file, line: where it lies. Each of these is None where it is not known.
+    kind: a word for what sort of trouble it is, as docs/study/json.md lists them. code: that of a refusal or of a failed condition, as
+    `N4` or `C3`. file, line: where it lies. Each of these is None where it is not known.
     """
 
     kind: str = "text"
@@ -50,8 +50,8 @@ class Usage(McfError):
 class Refused(McfError):
     """Status 3: a text is refused for its first fault, or more work is asked for than is taken.
 
-    kind: `N1` to `N11`, `K1` to `K6`, `S1` to `S6`, `M1` to `M8` or `TooLong`, as docs/formats.md lists them; `work`; or `convert`, if a
-        file of another format could not be made a network.
+    kind: `N1` to `N11`, `K1` to `K6`, `S1` to `S6`, `M1` to `M8` or `TooLong`, as docs/judge/formats.md lists them; `work`; or `convert`, if
+        a file of another format could not be made a network.
     file: which text: `net`, `cert`, `cert2`, `script`, `list` or `work`; the path, if a file was read.
     line: the line of that text, from 1; None where the kind has none.
     sentence: what the kind means and what mostly causes it.

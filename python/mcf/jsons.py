@@ -1,7 +1,7 @@
 """What a tool says: sentences for people or, with --json, one JSON object for programs on standard output.
 
 A tool says its sentences by `say`, what is told on standard error by `note`, and the values that both are made of by `put`. `output`
-begins and ends the object, so each end of each tool has one. docs/json.md explains its properties, and `schema` has their grammar.
+begins and ends the object, so each end of each tool has one. docs/study/json.md explains its properties, and `schema` has their grammar.
 
 A fraction is an object of its exact string and of the nearest float; a `Range` one of `lower` and `upper`.
 """

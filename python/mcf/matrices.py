@@ -1,6 +1,6 @@
 """Lists of demand matrices, the network that one of them gives, and what `batch` wrote for a list.
 
-All texts are cut where docs/formats.md says that their parts begin and end, and stay otherwise as they are.
+All texts are cut where docs/judge/formats.md says that their parts begin and end, and stay otherwise as they are.
 """
 
 from __future__ import annotations

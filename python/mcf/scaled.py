@@ -1,4 +1,4 @@
-"""A network in whole units: cells of links by link mode, and commodities, as docs/formats.md has them."""
+"""A network in whole units: cells of links by link mode, and commodities, as docs/judge/formats.md has them."""
 
 from __future__ import annotations
 

@@ -65,7 +65,7 @@ def small_repository(root: Path, tmp_path: Path) -> Path:
     """A git repository with what releases are made of, and without crates, tests and most documents."""
     top = tmp_path / "repository"
     shutil.copytree(root / "python", top / "python", ignore=shutil.ignore_patterns("__pycache__", ".*"))
-    for name in ("VERSION", "LICENSE-APACHE", "LICENSE-MIT", "docs/mcf.1", "docs/guide.md", "examples/triangle.net", "tools/setup"):
+    for name in ("VERSION", "LICENSE-APACHE", "LICENSE-MIT", "docs/mcf.1", "docs/planner/guide.md", "examples/triangle.net", "tools/setup"):
         (top / name).parent.mkdir(exist_ok=True)
         shutil.copy(root / name, top / name)
     who = ["-c", "user.name=A", "-c", "user.email=a@b", "-c", "commit.gpgsign=false"]

@@ -1,4 +1,4 @@
-"""Judges certificates with hop limits and of a total by the ten conditions of docs/formats.md, in exact numbers, beside the program."""
+"""Judges certificates with hop limits and of a total by the conditions of docs/judge/formats.md, in exact numbers, beside the program."""
 
 from __future__ import annotations
 

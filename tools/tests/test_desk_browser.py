@@ -1,4 +1,4 @@
-"""A desk in a real browser: a planner's clicks, the questions of docs/hour.md, the keyboard, a phone, and the pictures of the guide."""
+"""A desk in a real browser: a planner's clicks, the questions of docs/planner/hour.md, the keyboard, a phone, and the guide's pictures."""
 
 from __future__ import annotations
 
@@ -15,7 +15,7 @@ from desks import EXAMPLES, ROOT, Running, as_shown, browser, desk, wait
 from mcf import Program
 from views import CONTRAST, View
 
-HOUR = (ROOT / "docs/hour.md").read_text("utf-8")
+HOUR = (ROOT / "docs/planner/hour.md").read_text("utf-8")
 # the elements of a selector that are to be seen, also by who reads with a screen reader
 THERE = """return [...document.querySelectorAll(arguments[0])].filter((e) =>
   e.checkVisibility() && (e.tagName === 'SUMMARY' || !e.closest('details:not([open])')))"""

@@ -1,4 +1,4 @@
-"""Every line of docs/certify.md that can be typed answers what the page says."""
+"""Every line of docs/judge/certify.md that can be typed answers what the page says."""
 
 from __future__ import annotations
 
@@ -33,7 +33,7 @@ def test_the_page_says_what_happens(program: Program, root: Path, tmp_path: Path
         (tmp_path / name).symlink_to(root / name)
     (tmp_path / "mcf").symlink_to(program.path)
     environment = {**os.environ, "MCF": program.path}
-    commands = typed((root / "docs/certify.md").read_text())
+    commands = typed((root / "docs/judge/certify.md").read_text())
     assert len(commands) >= 10
     for command, output in commands:
         done = subprocess.run(["sh", "-c", command], cwd=tmp_path, env=environment, stdout=subprocess.PIPE, stderr=subprocess.STDOUT,

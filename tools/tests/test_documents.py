@@ -43,7 +43,7 @@ COMMANDS = ("batch", "check", "checkhops", "checkthroughput", "gen", "hops", "pr
 
 
 def test_each_command_has_a_page(root: Path) -> None:
-    assert sorted(page.stem for page in (root / "docs/formats").glob("*.md")) == sorted(["README", *COMMANDS])
+    assert sorted(page.stem for page in (root / "docs/judge/formats").glob("*.md")) == sorted(["README", *COMMANDS])
 
 
 def test_the_manual_has_all_commands_and_options(root: Path) -> None:
@@ -57,7 +57,8 @@ def test_the_manual_has_all_commands_and_options(root: Path) -> None:
     assert [option.replace("\\-", "-") for option in re.findall(r"^\.TP\n\.B[RI]+ (\S+)", options, re.M)] == list(OPTIONS)
 
 
-@pytest.mark.parametrize("document, least", [("README.md", 5), ("docs/guide.md", 25), ("docs/json.md", 1), ("docs/show.md", 4), *((f"docs/formats/{name}.md", 1) for name in COMMANDS)])
+@pytest.mark.parametrize("document, least", [("README.md", 5), ("docs/planner/guide.md", 60), ("docs/study/json.md", 1), ("docs/judge/show.md", 4),
+                                             *((f"docs/judge/formats/{name}.md", 1) for name in COMMANDS)])
 def test_commands_give_what_is_shown(room: Path, root: Path, program: Program, monkeypatch: pytest.MonkeyPatch, document: str,
                                      least: int) -> None:
     monkeypatch.setenv("MCF", program.path)

@@ -126,7 +126,7 @@ def test_first_word_that_does_not_fit(line: str, said: str) -> None:
         read(line.split())
     assert str(misfit.value).startswith(said)
     told = hint(2, "/nothing", line.split(), 99)
-    assert told is not None and told.startswith(f"hint: usage: {said}") and told.endswith(" (docs/guide.md, part 10)")
+    assert told is not None and told.startswith(f"hint: usage: {said}") and told.endswith(" (docs/planner/guide.md, part 10)")
 
 
 @pytest.mark.parametrize("line", ["solve n --hops 3", "solve --hops=3 n", "hops n --hops 3", "hops n --max-hops 3", "checkhops a b --hop 3",
@@ -135,7 +135,7 @@ def test_a_hop_limit_is_told_to_be_a_word_of_a_demand(line: str) -> None:
     option = next(word for word in line.replace("=", " ").split() if word.startswith("--"))
     told = hint(2, "/nothing", line.split(), 99)
     assert told == (f"hint: usage: `{option}` is no option of {line.split()[0]}: the hop limit of a demand is the last word of its row in the "
-                    "network's file, and hops keeps it (docs/guide.md, part 8)")
+                    "network's file, and hops keeps it (docs/planner/guide.md, part 8)")
 
 
 @pytest.mark.parametrize("line", FITS)
@@ -144,7 +144,7 @@ def test_words_that_fit(line: str) -> None:
 
 
 def test_usage_of_words_that_fit_here_is_told_without_a_word() -> None:
-    assert hint(2, "/nothing", ["print", "x"], 99) == f"hint: usage: {USAGE} (docs/guide.md, part 10)"
+    assert hint(2, "/nothing", ["print", "x"], 99) == f"hint: usage: {USAGE} (docs/planner/guide.md, part 10)"
 
 
 GOOD = {
@@ -186,7 +186,7 @@ def test_words_are_judged_as_by_the_program(program: Program, tmp_path: Path) ->
 
 
 def test_commands_and_options_are_those_of_the_formats(root: Path) -> None:
-    text = (root / "docs/formats.md").read_text()
+    text = (root / "docs/judge/formats.md").read_text()
     part = text[text.index("## Words of the command line"):text.index("## Answers")]
     options = {"none": (), "those below": OPTIONS, "those below but `--workers`": ONE_WORKER_OPTIONS}
     rows = re.findall(r"^\| `(\w+)` \| ([A-Z0-9\[\] ]+) \| (none|those below.*) \|$", part, re.M)
@@ -353,7 +353,7 @@ trial 1 2 2 1     | 1 | trial nodes             | more --phases
 sweepsolve net    | 1 | sweep L1 open           | without some link
 sweepsolve net    | 1 | sweep L1 open           | a greater --step closes sooner
 sweepsolve net    | 1 | sweep L1 open           | without it and tighten the certificate, or take tools/certify
-check net cert    | 3 | refused cert X9 line 1  | docs/formats.md tells
+check net cert    | 3 | refused cert X9 line 1  | docs/judge/formats.md tells
 check net cert    | 1 | something else          | names the first one
 check net cert    | 3 | something else          | names the kind
 """.splitlines()]
@@ -380,7 +380,7 @@ def test_line_has_its_hint(tmp_path: Path, monkeypatch: pytest.MonkeyPatch, word
               "something else": f"status {status}"}
     others |= {"mcf-hops 1": "verdict open", "mcf-throughput 1": "total open"}
     named = "best open" if words.startswith("tighten") and line in others else others.get(line, line)
-    assert told is not None and re.fullmatch(rf"hint: {named}: [^\n]+ \(docs/guide\.md, part (?:[1-9]|10)\)", told)
+    assert told is not None and re.fullmatch(rf"hint: {named}: [^\n]+ \(docs/planner/guide\.md, part (?:[1-9]|10)\)", told)
     assert said in told
 
 
@@ -392,9 +392,9 @@ def test_every_row_of_the_table_is_reached() -> None:
 
 
 def test_every_refusal_and_condition_of_the_formats_has_a_row(root: Path) -> None:
-    text = (root / "docs/formats.md").read_text()
+    text = (root / "docs/judge/formats.md").read_text()
     kinds = re.findall(r"^\| `([NKSCM][0-9]+)` \|", text, re.M)
-    assert len(kinds) == 61 and {kind[0] for kind in kinds} == set("NKSCM")
+    assert len(kinds) == len(set(kinds)) == 41 and {kind[0] for kind in kinds} == set("NKSCM")
     of = {"N": "refused net {} line 1", "K": "refused cert {} line 1", "S": "refused script {} line 1", "M": "refused list {} line 1", "C": "invalid {}"}
     for kind in set(kinds) - {"N1"}:
         line = of[kind[0]].format(kind) if kind != "K6" else "refused cert K6 line 5"
@@ -402,7 +402,7 @@ def test_every_refusal_and_condition_of_the_formats_has_a_row(root: Path) -> Non
 
 
 def test_parts_of_the_guide_are_there(root: Path) -> None:
-    parts = {int(number) for number in re.findall(r"^## ([0-9]+)\. ", (root / "docs/guide.md").read_text(), re.M)}
+    parts = {int(number) for number in re.findall(r"^## ([0-9]+)\. ", (root / "docs/planner/guide.md").read_text(), re.M)}
     assert {row.part for row in TABLE} | {1, 10} <= parts
 
 
@@ -439,7 +439,7 @@ def test_a_file_that_cannot_be_read_is_named(tmp_path: Path, monkeypatch: pytest
     monkeypatch.chdir(tmp_path)
     Path("net").write_bytes(NET)
     Path("folder").mkdir()
-    assert hint(4, "/nothing", words, 99) == f"hint: read fault: {said} (docs/guide.md, part 10)"
+    assert hint(4, "/nothing", words, 99) == f"hint: read fault: {said} (docs/planner/guide.md, part 10)"
 
 
 def test_tools_that_call_the_starter_get_no_hints(tmp_path: Path, monkeypatch: pytest.MonkeyPatch) -> None:
@@ -544,6 +544,6 @@ def judged(case: Path, status: int, wrote: str, said: str) -> int:
     if status == 1 and not wrote.startswith("invalid"):
         opens = {"batch": "some matrix open", "sweepsolve": "some link open", "tighten": "best open", "throughput": "total open"}
         line = opens.get(case.parent.name, "verdict open")
-    assert re.fullmatch(rf"hint: {re.escape(line)}: [^\n]+ \(docs/guide\.md, part (?:[1-9]|10)\)\n", said), (case, line, said)
-    assert USAGE not in said and "docs/formats.md tells" not in said, (case, said)
+    assert re.fullmatch(rf"hint: {re.escape(line)}: [^\n]+ \(docs/planner/guide\.md, part (?:[1-9]|10)\)\n", said), (case, line, said)
+    assert USAGE not in said and "docs/judge/formats.md tells" not in said, (case, said)
     return 1

@@ -1,4 +1,4 @@
-"""docs/hour.md: each line in it is run, and gives what stands below it."""
+"""docs/planner/hour.md: each line in it is run, and gives what stands below it."""
 
 from __future__ import annotations
 
@@ -12,7 +12,7 @@ import pytest
 from mcf import Program
 
 ROOT = Path(__file__).resolve().parents[2]
-HOUR = ROOT / "docs/hour.md"
+HOUR = ROOT / "docs/planner/hour.md"
 BLOCK = re.compile(r"```text\n(.*?)```", re.DOTALL)
 
 
@@ -50,7 +50,7 @@ def test_the_hour_is_what_its_lines_give(tmp_path: Path, program: Program):
 
 
 def test_pictures_of_the_documents_are_there_and_small():
-    for document in ROOT.glob("docs/*.md"):
+    for document in ROOT.glob("docs/**/*.md"):
         for name in re.findall(r"!\[[^\]]*\]\(([^)]+)\)", document.read_text("utf-8")):
             picture = (document.parent / name).read_bytes()
             assert picture.startswith(b"\x89PNG") and len(picture) < 150_000

@@ -1,4 +1,4 @@
-"""`--json`: each end of each tool is one object, which its schema describes and docs/json.md explains."""
+"""`--json`: each end of each tool is one object, which its schema describes and docs/study/json.md explains."""
 
 from __future__ import annotations
 
@@ -209,6 +209,6 @@ def test_each_tool_has_a_schema() -> None:
 
 @pytest.mark.parametrize("name", [*SHARED, *API, *TOOLS])
 def test_the_document_names_each_property(name: str) -> None:
-    text = (ROOT / "docs/json.md").read_text()
+    text = (ROOT / "docs/study/json.md").read_text()
     named = set(re.findall(r"`([A-Za-z0-9_]+)`", text))
     assert set(properties_of(json.loads((SCHEMAS / f"{name}.json").read_text()))) <= named

@@ -1,4 +1,4 @@
-"""The notebook docs/notebook.ipynb: it runs, prints what stands in it, and its certificate is checked by others."""
+"""The notebook docs/study/notebook.ipynb: it runs, prints what stands in it, and its certificate is checked by others."""
 
 from __future__ import annotations
 
@@ -31,7 +31,7 @@ def shown(cell: Any) -> list[str]:
 @pytest.fixture
 def stored(root: Path) -> Any:
     """The notebook as it stands."""
-    return nbformat.read(root / "docs/notebook.ipynb", 4)
+    return nbformat.read(root / "docs/study/notebook.ipynb", 4)
 
 
 def test_it_has_few_lines_and_needs_the_package_alone(stored: Any) -> None:

@@ -36,7 +36,7 @@ def test_archive_has_what_a_receiver_needs(root: Path, tmp_path: Path) -> None:
     name, data = archive(Release(root, STANDS_IN, 1_000_000_000))
     top = unpacked(data, tmp_path)
     assert top.name == name == f"mcf-{version_of(root)}-x86_64-linux"
-    for file in ("mcf", "program/mcf", "docs/mcf.1", "docs/guide.md", "docs/formats.md", "LICENSE-APACHE", "LICENSE-MIT", "README.md",
+    for file in ("mcf", "program/mcf", "docs/mcf.1", "docs/planner/guide.md", "docs/judge/formats.md", "LICENSE-APACHE", "LICENSE-MIT", "README.md",
                  "VERSION", "SHA256SUMS", "python/mcf/hints/starter.sh", "python/mcf/hints/help/solve.txt",
                  "python/mcf/hints/__main__.py", "python/mcf/__init__.py", "python/mcf/network.py", "python/mcf/graph.py", "python/mcf/COMMIT",
                  "tools/mcf_texts/__init__.py", "tools/mcf_texts/graph.py", "examples/polska.net", "examples/polska.cert"):
@@ -195,7 +195,7 @@ def test_release_of_the_program_works_where_it_is_unpacked(program: Program, roo
     env = {**os.environ, "PATH": f"{tmp_path}/bin:{os.environ['PATH']}", "MCF_HINTS": "1"}
     said = subprocess.run(["mcf", "solve", "none.net"], env=env, cwd=tmp_path, capture_output=True, text=True)
     assert (said.returncode, said.stdout) == (4, "read fault\n")
-    assert said.stderr == "hint: read fault: `none.net` does not exist (docs/guide.md, part 10)\n"
+    assert said.stderr == "hint: read fault: `none.net` does not exist (docs/planner/guide.md, part 10)\n"
     shutil.copy(root / "examples/triangle.routing", tmp_path / "r")
     text = (tmp_path / "r").read_text().replace("scale 2 3", "scale 1 1")
     (tmp_path / "r").write_text(text)

@@ -151,7 +151,7 @@ def test_the_package_of_the_wheel_finds_its_program(installed: Installed) -> Non
 
 
 def test_the_lines_of_the_notebook_need_nothing_but_the_wheel(installed: Installed, root: Path) -> None:
-    cells = json.loads((root / "docs/notebook.ipynb").read_text())["cells"]
+    cells = json.loads((root / "docs/study/notebook.ipynb").read_text())["cells"]
     code = "\n".join("".join(cell["source"]) for cell in cells if cell["cell_type"] == "code")
     said = installed.said("python", "-I", "-c", f"import matplotlib; matplotlib.use('Agg')\n{code}")
     assert "judged valid" in said and said.splitlines()[-1] == "valid"

@@ -256,7 +256,7 @@ def rounded(value: Fraction) -> str:
 
 
 class Texts:
-    """What two texts say, cut into words and taken as fractions, by the words of docs/formats.md alone."""
+    """What two texts say, cut into words and taken as fractions, by the words of docs/judge/formats.md alone."""
 
     def __init__(self, net: str, text: str) -> None:
         """Cuts both texts."""

@@ -1,4 +1,4 @@
-"""`tools/study` on Slurm: its own daemons, from Debian's packages, with workers that `sbatch` starts, as docs/studies.md says."""
+"""`tools/study` on Slurm: its own daemons, from Debian's packages, with workers that `sbatch` starts, as docs/study/studies.md says."""
 
 from __future__ import annotations
 

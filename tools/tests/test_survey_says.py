@@ -83,7 +83,7 @@ def test_the_worst_of_abilene_cuts_a_node_off(program: Program, tmp_path: Path) 
 
 
 def alps(program: Program, room: Path) -> tuple[Path, Path]:
-    """The network of docs/hour.md with its certificate."""
+    """The network of docs/planner/hour.md with its certificate."""
     words = ["examples/alps.graphml", "examples/alps.csv", str(room / "alps.net"), "--unit", "Gbit", "--from-unit", "Gbit"]
     subprocess.run(["tools/convert", *words, "--capacity-default", "10G"], cwd=ROOT, capture_output=True, check=True)
     return room / "alps.net", solved(program, room / "alps.net", room)

@@ -11,7 +11,7 @@ from typing import Any
 
 from desks import ROOT, Running, wait
 
-PICTURES = ROOT / "docs"
+PICTURES = ROOT / "docs/planner"
 _SAYS = b"Description"
 
 

@@ -10,7 +10,7 @@ Examples:
   tools/show NET CERT --rows 1000                         with more rows of each table
   tools/show NET day.certs --list day.list                a row for each matrix
   mcf sweep NET CERT | tools/show NET -                   - is standard input
-  tools/show NET CERT --json                              all of it for programs (docs/json.md)
+  tools/show NET CERT --json                              all of it for programs (docs/study/json.md)
 
 Status: 0 shown; 1 a certificate or routing is not valid, and why is told; 2 trouble, told in one line; 130 interrupted
 """

@@ -25,7 +25,7 @@ examples:
   study abilene.net --matrices day.tgz --failures links          288 matrices of a day, each with each link closed
   study polska.net --groups conduits.csv --grow 1,1.1,1.21       links that fail together, and growth
   study polska.net --failures links --routing best,ecmp,hops     today's routing beside the best
-  study big.net --failures pairs --scheduler tcp://head:8786     on a cluster of Dask, which docs/studies.md shows how to make
+  study big.net --failures pairs --scheduler tcp://head:8786     on a cluster of Dask, which docs/study/studies.md shows how to make
   study show 3f2a --network worst.net > worst.cert               the certificate of a scenario that was kept by --keep
 
 What is done is kept in the file of --store as it comes; the same command goes on where it was, whatever ended it, and a wider one

@@ -10,7 +10,7 @@ from .table import Row, table
 from .told import line_of
 from .words import Misfit, Request, read, shown
 
-UNKNOWN = "docs/formats.md tells what is refused so, under this kind"
+UNKNOWN = "docs/judge/formats.md tells what is refused so, under this kind"
 USAGE = "the words are not in the grammar: compare them with ./mcf help COMMAND"
 UNWRITTEN = ("standard output took no more, mostly since the disk is full or a reader went away: what was written is cut off, "
              "and no answer")
@@ -40,7 +40,7 @@ def hint(status: int, program: str, words: list[str], output: int) -> str | None
 
 def _told(line: str, sentence: str, part: int) -> str:
     """The hint's one line."""
-    return f"hint: {line}: {sentence} (docs/guide.md, part {part})"
+    return f"hint: {line}: {sentence} (docs/planner/guide.md, part {part})"
 
 
 def explained(line: str, words: list[str], limits: Limits = NARROW) -> str:

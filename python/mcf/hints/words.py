@@ -1,4 +1,4 @@
-"""The words of the command line, as docs/formats.md has them, and the first one that does not fit."""
+"""The words of the command line, as docs/judge/formats.md has them, and the first one that does not fit."""
 
 from __future__ import annotations
 

@@ -18,7 +18,7 @@ from .sources import package, sources
 from .staged import Release, environment, kernel_in, last_line, place, staged
 
 _TESTS = "python3-pytest"
-_DOCUMENTS = ("docs/guide.md", "docs/formats.md", "docs/certify.md", "docs/formats")
+_DOCUMENTS = ("docs/planner", "docs/study", "docs/judge")
 _SCRIPT = "#!/usr/bin/python3\nimport sys\n\nfrom {module} import {function}\n\nsys.exit({function}())\n"
 _CHANGES = "mcf ({version}) unstable; urgency=medium\n\n  * Built of commit {commit}.\n\n -- {maintainer}  {time}\n"
 _INSTALL = """program/* usr/bin

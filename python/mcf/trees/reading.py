@@ -1,4 +1,4 @@
-"""Network texts as arrays, as docs/formats.md has their grammar: what is read here is what `mcf` reads.
+"""Network texts as arrays, as docs/judge/formats.md has their grammar: what is read here is what `mcf` reads.
 
 What does not fit is not told here: `Odd` says that there is something, and the proved program is asked what.
 """
