@@ -6,7 +6,6 @@ import errno
 import os
 import re
 import shutil
-import signal
 import subprocess
 import sysconfig
 import tempfile
@@ -98,8 +97,10 @@ class Program:
 
 def _no_answer(words: Sequence[str], answer: Answer) -> TextError:
     """The error of a command that ended without an answer."""
-    fault = TextError(f"mcf {words[0]}: {explained(answer.line, [*words]) if answer.line else _silent(answer.status)}")
-    return refused_at(fault, answer.line, files_of([*words])) if answer.line else fault.at(kind="program")
+    if answer.status < 0 or not answer.line:
+        # (what a program wrote that was ended by a signal is a part of something)
+        return TextError(f"mcf {words[0]}: {silent(answer.status)}").at(kind="program")
+    return refused_at(TextError(f"mcf {words[0]}: {explained(answer.line, [*words])}"), answer.line, files_of([*words]))
 
 
 def refused_at(fault: _Fault, said: str, files: Mapping[str, str]) -> _Fault:
@@ -173,10 +174,10 @@ def is_old(program: Path, crates: Path) -> bool:
     return any(file.stat().st_mtime_ns > time for file in sources)
 
 
-def _silent(status: int) -> str:
+def silent(status: int) -> str:
     """What is said of an end without a line."""
     if status < 0:
-        return f"ended by {signal.Signals(-status).name}"
+        return f"ended by {children.signal_name(-status)}"
     return "it could not be started, or took no words that are not UTF-8: status 7" if status == 7 else f"status {status}"
 
 
