@@ -48,7 +48,7 @@ def _require_options(options: dict[str, Any]) -> None:
             raise ValueError(f"there is no option {name!r}; there are {', '.join(_OPTIONS)}")
         if name in _CHOICES and (value not in _CHOICES[name] or isinstance(value, bool) != (name == "merge")):
             raise ValueError(f"{name} is {' or '.join(map(str, _CHOICES[name]))}, and not {brief(value, repr)}")
-        if name in ("capacity", "capacity_default") and not isinstance(value, str):
+        if name in ("capacity", "capacity_default") and not isinstance(value, (str, type(None))):
             raise ValueError(f"{name} is a str, and not {brief(value, repr)}")
 
 
@@ -97,7 +97,7 @@ def _converted(paths: list[str], options: dict[str, Any]) -> tuple[bytes, tuple[
         try:
             convert(Task(paths, target, written="net", **asked), Notes(said))
         except NoNetwork as refused:
-            said = one_line(str(refused))
-            file, line = place_of(said, paths)
-            raise Refused("convert", file or paths[0], line, said, "") from None
+            sentence = one_line(str(refused))
+            file, line = place_of(sentence, paths)
+            raise Refused("convert", file or paths[0], line, sentence, "") from None
         return _contents(target), tuple(said.getvalue().splitlines())

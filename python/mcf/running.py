@@ -9,6 +9,7 @@ The standard library alone.
 from __future__ import annotations
 
 import contextlib
+import math
 import os
 import signal
 import subprocess
@@ -59,9 +60,12 @@ def seconds_of(timeout: object) -> float | None:
     if timeout is None:
         return None
     if isinstance(timeout, (Real, Decimal)) and not isinstance(timeout, bool):
-        with contextlib.suppress(ValueError, OverflowError):
-            if (seconds := float(timeout)) >= 0:
-                return None if seconds > _LONGEST else seconds
+        try:
+            seconds = float(timeout)
+        except OverflowError:
+            seconds = math.inf
+        if seconds >= 0:
+            return None if seconds > _LONGEST else seconds
     raise ValueError(f"timeout is a number of seconds from 0 on, or None, and not {timeout!r}")
 
 

@@ -476,9 +476,9 @@ def test_a_certificate_may_be_given_by_its_path(triangle: Network, tmp_path: Pat
     calls = [triangle.sweep, triangle.tighten, triangle.check, lambda path: triangle.tighten(certificate, path),
              lambda path: triangle.whatif(path, [("close", "A-B")])]
     for call in calls:
-        with pytest.raises(mcf.Refused, match=f"^{tmp_path}/cut: refused cert2? K2 line 5: ") as caught:
+        with pytest.raises(mcf.Refused, match=f"^{tmp_path}/cut: refused cert2? K2 line 4: ") as caught:
             call(tmp_path / "cut")  # type: ignore[operator]
-        assert (caught.value.file, caught.value.line) == (str(tmp_path / "cut"), 5)
+        assert (caught.value.file, caught.value.line) == (str(tmp_path / "cut"), 4)
         for none in (None, 5, [certificate]):
             with pytest.raises(TypeError, match="a certificate is wanted, or the path of one, and not "):
                 call(none)  # type: ignore[operator]
@@ -576,7 +576,7 @@ def test_what_the_network_has_too_much_of_is_refused(triangle: Network) -> None:
 def test_a_tool_without_an_answer_says_why(triangle: Network) -> None:
     with pytest.raises(mcf.McfError, match="has no way over links with capacity"):
         triangle.with_demands({("A", "B"): 1}).with_capacities({"A-B": 0, "A-C": 0}).route("hops")
-    with pytest.raises(mcf.Usage, match="invalid choice: 'best' [^-]*$"):
+    with pytest.raises(mcf.Usage, match=r"invalid choice: 'best' \(choose from [^()]*\)$"):
         triangle.route("best")
     for seconds in ("x", 0, -1, float("nan")):
         with pytest.raises(mcf.Usage, match="is no number of seconds above 0$"):

@@ -202,7 +202,7 @@ def test_a_timeout_is_a_number_of_seconds(program: Program, root: Path, timeout:
         mcf.read(root / "examples/triangle.net").solve(timeout=timeout)  # type: ignore[arg-type]
 
 
-@pytest.mark.parametrize("timeout", [float("inf"), 1e20, 10**400, Fraction(200, 1), None])
+@pytest.mark.parametrize("timeout", [float("inf"), 1e20, pytest.param(10**400, id="long"), Fraction(200, 1), None])
 def test_a_timeout_may_be_long(program: Program, root: Path, timeout: float | None) -> None:
     assert mcf.read(root / "examples/triangle.net").solve(timeout=timeout).judged
 

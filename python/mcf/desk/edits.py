@@ -7,7 +7,7 @@ from dataclasses import dataclass, field, replace
 from fractions import Fraction
 
 from ..errors import TextError
-from ..given import decimal_word
+from ..given import decimal_word, name_of
 from ..limits import MAX_SCRIPT_BYTES
 from ..network import Network
 from ..numbers import fraction_of
@@ -129,7 +129,7 @@ def read_script(text: str, network: Network, installed: Sequence[Fraction]) -> H
 def _whole(words: list[str], line: int) -> list[str] | None:
     """The first command of words, which is taken from them; None where it is not whole yet."""
     if words[0] not in _WORDS:
-        raise TextError(f"line {line}: {words[0][:40]!r} is no command of a script: set, add, sub, close and show are")
+        raise TextError(f"line {line}: {name_of(words[0])[:40]!r} is no command of a script: set, add, sub, close and show are")
     count = 1 + _WORDS[words[0]]
     if len(words) < count:
         return None
@@ -144,7 +144,7 @@ def _apply(command: list[str], links: Mapping[str, int], capacities: dict[int, F
     if what == "show":
         return
     if rest[0] not in links:
-        raise TextError(f"line {line}: the network has no link {rest[0][:80]}")
+        raise TextError(f"line {line}: the network has no link {name_of(rest[0])[:80]}")
     link = links[rest[0]]
     before = capacities[link]
     try:
@@ -153,6 +153,6 @@ def _apply(command: list[str], links: Mapping[str, int], capacities: dict[int, F
         raise TextError(f"line {line}: {why}") from None
     after = {"set": value, "add": before + value, "sub": before - value, "close": Fraction(0)}[what]
     if after < 0:
-        raise TextError(f"line {line}: sub of more than the capacity of {rest[0][:80]}")
+        raise TextError(f"line {line}: sub of more than the capacity of {name_of(rest[0])[:80]}")
     capacities[link] = after
     history.add(link, "close" if after == 0 else "double" if after == 2 * before else "set", before, after)
