@@ -286,6 +286,17 @@ def test_edits_are_kept_in_a_file_and_gone_on_with(program: Program, tmp_path: P
     assert refused(program, NET, CERT, "--save", file) == (2, "", f"desk: {file}: line 2: the network has no link XY\n")
 
 
+def test_comments_of_a_saved_file_are_not_lost(program: Program, tmp_path: Path):
+    """Those on lines of their own name the edit behind them, and the last ones the last edit; none is cut."""
+    file, long = tmp_path / "plan.script", "x" * 300
+    file.write_text(f"# Zürich,\n\n# spring\nclose AB show # digging\nset AC 7\nshow # {long}\nsub BC 1 set AB 3 show\n# end\n")
+    with desk(program, NET, CERT, "--save", file) as running:
+        running.enter()
+        running.post("/edit", link=AB, what="double")
+    assert file.read_text() == (f"close AB show # Zürich,; spring; digging\nset AC 7 show\nset BC 5 show\nset AB 3 show # {long}; end\n"
+                                "set AB 6 show\n")
+
+
 def test_names_that_are_not_ascii_are_told_as_they_are(program: Program, tmp_path: Path):
     (tmp_path / "a.net").write_text(NET.read_text().replace(" AB ", " Zürich "))
     with desk(program, tmp_path / "a.net") as running:

@@ -59,7 +59,7 @@ class History:
 
     def call(self, number: int, name: str) -> None:
         """Gives an edit a name; TextError where there is no such edit."""
-        clean = one_line(" ".join(name.split()))[:NAME_LENGTH]
+        clean = one_line(" ".join(name.split()))
         for rows in (self.done, self.undone):
             for at, edit in enumerate(rows):
                 if edit.number == number:
@@ -109,21 +109,32 @@ def _latin(name: str) -> str:
 
 
 def read_script(text: str, network: Network, installed: Sequence[Fraction]) -> History:
-    """The edits of a script; the comment behind one is its name. TextError, with the line, where the program would refuse it."""
+    """The edits of a script, named by the comments behind and before them. TextError, with the line, where the program would refuse it."""
     history, now = History(), {link.id: at for at, link in enumerate(network.links)}
     capacities = dict(enumerate(installed))
     words: list[str] = []
+    comments: list[str] = []
     for number, line in enumerate(text.split("\n"), 1):
         front, _, comment = line.partition("#")
         count = len(history.done)
         words += front.split()
         while words and (command := _whole(words, number)):
             _apply(command, now, capacities, history, number)
-        if comment.strip() and len(history.done) > count:
-            history.call(history.done[-1].number, comment.encode("latin-1").decode("utf-8", "replace"))
+        comments += [comment.strip()] if comment.strip() else []
+        if len(history.done) > count:
+            _name(history, comments)
     if words:
         raise TextError("the script ends inside a command")
+    if history.done:
+        _name(history, [history.done[-1].name.encode("utf-8").decode("latin-1"), *comments] if comments else [])
     return history
+
+
+def _name(history: History, comments: list[str]) -> None:
+    """Gives the last edit the name that comments spell, which are then used up: what a file has is not lost where it is written anew."""
+    if comments:
+        history.call(history.done[-1].number, "; ".join(filter(None, comments)).encode("latin-1").decode("utf-8", "replace"))
+        comments.clear()
 
 
 def _whole(words: list[str], line: int) -> list[str] | None:

@@ -12,7 +12,7 @@ from ..errors import Invalid, McfError, Refused, TextError
 from ..output import write
 from .bounds import Bounds, bounds_of
 from .child import Held, Stopped, Work
-from .edits import Edit, History, changed, difference, same, script
+from .edits import NAME_LENGTH, Edit, History, changed, difference, same, script
 from .ground import Ground
 from .links import Links
 from .turns import Job, Newest
@@ -107,7 +107,7 @@ class Desk:
     def call(self, number: int, name: str) -> None:
         """Gives an edit a name."""
         with self.lock:
-            self.history.call(number, name)
+            self.history.call(number, name[:NAME_LENGTH])
             self._saved()
             self.revision += 1
 
