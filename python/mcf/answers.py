@@ -13,7 +13,7 @@ from collections.abc import Callable, Iterator, Mapping
 from dataclasses import dataclass, field
 from fractions import Fraction
 from functools import cached_property, lru_cache
-from typing import TYPE_CHECKING, Any, ClassVar
+from typing import TYPE_CHECKING, Any, ClassVar, SupportsIndex, overload
 
 from . import certificate as core
 from . import values, version
@@ -371,9 +371,15 @@ class Cases:
         """The cases."""
         return iter(self.rows)
 
-    def __getitem__(self, case: int | str) -> Bounds:
-        """A case by its place, or the first one of a name; KeyError where there is none."""
-        if isinstance(case, int):
+    @overload
+    def __getitem__(self, case: SupportsIndex | str) -> Bounds: ...
+
+    @overload
+    def __getitem__(self, case: slice) -> tuple[Bounds, ...]: ...
+
+    def __getitem__(self, case: SupportsIndex | str | slice) -> Bounds | tuple[Bounds, ...]:
+        """A case by its place, or the first one of a name; cases by a slice. KeyError where there is no such name."""
+        if not isinstance(case, str):
             return self.rows[case]
         found = next((row for row in self.rows if row.case == case), None)
         if found is None:

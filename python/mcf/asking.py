@@ -5,6 +5,8 @@ from __future__ import annotations
 import os
 import warnings
 from collections.abc import Iterator, Mapping, Sequence
+from contextlib import contextmanager
+from dataclasses import replace
 from fractions import Fraction
 from functools import lru_cache
 from importlib import import_module
@@ -13,8 +15,8 @@ from typing import TYPE_CHECKING, Any, TypeVar
 from . import certificate as core
 from .answers import Answer, Batch, Bounds, Certificate, Routing, Sweep, WhatIf, answer_of
 from .commands import Judgement, ask, judgement_of, option_words, program_path, sentence_of
-from .errors import Invalid, McfError, TextError
-from .given import decimal_word, name_of, number_of, word_of
+from .errors import Invalid, McfError, Refused, TextError, Usage
+from .given import brief, decimal_word, name_of, number_of, word_of
 from .limits import DEFAULT_PHASES, MAX_DEMANDS, MAX_MATRICES, MAX_WORK
 from .needs import needed
 from .running import run_tool
@@ -23,6 +25,7 @@ from .scaled import scale
 if TYPE_CHECKING:
     from .networks import Network, Path
 
+_WORDS = {"set": 3, "add": 3, "sub": 3, "close": 2}
 _Kind = TypeVar("_Kind", bound=Answer)
 Options = dict[str, Any]
 
@@ -30,7 +33,7 @@ Options = dict[str, Any]
 def _options(network: Network, options: Options) -> Options:
     """The options with the network's own mode of links where none is asked for."""
     mode = None if network.mode == "undirected" else network.mode
-    return {**options, "links": options.get("links") or mode}
+    return {**options, "links": mode if options.get("links") is None else options["links"]}
 
 
 def solved(network: Network, kind: type[_Kind], command: str, options: Options, timeout: float | None) -> _Kind:
@@ -58,9 +61,9 @@ def _judged(answer: _Kind, timeout: float | None = None) -> _Kind:
 def checked(network: Network, certificate: Answer | Path, timeout: float | None = None) -> Judgement:
     """What the proved check says; the object keeps it where it is of that network."""
     answer = certificate if isinstance(certificate, Answer) else None
-    data = answer.data if answer else _contents(certificate)  # type: ignore[arg-type]
-    text = data[:64].decode("latin-1")
-    ended = ask(core.judge_of(text), {"net": network.data, "cert": data}, (), timeout)
+    data = _text_of(certificate)
+    with _refused_by_path(cert=certificate):
+        ended = ask(core.judge_of(data[:64].decode("latin-1")), {"net": network.data, "cert": data}, (), timeout)
     judgement = judgement_of(ended.line, _unit(network, data))
     assert judgement is not None
     if answer is not None and answer.network.data == network.data:
@@ -76,25 +79,47 @@ def _unit(network: Network, data: bytes) -> Fraction:
     return Fraction(1, 10**scale(network.rows, rows.links, rows.modules).decimals)
 
 
-def _contents(path: Path) -> bytes:
-    """The bytes of a file."""
-    return core.load_text(os.fspath(path)).encode("latin-1")
+def _text_of(certificate: Answer | Path) -> bytes:
+    """The text of a certificate or routing, or that of a file; TypeError where it is neither."""
+    if isinstance(certificate, Answer):
+        return certificate.data
+    return core.load_text(_path_of(certificate)).encode("latin-1")
+
+
+def _path_of(path: Path) -> str:
+    """A path as a str; TypeError where it is none."""
+    if not isinstance(path, (str, bytes, os.PathLike)):
+        raise TypeError(f"a certificate is wanted, or the path of one, and not {brief(path, repr)}")
+    return os.fsdecode(path)
+
+
+@contextmanager
+def _refused_by_path(**texts: Answer | Path) -> Iterator[None]:
+    """A text that is refused is called by its path, if it was read from a file."""
+    try:
+        yield
+    except Refused as why:
+        text = texts.get(why.file)
+        if text is None or isinstance(text, Answer):
+            raise
+        path = _path_of(text)
+        raise Refused(why.kind, path, why.line, why.sentence, f"{path}: {why.said}") from None
 
 
 def loaded(network: Network, path: Path) -> Answer:
     """The answer of a file, which is not judged."""
     try:
-        return answer_of(network, _contents(path))
+        return answer_of(network, _text_of(path))
     except TextError as error:
-        raise TextError(f"{os.fspath(path)}: {error}") from None
+        raise error.led(f"{_path_of(path)}: ") from None
 
 
 def certified(network: Network, kind: str, options: Options, progress: bool, timeout: float | None) -> Certificate:
     """The judged certificate of the tool certify."""
     if kind not in ("solve", "hops", "throughput"):
         raise ValueError(f"kind is solve, hops or throughput, and not {kind!r}")
-    seconds = options.pop("seconds")
-    words = ["{0}", "--kind", kind, *option_words(_options(network, options)), "--seconds", str(float(seconds))]
+    seconds = str(options.pop("seconds"))
+    words = ["{0}", "--kind", kind, *option_words(_options(network, options)), f"--seconds={seconds}"]
     with _bar(f"certify {kind}", progress):
         data, notes = _by_tool("certify", words, network, timeout)
     return _judged(_of_kind(Certificate, network, data, notes), timeout)
@@ -103,7 +128,7 @@ def certified(network: Network, kind: str, options: Options, progress: bool, tim
 def routed(network: Network, options: Options, timeout: float | None) -> Routing:
     """The judged routing of the tool route."""
     given = {name: str(value) for name, value in _options(network, options).items() if value is not None}
-    words = ["{0}", "--no-best", *(word for name, value in given.items() for word in (f"--{name}", value))]
+    words = ["{0}", "--no-best", *(f"--{name}={value}" for name, value in given.items())]
     return _judged(_of_kind(Routing, network, *_by_tool("route", words, network, timeout)), timeout)
 
 
@@ -111,19 +136,20 @@ def _by_tool(tool: str, words: list[str], network: Network, timeout: float | Non
     """What a tool wrote of a network, and what it said beside; McfError with its line where it has no answer."""
     ended, paths = run_tool(tool, [*words, "--mcf", program_path()], [network.data], timeout)
     if ended.status not in (0, 1) or not ended.out:
-        raise McfError((ended.trouble or f"{tool} ended with status {ended.status}").replace(paths[0], "the network"))
+        why, words_told = (ended.trouble or f"{tool} ended with status {ended.status}").replace(paths[0], "the network"), f" ({tool} --help has the words)"
+        raise Usage(why.removesuffix(words_told)) if why.endswith(words_told) else McfError(why)
     lines = ended.err.decode("utf-8", "replace").splitlines()
     return ended.out, tuple(line.removeprefix(f"{tool}: ") for line in lines if line.startswith(f"{tool}: "))
 
 
 def batch(network: Network, matrices: Mapping[str, Any], options: Options, progress: bool, timeout: float | None) -> Batch:
     """The judged certificates of all matrices, in runs of as many as the program takes at once with all phases."""
-    plain = network.with_demands({})
-    networks = {str(name): plain.with_demands(demands) for name, demands in matrices.items()}
+    plain = replace(network, _file=None)
+    networks = _matrices(plain, matrices)
     words = option_words(_options(network, options))
     found: dict[str, Certificate] = {}
     with _bar("batch", progress, len(networks)) as bar:
-        for names in _runs(networks, options.get("phases")):
+        for names in _runs(networks, _phases_of(words)):
             text = "".join(_matrix_text(name, networks[name]) for name in names)
             ended = ask("batch", {"net": plain.data, "list": text.encode("latin-1")}, words, timeout)
             for name, data in zip(names, _certificates(ended.out)):
@@ -132,9 +158,31 @@ def batch(network: Network, matrices: Mapping[str, Any], options: Options, progr
     return Batch(found)
 
 
-def _runs(networks: Mapping[str, Network], phases: int | None) -> Iterator[list[str]]:
+def _matrices(plain: Network, matrices: Mapping[str, Any]) -> dict[str, Network]:
+    """The network with each matrix by its name; ValueError, which names the matrix, where there is none."""
+    if not isinstance(matrices, Mapping):
+        raise ValueError(f"matrices: {{name: demands}} is wanted, and not {brief(matrices, repr)}")
+    networks: dict[str, Network] = {}
+    for given, demands in matrices.items():
+        word = word_of(given, "matrix")
+        if name_of(word) in networks:
+            raise ValueError(f"matrix {given!r}: another one has that name too")
+        try:
+            networks[name_of(word)] = plain.with_demands(demands)
+        except ValueError as why:
+            raise ValueError(f"matrix {given!r}: {why}") from None
+    return networks
+
+
+def _phases_of(words: Sequence[str]) -> int:
+    """How many phases the words of options ask for; what is no number of them the program refuses."""
+    word = words[words.index("--phases") + 1] if "--phases" in words else str(DEFAULT_PHASES)
+    return int(word) if word.isdecimal() and len(word) < 10 and int(word) else 1
+
+
+def _runs(networks: Mapping[str, Network], phases: int) -> Iterator[list[str]]:
     """The names of matrices in runs: within the program's limits, and with few enough demands that each phase is allowed."""
-    most = min(MAX_DEMANDS, max(1, MAX_WORK // (phases or DEFAULT_PHASES)))
+    most = min(MAX_DEMANDS, max(1, MAX_WORK // phases))
     names: list[str] = []
     rows = 0
     for name, network in networks.items():
@@ -159,9 +207,10 @@ def _certificates(text: bytes) -> list[bytes]:
     return [part.split(b"\n", 1)[1] + b"\nend\n" for part in text.split(b"\nend\n") if part]
 
 
-def swept(network: Network, certificate: Certificate, timeout: float | None) -> Sweep:
+def swept(network: Network, certificate: Certificate | Path, timeout: float | None) -> Sweep:
     """What a certificate is worth without each link."""
-    ended = ask("sweep", {"net": network.data, "cert": certificate.data}, (), timeout)
+    with _refused_by_path(cert=certificate):
+        ended = ask("sweep", {"net": network.data, "cert": _text_of(certificate)}, (), timeout)
     return Sweep(tuple(_bounds(line) for line in ended.text.splitlines()))
 
 
@@ -180,18 +229,20 @@ def _bounds(line: str, case: str = "") -> Bounds:
     return Bounds(case or name_of(words[1]), lower, upper)
 
 
-def what_if(network: Network, certificate: Certificate, edits: Sequence[tuple[Any, ...]], timeout: float | None) -> WhatIf:
+def what_if(network: Network, certificate: Certificate | Path, edits: Sequence[tuple[Any, ...]], timeout: float | None) -> WhatIf:
     """What a certificate is worth behind each edit."""
     ids = {link.id for link in network.rows.links}
     lines = [_edit_line(edit, f"edit {at + 1}", ids) for at, edit in enumerate(edits)]
     script = "".join(f"{line}\nshow\n" for line in lines)
-    ended = ask("whatif", {"net": network.data, "cert": certificate.data, "script": script.encode("latin-1")}, (), timeout)
+    texts = {"net": network.data, "cert": _text_of(certificate), "script": script.encode("latin-1")}
+    with _refused_by_path(cert=certificate):
+        ended = ask("whatif", texts, (), timeout)
     return WhatIf(tuple(_bounds(said, name_of(line)) for said, line in zip(ended.text.splitlines(), lines)))
 
 
 def _edit_line(edit: tuple[Any, ...], what: str, ids: set[str]) -> str:
     """The command of a script for an edit."""
-    if isinstance(edit, str) or not edit or len(edit) != {"set": 3, "add": 3, "sub": 3, "close": 2}.get(edit[0]):
+    if not isinstance(edit, (tuple, list)) or (*map(type, edit[:1]), len(edit)) != (str, _WORDS.get(str(edit[0]) if edit else "")):
         raise ValueError(f"{what}: {edit!r} is no edit: ('set', link, capacity), ('add', ..), ('sub', ..) or ('close', link)")
     link = word_of(edit[1], what)
     if link not in ids:
@@ -199,20 +250,19 @@ def _edit_line(edit: tuple[Any, ...], what: str, ids: set[str]) -> str:
     return " ".join([edit[0], link, *(decimal_word(number_of(number, what)) for number in edit[2:])])
 
 
-def tightened(network: Network, certificates: Sequence[Certificate], timeout: float | None) -> Certificate:
+def tightened(network: Network, certificates: Sequence[Certificate | Path], timeout: float | None) -> Certificate:
     """The judged best certificate of one or more."""
     if not certificates:
         raise ValueError("tighten: at least one certificate is wanted")
-    best = certificates[0].data
-    for other in certificates[1:]:
-        best = _tightened(network, {"cert": best, "cert2": other.data}, timeout)
-    best = best if len(certificates) > 1 else _tightened(network, {"cert": best}, timeout)
+    first, *others = certificates
+    texts = [_text_of(one) for one in certificates]
+    with _refused_by_path(cert=first):
+        # (what comes of one and another is of the program's own making, so the first alone may be refused as the first)
+        best = texts[0] if others else ask("tighten", {"net": network.data, "cert": texts[0]}, (), timeout).out
+        for other, text in zip(others, texts[1:]):
+            with _refused_by_path(cert2=other):
+                best = ask("tighten", {"net": network.data, "cert": best, "cert2": text}, (), timeout).out
     return _judged(_of_kind(Certificate, network, best), timeout)
-
-
-def _tightened(network: Network, texts: Mapping[str, bytes], timeout: float | None) -> bytes:
-    """What tighten writes of one or two certificates."""
-    return ask("tighten", {"net": network.data, **texts}, (), timeout).out
 
 
 def _bar(what: str, progress: bool, total: int | None = None) -> Any:

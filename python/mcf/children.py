@@ -134,6 +134,11 @@ def end(child: subprocess.Popen[bytes], gently: bool = False) -> None:
                 stream.close()
 
 
+def signal_name(number: int) -> str:
+    """What a signal is called."""
+    return signal.Signals(number).name if number in set(signal.Signals) else f"signal {number}"
+
+
 def end_all() -> None:
     """Asks all children that run now, of whichever thread, to end."""
     for child in tuple(_running):

@@ -10,10 +10,11 @@ import re
 from collections.abc import Mapping, Sequence
 from dataclasses import dataclass
 from fractions import Fraction
+from typing import SupportsIndex
 
 from .children import Ended
 from .errors import Invalid, NoMemory, NoProgram, ReadFault, Refused, TextError, Usage, WriteFault
-from .given import Number, decimal_word, name_of, number_of
+from .given import Number, brief, decimal_word, name_of, number_of
 from .limits import MAX_GAP, limits_of
 from .numbers import MILLION
 from .program import INVALID, REFUSED, find_program, wide_for
@@ -23,6 +24,7 @@ from .tokens import NATIVE
 FRONTS = {"solve": "mcf-certificate ", "tighten": "mcf-certificate ", "upgrade": "mcf-certificate ", "hops": "mcf-hops ",
           "throughput": "mcf-throughput ", "batch": "matrix ", "sweep": "sweep ", "sweepsolve": "sweep ", "whatif": "show ",
           "print": NATIVE.decode()}
+WHOLE = ("phases", "step", "workers")
 _VALID = re.compile(r"valid (closed|open) (\w+) (\w+) lower (\d+)/([1-9]\d*) \S+ upper (\d+)/([1-9]\d*) \S+")
 _FEASIBLE = re.compile(r"feasible (\w+) (\w+) (\d+)/([1-9]\d*) \S+")
 
@@ -69,7 +71,7 @@ def judgement_of(line: str, unit: Fraction) -> Judgement | None:
 def option_words(options: Mapping[str, object]) -> list[str]:
     """The words of options; those that are None are left out.
 
-    ValueError where a gap has more than six decimals, TypeError where a number that has to be whole is none.
+    ValueError where a gap has more than six decimals, Usage where a number that has to be whole is none.
     """
     words = []
     for name, value in options.items():
@@ -82,7 +84,11 @@ def _option_word(name: str, value: object) -> str:
     """The word of an option's value."""
     if name == "gap":
         return decimal_word(number_of(value, "gap", MAX_GAP // MILLION))
-    return str(value) if isinstance(value, str) else str(operator.index(value))  # type: ignore[arg-type]
+    if isinstance(value, str):
+        return value
+    if isinstance(value, bool) or not isinstance(value, SupportsIndex):
+        raise Usage(f"{name} is a whole number, and not {brief(value, repr)}" if name in WHOLE else f"{name} is a str, and not {brief(value, repr)}")
+    return str(operator.index(value))
 
 
 def ask(command: str, texts: Mapping[str, bytes], options: Sequence[str] = (), timeout: float | None = None) -> Ended:

@@ -6,10 +6,29 @@ is one line for people.
 
 from __future__ import annotations
 
+import re
+
 # (as in typing, which would have to be imported)
 TYPE_CHECKING = False
 if TYPE_CHECKING:
+    from collections.abc import Iterable
     from typing import Self
+
+_PLACE = re.compile(r"(?P<file>.+?):? line (?P<line>\d+): ")
+
+
+def one_line(text: str) -> str:
+    """The text as one line: control characters, line ends and bytes that are no text are escaped."""
+    return "".join(c if c.isprintable() else c.encode("unicode_escape", "surrogatepass").decode("ascii") for c in text)
+
+
+def place_of(sentence: str, files: Iterable[str]) -> tuple[str | None, int | None]:
+    """The file that a line for people begins with, if it is one of these, as it was named, and the line of it that is told behind it."""
+    shown = {one_line(file): file for file in files if file}
+    found = _PLACE.match(sentence)
+    if found and found["file"] in shown:
+        return shown[found["file"]], int(found["line"])
+    return next((file for name, file in shown.items() if sentence.startswith(f"{name}: ")), None), None
 
 
 class TextError(ValueError):

@@ -241,6 +241,9 @@ def links_of_graph(graph: networkx.Graph, capacity: str) -> tuple[list[Link], pa
         if capacity not in data:
             raise ValueError(f"{what}: there is no attribute {capacity!r}; it has {', '.join(map(repr, data)) or 'none'}")
         ends = word_of(source, what), word_of(target, what)
+        if (data.get("source"), data.get("target")) == (name_of(ends[1]), name_of(ends[0])) and not graph.is_directed():
+            # (a graph that has no directions hands out its edges from either end)
+            ends = ends[::-1]
         size = decimal_word(number_of(data[capacity], f"{what}, {capacity}"))
         links.append(Link(names.own(data.get("id"), *ends, what), *ends, size))
         rest.append({name: value for name, value in data.items() if name not in (capacity, *_OWN["links"])})
@@ -266,15 +269,26 @@ def _number(value: Fraction) -> int | float | Fraction:
     return float(value) if Fraction(str(float(value))) == value else value
 
 
-def graph_of(network: Network, directed: bool, rest: pandas.DataFrame | None) -> networkx.MultiGraph | networkx.MultiDiGraph:
-    """The graph: nodes with `pos` where the network has their places, edges with their id as key and as `id`, and `capacity`."""
-    graph = networkx.MultiDiGraph() if directed else networkx.MultiGraph()
+def graph_of(network: Network, mode: str, rest: pandas.DataFrame | None) -> networkx.MultiGraph | networkx.MultiDiGraph:
+    """The graph: nodes with `pos` where the network has their places; edges with their id as key and as `id`, both ends in the order of
+    the network, and `capacity`; and its attribute `links`, the mode."""
+    graph = networkx.MultiDiGraph(links=mode) if mode == "directed" else networkx.MultiGraph(links=mode)
     for node in network.nodes:
         graph.add_node(name_of(node.id), **({} if node.position is None else {"pos": node.position}))
-    others = [{}] * len(network.links) if rest is None else rest.to_dict("records")
-    for link, other in zip(network.links, others):
-        name = name_of(link.id)
-        own = {"id": name, "capacity": _number(link.installed("largest"))}
-        graph.add_edge(name_of(link.source), name_of(link.target), key=name, **{str(key): value for key, value in other.items()}, **own)
+    # (a frame without columns has no records, however many rows it has)
+    others = [{}] * len(network.links) if rest is None or rest.columns.empty else rest.to_dict("records")
+    for link, other in zip(network.links, others, strict=True):
+        name, source, target = name_of(link.id), name_of(link.source), name_of(link.target)
+        graph.add_edge(source, target, name)
+        # (a column may have any name, as that of an argument of add_edge)
+        graph.edges[source, target, name].update({str(key): value for key, value in other.items()})
+        graph.edges[source, target, name].update(id=name, source=source, target=target, capacity=_number(link.installed("largest")))
     return graph
+
+
+def mode_of_graph(graph: networkx.Graph) -> str:
+    """How the links of a graph are read: as its attribute `links` says, where that fits its kind."""
+    if graph.is_directed():
+        return "directed"
+    return "bidirected" if graph.graph.get("links") == "bidirected" else "undirected"
 

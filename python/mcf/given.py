@@ -8,16 +8,17 @@ from __future__ import annotations
 
 import math
 import re
+from collections.abc import Callable
 from decimal import Decimal
 from fractions import Fraction
 from numbers import Rational, Real
 
-from .errors import TextError
 from .limits import MAX_DECIMALS, MAX_UNITS, MAX_WORD_BYTES
 from .numbers import MILLION, decimal_of, fraction_of
 
 Number = int | float | str | Decimal | Fraction
 
+_BRIEF = 80
 _UNFIT = re.compile(r"[ \t\r\n()#]")
 
 
@@ -29,14 +30,24 @@ def number_of(value: object, what: str, most: int = MAX_UNITS) -> Fraction:
     """
     exact = _exact(value)
     if exact is None:
-        raise ValueError(f"{what}: {value!r} is no number")
+        raise ValueError(f"{what}: {brief(value, repr)} is no number")
     if exact < 0:
-        raise ValueError(f"{what}: {value} is negative")
+        raise ValueError(f"{what}: {brief(value)} is negative")
     if (exact * MILLION).denominator != 1:
-        raise ValueError(f"{what}: {value} has more than {MAX_DECIMALS} decimals; round it, or give all numbers in a smaller unit")
+        raise ValueError(f"{what}: {brief(value)} has more than {MAX_DECIMALS} decimals; round it, or give all numbers in a smaller unit")
     if exact > most:
-        raise ValueError(f"{what}: {value} is more than {most}; give all numbers in a greater unit")
+        raise ValueError(f"{what}: {brief(value)} is more than {most}; give all numbers in a greater unit")
     return exact
+
+
+def brief(value: object, spelled: Callable[[object], str] = str) -> str:
+    """A value as a message has it: not more than a front of what is long."""
+    try:
+        text = spelled(value)
+    except ValueError:
+        # (Python spells no int of more than 4,300 digits)
+        return "a number of thousands of digits"
+    return text if len(text) <= _BRIEF else f"{text[:_BRIEF]}.."
 
 
 def _exact(value: object) -> Fraction | None:
@@ -51,7 +62,8 @@ def _exact(value: object) -> Fraction | None:
         return Fraction(str(value)) if math.isfinite(value) else None
     try:
         return fraction_of(value.strip()) if isinstance(value, str) else None
-    except TextError:
+    except ValueError:
+        # (as for more digits than Python reads)
         return None
 
 
@@ -64,7 +76,7 @@ def decimal_word(value: Fraction) -> str:
 def word_of(name: object, what: str) -> str:
     """The word of a name, one character for each byte; ValueError, which begins with `what`, where no network text can hold the name."""
     if not isinstance(name, str):
-        name = str(name)
+        name = _spelled(name)
     if not name:
         raise ValueError(f"{what}: the name is empty")
     if _UNFIT.search(name):
@@ -77,6 +89,13 @@ def word_of(name: object, what: str) -> str:
     if len(data) > MAX_WORD_BYTES:
         raise ValueError(f"{what}: the name {name[:20]!r}.. has {len(data)} bytes, and a network text holds at most {MAX_WORD_BYTES}")
     return data.decode("latin-1")
+
+
+def _spelled(name: object) -> str:
+    """The str of a name; of a float that is whole that of the int, since pandas makes floats of ints as soon as one is missing."""
+    if isinstance(name, Real) and not isinstance(name, Rational) and (value := float(name)).is_integer():
+        return str(int(value))
+    return str(name)
 
 
 def name_of(word: str) -> str:

@@ -20,13 +20,13 @@ def as_files(*paths: str) -> Iterator[list[str]]:
     whatever is said of these files calls them by their names. TextError where two paths are `-`."""
     if paths.count("-") > 1:
         raise TextError(f"{STANDARD_INPUT} is one file alone")
-    odd = [path for path in paths if path == "-" or not _is_utf8(path)]
+    odd = [path for path in paths if path == "-" or not is_word(path)]
     with texts_as_files(*((STANDARD_INPUT if path == "-" else path, contents(path)) for path in odd)) as made:
         places = dict(zip(odd, made))
         yield [places.get(path, path) for path in paths]
 
 
-def _is_utf8(path: str) -> bool:
+def is_word(path: str) -> bool:
     """Whether a name is one that the program can be given as a word."""
     try:
         os.fsencode(path).decode("utf-8")

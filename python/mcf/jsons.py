@@ -19,14 +19,13 @@ from pathlib import Path
 from typing import Any
 
 from . import version
-from .errors import Invalid, Refused, TextError, kind_of
+from .errors import Invalid, Refused, TextError, kind_of, place_of
 from .ranges import Range
 
 OPTION = "--json"
 SCHEMAS = Path(__file__).resolve().parent / "schemas"
 _SHARED = ("common", "tables")
 _OTHER_FILE = re.compile(r'"\w+\.json#/')
-_PLACE = re.compile(r"(?P<file>.+?):? line (?P<line>\d+): ", re.DOTALL)
 
 
 @dataclass
@@ -127,7 +126,7 @@ def error_of(fault: BaseException, sentence: str, words: Sequence[str]) -> dict[
     """What is known of a fault: its kind, the sentence, the code of a refusal, and the file and the line where it lies."""
     code, file, line = None, None, None
     if isinstance(fault, TextError):
-        code, (file, line) = fault.code, (fault.file, fault.line) if fault.file else _place(sentence, words)
+        code, (file, line) = fault.code, (fault.file, fault.line) if fault.file else place_of(sentence, [*words, "standard input"])
     elif isinstance(fault, Refused):
         code, file, line = fault.kind, fault.file, fault.line
     elif isinstance(fault, Invalid):
@@ -135,14 +134,6 @@ def error_of(fault: BaseException, sentence: str, words: Sequence[str]) -> dict[
     elif isinstance(fault, OSError):
         file = fault.filename if isinstance(fault.filename, str) else None
     return {"kind": kind_of(fault), "code": code, "file": file, "line": line, "sentence": sentence}
-
-
-def _place(sentence: str, words: Sequence[str]) -> tuple[str | None, int | None]:
-    """The file that a sentence begins with, if it is among the words of the run, and the line behind it."""
-    found = _PLACE.match(sentence)
-    if found and found["file"] in (*words, "standard input"):
-        return found["file"], int(found["line"])
-    return next((word for word in words if word and sentence.startswith(f"{word}: ")), None), None
 
 
 def schema(name: str) -> dict[str, Any]:

@@ -17,7 +17,7 @@ from .certificate import Routing, judge_of, load_text, read_any, save_text
 from .errors import TextError
 from .hints.hint import explained
 from .limits import limits_of
-from .program import Program, refused_at
+from .program import Program, refused_at, silent
 from .ranges import Range
 
 _VALID = re.compile(r"valid (closed|open) \w+ \w+ lower (\d+)/([1-9]\d*) \S+ upper (\d+)/([1-9]\d*) \S+")
@@ -73,8 +73,12 @@ class NotValid(TextError):
 
     def __init__(self, command: str, said: str, meaning: str = "") -> None:
         """The command that judged, what it said, and the same with what it means."""
-        super().__init__(f"mcf {command} says: {meaning or said}")
-        self.command, self.said = command, said
+        super().__init__(command, said, meaning)
+        self.command, self.said, self.meaning = command, said, meaning
+
+    def __str__(self) -> str:
+        """What the command said."""
+        return f"mcf {self.command} says: {self.meaning or self.said}"
 
 
 def judge(program: Program, net: str | File, text: str, command: str | None = None) -> Judged:
@@ -88,6 +92,8 @@ def judge(program: Program, net: str | File, text: str, command: str | None = No
 def judge_there(program: Program, net: str | File, file: str | File, command: str) -> Said:
     """What a command says of a file, which is not read here and may be large, likewise."""
     answer = program.check(net, file, command=command)
+    if answer.status < 0:
+        raise TextError(f"mcf {command}: {silent(answer.status)}").at(kind="program")
     if answer.status != 0 or not (_VALID.fullmatch(answer.line) or _FEASIBLE.fullmatch(answer.line)):
         meaning = explained(answer.line, [command, str(net), str(file)], limits_of(answer.program)) if answer.status in (1, 3, 4) else ""
         # (the name of the file that the text is from is the caller's)

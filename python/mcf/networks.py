@@ -78,7 +78,8 @@ class Network:
         links: columns source, target and capacity; id if they have names. demands: columns source, target and amount; id, and longest (how
         many links a path may have, for `hops`); or {(source, target): amount}. nodes: column id; x and y (longitude and latitude) for
         maps. Without nodes, the ends of links and demands are the nodes. An index that is named as a column counts as one. Other columns
-        are kept beside and handed back by `.links`, `.demands` and `.nodes`. Names are what `str` makes of them.
+        are kept beside and handed back by `.links`, `.demands` and `.nodes`. Names are what `str` makes of them, and of a float that is
+        whole what it makes of the int, since pandas makes floats of ints as soon as one is missing.
 
         directed: links go from source to target alone.
 
@@ -102,9 +103,10 @@ class Network:
         """A network of a graph of networkx, of any of its four kinds, and of demands.
 
         demands: a frame (source, target, amount) or {(source, target): amount}, whose ends are nodes of the graph. capacity: the attribute
-        of edges that has the capacity. The links of a directed graph go from source to target alone. Parallel edges are links of their
-        own. An edge's attribute `id` names its link, else its ends do. A node's `pos`, or x and y, or longitude and latitude, is its
-        place on maps. Other attributes of edges are columns of `.links`.
+        of edges that has the capacity. The links of a directed graph go from source to target alone; those of one whose own attribute
+        `links` is bidirected have their capacity each way. Parallel edges are links of their own. An edge's attribute `id` names its
+        link, else its ends do. A node's `pos`, or x and y, or longitude and latitude, is its place on maps. Other attributes of edges
+        are columns of `.links`, but for those named source, target and capacity, which `.links` has of its own.
 
         ValueError, which names the node or edge, as in `from_frames`, and where two nodes become one as strings.
         """
@@ -112,7 +114,7 @@ class Network:
         nodes = frames.nodes_of_graph(graph)
         links, rest = frames.links_of_graph(graph, capacity)
         wanted, beside = _demands(demands)
-        return cls(_joined(nodes, links, wanted), _mode(graph.is_directed()), _beside=Beside(None, rest, beside))
+        return cls(_joined(nodes, links, wanted), frames.mode_of_graph(graph), _beside=Beside(None, rest, beside))
 
     # -- shown
 
@@ -155,13 +157,14 @@ class Network:
         return Frames(self.nodes, links, demands_frame(self.rows, self._beside.demands, exact))
 
     def to_networkx(self) -> networkx.MultiGraph | networkx.MultiDiGraph:
-        """A multigraph, directed if the network is: nodes with `pos` if known, edges with their id as key and as `id`, and `capacity`,
-        which is an int, a float, or, where neither has all its digits, a Fraction.
+        """A multigraph, directed if the network is: nodes with `pos` if known; edges with their id as key and as `id`, their `source` and
+        `target`, and `capacity`, which is an int, a float, or, where neither has all its digits, a Fraction; the mode as its `links`.
 
-        Demands have no place in it; `.demands` has them.
+        Demands have no place in it; `.demands` has them. `from_networkx` gives the network back; of undirected links in another order,
+        since the graph has them by their nodes.
         """
         from .frames import graph_of
-        return graph_of(self.rows, self.directed, self._beside.links)
+        return graph_of(self.rows, self.mode, self._beside.links)
 
     def __repr__(self) -> str:
         """The numbers of rows."""
@@ -182,7 +185,12 @@ class Network:
         return replace(self, rows=replace(self.rows, links=links), _file=None)
 
     def with_demands(self, demands: Any) -> Network:
-        """The network with other demands: all of a frame or of {(source, target): amount}; or the same with other amounts, {id: amount}."""
+        """The network with other demands: all of a frame or of {(source, target): amount}; or the same with other amounts, {id: amount}.
+
+        ValueError as in `from_frames`, for an unknown id, and for {}, which may mean either.
+        """
+        if isinstance(demands, Mapping) and not demands:
+            raise ValueError("demands: {} has neither pairs nor ids, so it may mean none at all, or no change: an empty frame means none at all")
         if isinstance(demands, Mapping) and not any(isinstance(key, tuple) for key in demands):
             wanted = self._numbers(demands, [demand.id for demand in self.rows.demands], "demand")
             rows = tuple(replace(row, unit="1", value=wanted[row.id]) if row.id in wanted else row for row in self.rows.demands)
@@ -194,7 +202,8 @@ class Network:
     def scaled_demands(self, factor: Number) -> Network:
         """The network with all amounts times a number. ValueError where one then has more than six decimals."""
         times = number_of(factor, "factor")
-        return self.with_demands({name_of(demand.id): demand.amount * times for demand in self.rows.demands})
+        amounts = {name_of(demand.id): demand.amount * times for demand in self.rows.demands}
+        return self.with_demands(amounts) if amounts else self
 
     def without(self, links: Collection[str] = (), nodes: Collection[str] = ()) -> Network:
         """The network without some links and nodes; with a node its links go, and the demands from and to it.
@@ -282,13 +291,14 @@ class Network:
               links: str | None = None, modules: str | None = None, progress: bool = True, timeout: float | None = None) -> Batch:
         """A certificate for each demand matrix, on the same nodes and links; all judged valid.
 
-        matrices: {name: what `with_demands` takes}, as many as you like. timeout: for each run of the program, of up to 64 matrices.
+        matrices: {name: what `with_demands` takes}, as many as you like; names are what `str` makes of them. timeout: for each run of the
+        program, of up to 64 matrices. ValueError, which names the matrix, where one cannot be, or two have one name.
         """
         options = dict(gap=gap, phases=phases, step=step, links=links, modules=modules)
         return asking.batch(self, matrices, options, progress, timeout)
 
-    def sweep(self, certificate: Certificate, *, timeout: float | None = None) -> Sweep:
-        """What a certificate is still worth without each single link: both bounds for each, without solving again.
+    def sweep(self, certificate: Certificate | Path, *, timeout: float | None = None) -> Sweep:
+        """What a certificate, or that of a path, is still worth without each single link: both bounds for each, without solving again.
 
         The paths stay as they are, so lower is 0 where one goes over the link; `sweepsolve` finds others. Upper holds for all routings.
         """
@@ -299,16 +309,16 @@ class Network:
         """The network solved anew without each single link: both bounds for each, and whether the gap was met."""
         return asking.sweep_solved(self, dict(gap=gap, phases=phases, step=step, links=links, modules=modules), timeout)
 
-    def whatif(self, certificate: Certificate, edits: Sequence[tuple[Any, ...]], *, timeout: float | None = None) -> WhatIf:
-        """What a certificate is still worth after each of some edits, one behind the other, without solving again.
+    def whatif(self, certificate: Certificate | Path, edits: Sequence[tuple[Any, ...]], *, timeout: float | None = None) -> WhatIf:
+        """What a certificate, or that of a path, is still worth after each of some edits, one behind the other, without solving again.
 
         edits: ("set", link, capacity), ("add", link, capacity), ("sub", link, capacity) or ("close", link). Numbers are in the network's
         unit, with at most as many decimals as its others. ValueError where an edit is none or names an unknown link.
         """
         return asking.what_if(self, certificate, edits, timeout)
 
-    def tighten(self, *certificates: Certificate, timeout: float | None = None) -> Certificate:
-        """The best certificate that one or more of this network give together, with the bounds of cuts that they point to."""
+    def tighten(self, *certificates: Certificate | Path, timeout: float | None = None) -> Certificate:
+        """The best certificate that one or more of this network, or those of paths, give together, with the bounds of cuts that they point to."""
         return asking.tightened(self, certificates, timeout)
 
     def check(self, certificate: Answer | Path, *, timeout: float | None = None) -> Judgement:

@@ -20,7 +20,10 @@ def fraction_of(word: str) -> Fraction:
     """The exact value of a number of a network file, as `.5`, `1000.00` or `2e-3`."""
     if not _NUMBER.fullmatch(word):
         raise TextError(f"{word!r} is no number")
-    return Fraction(word)
+    try:
+        return Fraction(word)
+    except ValueError:
+        raise TextError(f"{word[:40]!r}.. has more digits than are read") from None
 
 
 def whole_of(word: str) -> int:

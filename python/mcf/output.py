@@ -23,17 +23,13 @@ from typing import BinaryIO, NoReturn
 
 from . import jsons
 from .errors import McfError, TextError
+from .errors import one_line as one_line
 
 TROUBLE = 2
 INTERRUPTED = 130
 STANDARD = ("-", "/dev/stdout", "/dev/fd/1")
 _PART = ".mcf-part-"
 _SIGNALS = (signal.SIGINT, signal.SIGTERM, signal.SIGHUP)
-
-
-def one_line(text: str) -> str:
-    """The text as one line: control characters, line ends and bytes that are no text are escaped."""
-    return "".join(c if c.isprintable() else c.encode("unicode_escape", "surrogatepass").decode("ascii") for c in text)
 
 
 def contents(path: str) -> bytes:

@@ -7,7 +7,6 @@ import logging
 import os
 import re
 import shutil
-import signal
 import subprocess
 import sysconfig
 import tempfile
@@ -112,9 +111,11 @@ class Program:
 
 def _no_answer(words: Sequence[str], answer: Answer) -> TextError:
     """The error of a command that ended without an answer."""
-    why = explained(answer.line, [*words], limits_of(answer.program)) if answer.line else _silent(answer.status)
-    fault = TextError(f"mcf {words[0]}: {why}")
-    return refused_at(fault, answer.line, files_of([*words])) if answer.line else fault.at(kind="program")
+    if answer.status < 0 or not answer.line:
+        # (what a program wrote that was ended by a signal is a part of something)
+        return TextError(f"mcf {words[0]}: {silent(answer.status)}").at(kind="program")
+    why = explained(answer.line, [*words], limits_of(answer.program))
+    return refused_at(TextError(f"mcf {words[0]}: {why}"), answer.line, files_of([*words]))
 
 
 def refused_at(fault: _Fault, said: str, files: Mapping[str, str]) -> _Fault:
@@ -209,10 +210,10 @@ def is_old(program: Path, crates: Path) -> bool:
     return any(file.stat().st_mtime_ns > time for file in sources)
 
 
-def _silent(status: int) -> str:
+def silent(status: int) -> str:
     """What is said of an end without a line."""
     if status < 0:
-        return f"ended by {signal.Signals(-status).name}"
+        return f"ended by {children.signal_name(-status)}"
     return "it could not be started, or took no words that are not UTF-8: status 7" if status == 7 else f"status {status}"
 
 

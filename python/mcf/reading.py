@@ -10,33 +10,55 @@ from .commands import ask
 from .convert import native
 from .convert.model import Notes
 from .convert.model import Refused as NoNetwork
+from .convert.numbers import UNITS
 from .convert.work import Task, convert
-from .errors import ReadFault, Refused
-from .given import number_of
+from .errors import ReadFault, Refused, one_line, place_of
+from .given import brief, number_of
+from .limits import MAX_DECIMALS
 from .network import read_network
 from .networks import Network
-from .output import one_line
 from .running import in_memory
 from .tokens import NATIVE
 
 # options of `mcf.read`, and their names in the converter's task
 _OPTIONS = {"capacity": "capacity", "capacity_default": "missing", "unit": "unit", "from_unit": "from_unit", "round": "decimals",
             "merge": "merge", "gravity": "gravity", "scale": "scale"}
+_CHOICES = {"unit": (*UNITS, None), "from_unit": (*UNITS, None), "round": (*range(MAX_DECIMALS + 1), None), "merge": (True, False)}
 _ONE_WAY = "links are one way"
 
 
 def read_files(paths: list[str], options: dict[str, Any]) -> Network:
     """The network of files."""
-    unknown = next((name for name in options if name not in _OPTIONS), None)
-    if unknown is not None:
-        raise ValueError(f"there is no option {unknown!r}; there are {', '.join(_OPTIONS)}")
+    _require_options(options)
     data = _contents(paths[0])
+    for path in paths[1:]:
+        _require_readable(path)
     if len(paths) == 1 and not options and data.startswith(NATIVE):
         return _of_text(data, paths[0])
     converted, notes = _converted(paths, options)
     mode = "directed" if any(_ONE_WAY in note for note in notes) else "undirected"
     network = _of_text(converted, paths[0])
     return replace(network, notes=notes, mode=mode if network.mode == "undirected" else network.mode)
+
+
+def _require_options(options: dict[str, Any]) -> None:
+    """ValueError where there is no option of a name, or where a value is none of its own."""
+    for name, value in options.items():
+        if name not in _OPTIONS:
+            raise ValueError(f"there is no option {name!r}; there are {', '.join(_OPTIONS)}")
+        if name in _CHOICES and (value not in _CHOICES[name] or isinstance(value, bool) != (name == "merge")):
+            raise ValueError(f"{name} is {' or '.join(map(str, _CHOICES[name]))}, and not {brief(value, repr)}")
+        if name in ("capacity", "capacity_default") and not isinstance(value, (str, type(None))):
+            raise ValueError(f"{name} is a str, and not {brief(value, repr)}")
+
+
+def _require_readable(path: str) -> None:
+    """ReadFault where a file cannot be opened."""
+    try:
+        with open(path, "rb"):
+            pass
+    except OSError as error:
+        raise ReadFault(f"{path}: {error.strerror}") from None
 
 
 def _contents(path: str) -> bytes:
@@ -69,11 +91,13 @@ def _mode(path: str, data: bytes) -> str:
 def _converted(paths: list[str], options: dict[str, Any]) -> tuple[bytes, tuple[str, ...]]:
     """The network text of files of any format, and what the converter says of it."""
     said = io.StringIO()
-    asked = {_OPTIONS[name]: number_of(value, name) if name in ("gravity", "scale") else value for name, value in options.items()}
+    asked = {_OPTIONS[name]: number_of(value, name) if name in ("gravity", "scale") else value for name, value in options.items() if value is not None}
     with in_memory([b""]) as (number,):
         target = f"/proc/self/fd/{number}"
         try:
             convert(Task(paths, target, written="net", **asked), Notes(said))
         except NoNetwork as refused:
-            raise Refused("convert", paths[0], None, one_line(str(refused)), "") from None
+            sentence = one_line(str(refused))
+            file, line = place_of(sentence, paths)
+            raise Refused("convert", file or paths[0], line, sentence, "") from None
         return _contents(target), tuple(said.getvalue().splitlines())

@@ -9,6 +9,7 @@ The standard library alone.
 from __future__ import annotations
 
 import contextlib
+import math
 import os
 import signal
 import subprocess
@@ -16,7 +17,9 @@ import sys
 import tempfile
 import threading
 from collections.abc import Iterator, Sequence
+from decimal import Decimal
 from functools import lru_cache
+from numbers import Real
 from pathlib import Path
 
 from . import children
@@ -34,6 +37,7 @@ sys.argv[:] = [tool, *sys.argv[4:]]
 main_of(import_module("mcf.cli." + tool).main, tool)
 """
 _FRONT = 64
+_LONGEST = 10**9
 _KNOWN_SECONDS = 60.0
 
 
@@ -41,14 +45,28 @@ def run(words: Sequence[str], descriptors: Sequence[int] = (), timeout: float | 
         environment: dict[str, str] | None = None, gently: bool = False) -> Ended:
     """Runs a program to its end, by `children.run`; NoProgram where it cannot be started.
 
-    timeout: in seconds; Timeout where it is over, which calls the program by `name`, or by that of its file.
+    timeout: in seconds; Timeout where it is over, which calls the program by `name`, or by that of its file. ValueError where it is none.
     """
     try:
-        return children.run(words, timeout, descriptors=descriptors, environment=environment, gently=gently)
+        return children.run(words, seconds_of(timeout), descriptors=descriptors, environment=environment, gently=gently)
     except subprocess.TimeoutExpired:
-        raise Timeout(f"{name or Path(words[0]).name} was not done in {timeout:g} seconds") from None
+        raise Timeout(f"{name or Path(words[0]).name} was not done in {seconds_of(timeout):g} seconds") from None
     except OSError as error:
         raise NoProgram(f"{words[0]}: {error.strerror}") from None
+
+
+def seconds_of(timeout: object) -> float | None:
+    """The seconds of a timeout, None where it has no end; ValueError where it is no number from 0 on."""
+    if timeout is None:
+        return None
+    if isinstance(timeout, (Real, Decimal)) and not isinstance(timeout, bool):
+        try:
+            seconds = float(timeout)
+        except OverflowError:
+            seconds = math.inf
+        if seconds >= 0:
+            return None if seconds > _LONGEST else seconds
+    raise ValueError(f"timeout is a number of seconds from 0 on, or None, and not {timeout!r}")
 
 
 @contextlib.contextmanager
@@ -81,24 +99,28 @@ def require_program(path: str) -> None:
 def _require_answer(path: str, is_binary: bool, *_: int) -> None:
     """NoProgram unless the program answers no words by `usage` and status 2, as mcf does; what the file was is there to tell files apart."""
     with children.started([path]) as child:
+        late = threading.Event()
         # (the starter, a script, may have to build the program first)
-        ending = threading.Timer(_KNOWN_SECONDS, _end_group, (child.pid,))
+        ending = threading.Timer(_KNOWN_SECONDS, _end_group, (child.pid, late))
         if is_binary:
             ending.start()
         try:
             # (no more than a front is read, since another program may write without end)
             front = child.stdout.read(_FRONT) if child.stdout else b""
-            status = child.wait(1.0) if front == b"usage\n" else None
+            status = child.wait(1.0) if front in (b"usage\n", b"") else None
         except subprocess.TimeoutExpired:
             status = None
         finally:
             ending.cancel()
-    if status != 2:
+    if status is not None and status < 0 and not late.is_set():
+        require_status(Ended(status, front, b""), path)
+    if (front, status) != (b"usage\n", 2):
         raise NoProgram(f"{path}: this is another program than mcf, since it does not answer as mcf does")
 
 
-def _end_group(group: int) -> None:
+def _end_group(group: int, late: threading.Event) -> None:
     """Kills a group that takes too long."""
+    late.set()
     with contextlib.suppress(ProcessLookupError):
         os.killpg(group, signal.SIGKILL)
 
@@ -118,9 +140,8 @@ def run_tool(tool: str, words: Sequence[str], texts: Sequence[bytes], timeout: f
 
 
 def require_status(ended: Ended, path: str) -> None:
-    """McfError where a program ended by a signal, or with a status that mcf has not."""
+    """McfError where a program ended by a signal; NoProgram where it has a status that mcf has not."""
     if ended.status < 0:
-        name = signal.Signals(-ended.status).name if -ended.status in set(signal.Signals) else f"signal {-ended.status}"
-        raise McfError(f"{path} was ended by {name}")
+        raise McfError(f"{path} was ended by {children.signal_name(-ended.status)}")
     if ended.status > 7:
         raise NoProgram(f"{path}: status {ended.status}, which mcf has not: {ended.trouble or ended.line}")

@@ -102,7 +102,8 @@ def test_numbers_are_exact(value: object, exact: Fraction) -> None:
 @pytest.mark.parametrize("value, said", [
     (1e-7, "has more than 6 decimals"), (float("nan"), "is no number"), (float("inf"), "is no number"), (-1, "is negative"), ("1,5", "is no number"),
     (True, "is no number"), (None, "is no number"), (Fraction(1, 3), "has more than 6 decimals"), (2**44 + 1, "is more than 17592186044416"),
-    (Decimal("NaN"), "is no number"), ("1/2", "is no number"), (pandas.NA, "is no number"), (1 / 3, "has more than 6 decimals"), ([1], "is no number")])
+    (Decimal("NaN"), "is no number"), ("1/2", "is no number"), (pandas.NA, "is no number"), (1 / 3, "has more than 6 decimals"), ([1], "is no number"),
+    ("9" * 5000, "'99999[0-9]*.. is no number"), pytest.param(10**5000, "a number of thousands of digits is more than", id="long"), (10**100, "10{79}.. is more than")])
 def test_other_numbers_are_refused_by_their_row(value: object, said: str) -> None:
     frame = pandas.DataFrame({"source": ["A", "A"], "target": ["B", "B"], "capacity": pandas.Series([1, value], [7, 8], dtype=object)}, index=[7, 8])
     with pytest.raises(ValueError, match=f"links, row 8, capacity: .*{said}"):
@@ -175,6 +176,34 @@ def test_a_fault_of_a_graph_is_named(edges: list[object], said: str) -> None:
         Network.from_networkx(networkx.Graph(edges), {})
 
 
+@pytest.mark.parametrize("mode", ["undirected", "directed", "bidirected"])
+@pytest.mark.parametrize("beside", [{}, {"key": [1, 2, 3], "u_for_edge": ["p", "q", "r"], "self": [4, 5, 6], "pos": ["x", "y", "z"]}])
+def test_a_network_goes_to_a_graph_and_back(program: Program, mode: str, beside: dict[str, list[object]]) -> None:
+    """Parallel links, links of a pair both ways, and columns of any name."""
+    frame = pandas.DataFrame({"id": ["a", "b", "c"], "source": ["A", "A", "B"], "target": ["B", "B", "A"], "capacity": [1, 0.25, 3], **beside})
+    network = Network(Network.from_frames(frame, {("A", "B"): 1}).rows, mode, _beside=Network.from_frames(frame, {})._beside)
+    graph = network.to_networkx()
+    assert graph.number_of_edges() == 3 and {data["capacity"] for _, _, data in graph.edges(data=True)} == {1, 0.25, 3}
+    again = Network.from_networkx(graph, network.demands)
+    assert (again, again.mode) == (network, mode) and again.links.to_dict("list") == network.links.to_dict("list")
+    assert again.check(network.solve())
+
+
+def test_undirected_links_keep_their_ends(program: Program) -> None:
+    frame = pandas.DataFrame({"id": ["x", "y"], "source": ["C", "B"], "target": ["A", "A"], "capacity": [1, 2]})
+    network = Network.from_frames(frame, {("B", "C"): 1}, pandas.DataFrame({"id": ["A", "B", "C"]}))
+    again = Network.from_networkx(network.to_networkx(), network.demands)
+    assert {(row.id, row.source, row.target) for row in again.rows.links} == {(row.id, row.source, row.target) for row in network.rows.links}
+
+
+def test_floats_that_are_whole_are_the_names_of_their_ints() -> None:
+    """Of a column of ints in which one is missing pandas makes floats."""
+    frame = pandas.DataFrame({"source": [1.0, 2.0], "target": [2, 3], "capacity": [1, 1]})
+    network = Network.from_frames(frame, {(1, numpy.float64(3)): 1})
+    assert network.nodes.id.tolist() == ["1", "2", "3"] and network.links.id.tolist() == ["1-2", "2-3"]
+    assert Network.from_frames(links(source=[1.5]), {}).nodes.id.tolist() == ["1.5", "B"]
+
+
 def test_another_attribute_may_have_the_capacity() -> None:
     graph = networkx.Graph()
     graph.add_edge("A", "B", bandwidth=Fraction(5, 2))
@@ -216,6 +245,31 @@ def test_a_file_that_is_no_network_is_refused(program: Program, tmp_path: Path, 
         mcf.read(tmp_path / "x.net")
     assert (caught.value.kind, caught.value.line, caught.value.file) == (kind, line, str(tmp_path / "x.net")) and caught.value.sentence
     assert "\n" not in str(caught.value) and str(pickle.loads(pickle.dumps(caught.value))) == str(caught.value)
+
+
+def test_a_file_of_several_that_is_refused_is_named_with_its_line(tmp_path: Path) -> None:
+    (tmp_path / "links.csv").write_text("source,target,capacity\nA,B,1.5\n")
+    (tmp_path / "demands\xfc.csv").write_text("source,target,amount\nA,B,1\nA,B,much\n")
+    with pytest.raises(mcf.Refused) as caught:
+        mcf.read(tmp_path / "links.csv", tmp_path / "demands\xfc.csv")
+    assert (caught.value.kind, caught.value.file, caught.value.line) == ("convert", str(tmp_path / "demands\xfc.csv"), 3)
+    with pytest.raises(mcf.ReadFault, match="none.csv: No such file"):
+        mcf.read(tmp_path / "links.csv", tmp_path / "none.csv")
+
+
+@pytest.mark.parametrize("options, said", [
+    ({"round": 7}, "round is 0 or .* or 6 or None, and not 7"), ({"round": 1.5}, "and not 1.5"), ({"round": True}, "and not True"), ({"unit": "ell"}, "unit is bit or "),
+    ({"from_unit": 5}, "from_unit is bit or "), ({"merge": "yes"}, "merge is True or False, and not 'yes'"), ({"merge": 1}, "and not 1"),
+    ({"capacity_default": 10}, "capacity_default is a str, and not 10"), ({"capacity": 5}, "capacity is a str, and not 5"), ({"scale": -1}, "scale: -1 is negative"),
+    ({"gravity": "x"}, "gravity: 'x' is no number")])
+def test_an_option_of_read_that_cannot_be_is_refused(root: Path, options: dict[str, object], said: str) -> None:
+    with pytest.raises(ValueError, match=said):
+        mcf.read(root / "examples/alps.graphml", **options)
+
+
+def test_options_of_read_that_are_none_are_as_if_they_were_not_given(program: Program, root: Path) -> None:
+    plain = {"unit": None, "from_unit": None, "round": None, "merge": False, "gravity": None, "scale": None, "capacity": None}
+    assert mcf.read(root / "examples/alps.graphml", capacity_default="10G", **plain) == mcf.read(root / "examples/alps.graphml", capacity_default="10G")
 
 
 def test_a_file_that_is_missing_is_a_read_fault(program: Program, tmp_path: Path) -> None:
@@ -392,6 +446,9 @@ def test_sweeps_and_edits(triangle: Network) -> None:
     assert list(solved.table().columns) == ["link", "lower", "upper", "closed", "phases"] and len(sweep.table()) == 3
     with pytest.raises(KeyError):
         sweep["X"]
+    assert sweep[-1] == sweep[2] == sweep[numpy.int64(2)] == list(sweep)[2] and sweep[:2] == tuple(sweep)[:2]
+    with pytest.raises(IndexError):
+        sweep[3]
     edits = [("set", "A-B", 12), ("add", "A-B", Fraction(3)), ("sub", "A-B", 5), ("close", "B-C")]
     found = triangle.whatif(certificate, edits)
     assert found.table().edit.tolist() == ["set A-B 12", "add A-B 3", "sub A-B 5", "close B-C"]
@@ -402,10 +459,31 @@ def test_sweeps_and_edits(triangle: Network) -> None:
 @pytest.mark.parametrize("edit, said", [
     (("set", "X", 1), "edit 2: the network has no link 'X'"), (("double", "A-B"), "edit 2: .* is no edit"), (("set", "A-B"), "edit 2: .* is no edit"),
     (("close", "A-B", 1), "edit 2: .* is no edit"), ("close", "edit 2: 'close' is no edit"), (("set", "A-B", float("nan")), "edit 2: nan is no number"),
-    (("set", "a b", 1), "edit 2: the name 'a b' has a blank")])
+    (("set", "a b", 1), "edit 2: the name 'a b' has a blank"), (5, "edit 2: 5 is no edit"), ([], r"edit 2: \[\] is no edit"),
+    (([], "A-B"), "edit 2: .* is no edit"), (None, "edit 2: None is no edit")])
 def test_an_edit_that_is_none_is_named(triangle: Network, edit: object, said: str) -> None:
     with pytest.raises(ValueError, match=said):
         triangle.whatif(triangle.solve(), [("close", "A-B"), edit])  # type: ignore[list-item]
+
+
+def test_a_certificate_may_be_given_by_its_path(triangle: Network, tmp_path: Path) -> None:
+    certificate, file = triangle.solve(), tmp_path / "a.cert"
+    certificate.save(file)
+    assert triangle.sweep(file) == triangle.sweep(certificate) and triangle.sweep(str(file)) == triangle.sweep(certificate)
+    assert triangle.whatif(file, [("close", "A-B")]) == triangle.whatif(certificate, [("close", "A-B")])
+    assert triangle.tighten(file, certificate).data == triangle.tighten(certificate, file).data
+    (tmp_path / "cut").write_bytes(certificate.data[:60])
+    calls = [triangle.sweep, triangle.tighten, triangle.check, lambda path: triangle.tighten(certificate, path),
+             lambda path: triangle.whatif(path, [("close", "A-B")])]
+    for call in calls:
+        with pytest.raises(mcf.Refused, match=f"^{tmp_path}/cut: refused cert2? K2 line 4: ") as caught:
+            call(tmp_path / "cut")  # type: ignore[operator]
+        assert (caught.value.file, caught.value.line) == (str(tmp_path / "cut"), 4)
+        for none in (None, 5, [certificate]):
+            with pytest.raises(TypeError, match="a certificate is wanted, or the path of one, and not "):
+                call(none)  # type: ignore[operator]
+        with pytest.raises(mcf.TextError, match="No such file"):
+            call(tmp_path / "none")  # type: ignore[operator]
 
 
 def test_an_edit_that_the_program_refuses(triangle: Network) -> None:
@@ -441,8 +519,25 @@ def test_more_matrices_than_a_run_takes(triangle: Network, program: Program, tmp
 
 
 def test_a_matrix_without_demands_is_refused(triangle: Network) -> None:
-    with pytest.raises(mcf.Refused, match="M8"):
-        triangle.batch({"m": {"A-B": 0, "A-C": 0}}, progress=False)
+    for empty in ({"A-B": 0, "A-C": 0}, DEMANDS.head(0)):
+        with pytest.raises(mcf.Refused, match="M8"):
+            triangle.batch({"m": empty}, progress=False)
+    with pytest.raises(ValueError, match="^matrix 'm': demands: {} has neither pairs nor ids"):
+        triangle.batch({"n": {"A-B": 1}, "m": {}}, progress=False)
+    with pytest.raises(ValueError, match="has neither pairs nor ids"):
+        triangle.with_demands({})
+    assert triangle.with_demands(DEMANDS.head(0)).scaled_demands(2).demands.empty
+
+
+def test_matrices_of_one_name_and_what_is_none_are_refused(triangle: Network) -> None:
+    assert list(triangle.batch({1: {"A-B": 1}, 2.0: {"A-B": 2}}, progress=False)) == ["1", "2"]  # type: ignore[dict-item]
+    with pytest.raises(ValueError, match="^matrix '1': another one has that name too$"):
+        triangle.batch({1: {"A-B": 1}, "1": {"A-B": 2}}, progress=False)  # type: ignore[dict-item]
+    with pytest.raises(ValueError, match="^matrix 'm': the network has no demand 'X'$"):
+        triangle.batch({"m": {"X": 1}}, progress=False)
+    with pytest.raises(ValueError, match="^matrices: {name: demands} is wanted, and not "):
+        triangle.batch([DEMANDS], progress=False)  # type: ignore[arg-type]
+    assert len(triangle.batch({"m": {"A-B": 1}}, phases="5", progress=False)) == 1  # type: ignore[arg-type]
 
 
 # -- options
@@ -450,7 +545,9 @@ def test_a_matrix_without_demands_is_refused(triangle: Network) -> None:
 
 @pytest.mark.parametrize("options, said", [
     ({"phases": 0}, "`0` is no value of --phases, which is a whole number from 1 to 65536"), ({"workers": 17}, "--workers"), ({"links": "both"}, "--links"),
-    ({"modules": "all"}, "--modules")])
+    ({"modules": "all"}, "--modules"), ({"links": ""}, "--links"), ({"phases": 1.5}, "phases is a whole number, and not 1.5"),
+    ({"workers": True}, "workers is a whole number, and not True"), ({"step": [1]}, r"step is a whole number, and not \[1\]"),
+    ({"links": 2.5}, "links is a str, and not 2.5")])
 def test_an_option_out_of_range_is_usage(triangle: Network, options: dict[str, object], said: str) -> None:
     with pytest.raises(mcf.Usage, match=said):
         triangle.solve(**options)  # type: ignore[arg-type]
@@ -462,8 +559,6 @@ def test_gaps_are_exact(triangle: Network) -> None:
     for gap, kind in ((Fraction(1, 3), ValueError), (-1, ValueError), (1001, ValueError), (float("nan"), ValueError)):
         with pytest.raises(kind):
             triangle.solve(gap=gap)
-    with pytest.raises(TypeError):
-        triangle.solve(phases=1.5)  # type: ignore[arg-type]
 
 
 def test_what_the_network_has_too_much_of_is_refused(triangle: Network) -> None:
@@ -481,8 +576,11 @@ def test_what_the_network_has_too_much_of_is_refused(triangle: Network) -> None:
 def test_a_tool_without_an_answer_says_why(triangle: Network) -> None:
     with pytest.raises(mcf.McfError, match="has no way over links with capacity"):
         triangle.with_demands({("A", "B"): 1}).with_capacities({"A-B": 0, "A-C": 0}).route("hops")
-    with pytest.raises(mcf.McfError, match="invalid choice: 'best'"):
+    with pytest.raises(mcf.Usage, match=r"invalid choice: 'best' \(choose from [^()]*\)$"):
         triangle.route("best")
+    for seconds in ("x", 0, -1, float("nan")):
+        with pytest.raises(mcf.Usage, match="is no number of seconds above 0$"):
+            triangle.certify(seconds=seconds, progress=False)  # type: ignore[arg-type]
     with pytest.raises(ValueError, match="kind is solve, hops or throughput"):
         triangle.certify("best")
 

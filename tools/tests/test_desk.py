@@ -2,17 +2,25 @@
 
 from __future__ import annotations
 
+import contextlib
 import json
+import os
+import random
+import re
+import shutil
 import signal
 import subprocess
 import threading
 import time
+import urllib.parse
 from pathlib import Path
 
 import pytest
 
 from desks import DESK, EXAMPLES, Running, alive, as_shown, descendants, desk, part, refused, shown, wait
-from mcf import Program
+from mcf import Program, TextError
+from mcf.desk import serve
+from mcf.desk.opening import Request, opened
 
 NET, CERT = EXAMPLES / "triangle.net", EXAMPLES / "triangle.cert"
 AB, AC, BC = 0, 1, 2
@@ -78,6 +86,96 @@ def test_an_edit_that_cannot_be_is_refused_in_one_line(three: Running, fields: d
     before = three.news()
     assert three.post("/edit", **fields) == (400, f"{line}\n")
     assert three.news() == before
+
+
+def buttons(text: str, changes: bool = False) -> dict[str, tuple[str, str, str]]:
+    """What is said of each cell on the map of a page, or in the changes of it: words, class and width."""
+    if changes:
+        found = re.findall(r'<li data-cell="(\d+)" data-class="([^"]*)" data-width="([^"]*)">([^<]*)</li>', text)
+        return {cell: (words, kind, width) for cell, kind, width, words in found}
+    found = re.findall(r'<g role="button" id="m(\d+)"[^>]*? class="([^"]*)" aria-label="([^"]*)">.*?stroke-width="([^"]*)"', text)
+    return {cell: (words, kind, width) for cell, kind, words, width in found}
+
+
+def test_each_link_of_a_map_that_is_open_says_what_it_says_on_a_new_page(program: Program):
+    """An edit changes the share of the bound of all links, not of its own alone; also on a page that was opened between two edits."""
+    with desk(program, EXAMPLES / "polska.net", EXAMPLES / "polska.cert") as running:
+        pages = [buttons(running.enter())]
+        assert len(pages[0]) == 18
+        for path, fields in (("/edit", {"link": 0, "what": "double"}), ("/edit", {"link": 3, "what": "close"}), ("/undo", {}), ("/undo", {})):
+            text = running.post(path, **fields, page_map="f:given")[1]
+            pages = [page | buttons(text, True) for page in pages]
+            new = buttons(running.get("/")[1])
+            assert all(page == new for page in pages)
+            pages.append(new)
+
+
+def test_an_answer_tells_which_state_it_is_of(program: Program):
+    """A page that was given one part of a newer state still asks for the rest."""
+    with desk(program, NET, CERT) as running:
+        seen = re.search(r'data-revision="(\d+)"', running.enter())
+        assert seen is not None
+        running.post("/edit", link=AB, what="close")
+        for path in ("/link?page_link=1", "/links?sort=name", "/growth"):
+            with running.client.open(running.base + path) as answer:
+                assert answer.headers["Desk-Revision"] is None and int(answer.headers["Desk-Part"]) > int(seen[1])
+        with running.client.open(f"{running.base}/news?seen={seen[1]}") as answer:
+            assert int(answer.headers["Desk-Revision"]) > int(seen[1]) and shown(answer.read().decode())[0] == "0.000000"
+
+
+def test_what_is_without_edits_has_none(program: Program, tmp_path: Path):
+    """Where edits were saved before and the network is solved first, the first certificate is of the edited network."""
+    (tmp_path / "plan.script").write_text("set AB 20 show\n")
+    with desk(program, NET, "--save", tmp_path / "plan.script") as running:
+        running.enter()
+        assert "Without edits" not in running.done()
+        assert "Without edits" not in running.post("/edit", link=AC, what="double")[1]
+
+
+def test_a_certificate_that_was_chosen_stays_while_it_fits(program: Program):
+    with desk(program, NET, CERT) as running:
+        running.enter()
+        running.post("/edit", link=AB, what="double")
+        running.post("/solve", kind="solve")
+        assert "By the certificate solve-1" in part(running.done(), "bounds")
+        running.post("/choose", name="given")
+        assert "By the certificate given" in part(running.post("/edit", link=AC, what="double")[1], "bounds")
+        running.post("/solve", kind="solve")
+        assert "By the certificate solve-2" in part(running.done(), "bounds")
+        running.post("/undo")
+        assert "By the certificate solve-1" in part(running.news(), "bounds")
+
+
+def test_bounds_are_asked_for_again_once_what_was_in_the_way_is_gone(program: Program, tmp_path: Path):
+    file = tmp_path / "mcf"
+    file.write_text(f'#!/bin/sh\n[ "$1" = whatif ] && [ -e {tmp_path}/kill ] && kill -9 $$\nexec {program.path} "$@"\n')
+    file.chmod(0o755)
+    with desk(str(file), NET, CERT) as running:
+        running.enter()
+        (tmp_path / "kill").touch()
+        assert part(running.post("/edit", link=AB, what="double")[1], "bounds").endswith("mcf was ended by SIGKILL")
+        (tmp_path / "kill").unlink()
+        running.post("/undo")
+        assert part(running.post("/redo")[1], "bounds").startswith("All demands fit: ")
+
+
+def test_longest_paths_that_the_bounds_do_not_keep_to_are_told(program: Program, tmp_path: Path):
+    (tmp_path / "a.net").write_text(NET.read_text().replace("UNLIMITED", "1", 1))
+    with desk(program, tmp_path / "a.net") as running:
+        running.enter()
+        assert "Over paths of any length: 1 demand has a longest path in the file" in part(running.done(), "bounds")
+    with desk(program, NET, CERT) as running:
+        assert "longest path" not in running.enter()
+
+
+@pytest.mark.parametrize("word", ["1.1", ".5", "5.", "1e1", "1e60", " 2 ", "0", "0.0", "-1", "+2", "1,1", "1/3", "x", "", "nan", "1e-9", "1_0", "9" * 90])
+def test_growth_has_one_grammar(program: Program, three: Running, word: str):
+    """That of `tools/survey --grow`."""
+    words = [DESK.parent / "survey", NET, CERT, f"--grow={word}", "--mcf", program.path]
+    done = subprocess.run(words, capture_output=True, text=True, check=False)
+    three.post("/undo")
+    said = part(three.get(f"/growth?{urllib.parse.urlencode({'page_x': word, 'page_times': 1})}")[1], "growth").partition(" not decided. ")[2]
+    assert said == (done.stdout.strip() or done.stderr.strip().removeprefix("survey: --grow: "))
 
 
 @pytest.fixture(scope="module")
@@ -188,6 +286,79 @@ def test_edits_are_kept_in_a_file_and_gone_on_with(program: Program, tmp_path: P
     assert refused(program, NET, CERT, "--save", file) == (2, "", f"desk: {file}: line 2: the network has no link XY\n")
 
 
+def test_comments_of_a_saved_file_are_not_lost(program: Program, tmp_path: Path):
+    """Those on lines of their own name the edit behind them, and the last ones the last edit; none is cut."""
+    file, long = tmp_path / "plan.script", "x" * 300
+    file.write_text(f"# Zürich,\n\n# spring\nclose AB show # digging\nset AC 7\nshow # {long}\nsub BC 1 set AB 3 show\n# end\n")
+    with desk(program, NET, CERT, "--save", file) as running:
+        running.enter()
+        running.post("/edit", link=AB, what="double")
+    assert file.read_text() == (f"close AB show # Zürich,; spring; digging\nset AC 7 show\nset BC 5 show\nset AB 3 show # {long}; end\n"
+                                "set AB 6 show\n")
+
+
+def test_names_that_are_not_ascii_are_told_as_they_are(program: Program, tmp_path: Path):
+    (tmp_path / "a.net").write_text(NET.read_text().replace(" AB ", " Zürich "))
+    with desk(program, tmp_path / "a.net") as running:
+        running.enter()
+        running.done()
+        running.post("/edit", link=AB, what="double")
+        assert running.end() == (130, "desk: ended by SIGTERM; the edits, as a script of mcf whatif: set Zürich 20 show\n")
+    (tmp_path / "script").write_text("set Züri 20 show\n")
+    line = f"desk: {tmp_path}/script: line 1: the network has no link Züri\n"
+    assert refused(program, tmp_path / "a.net", "--save", tmp_path / "script") == (2, "", line)
+
+
+def test_files_whose_names_are_no_text(program: Program, tmp_path: Path):
+    """The program takes no such word, so the commands beside what is taken away name the download of the network."""
+    net, cert = Path(os.fsdecode(bytes(tmp_path) + b"/a\xff.net")), tmp_path / "a.cert"
+    shutil.copy(NET, net)
+    with desk(program, net, CERT) as running:
+        running.enter()
+        running.post("/edit", link=AB, what="double")
+        says = part(running.news(), "out")
+        assert "mcf whatif a.net a-given.cert a-edits.script" in says and "The network as it was read" in says and "( a.net )" in says
+        written(tmp_path, running, **{"a.net": "read", "a-given.cert": "certificate", "a-edits.script": "script"})
+        assert as_shown(ask(program, "whatif", *(tmp_path / name for name in ("a.net", "a-given.cert", "a-edits.script")))) == running.bounds()
+    words = [DESK, net, NET, "--no-browser", "--json", "--mcf", program.path]
+    cert.write_text(CERT.read_text()[:60])
+    for other, code, line in ((NET, "K1", 1), (cert, "K2", 4)):
+        words[2] = other
+        done = subprocess.run(words, capture_output=True, check=False)
+        error = json.loads(done.stdout)["error"]
+        assert (done.returncode, error["kind"], error["code"], error["file"], error["line"]) == (2, "refused", code, str(other), line)
+    words[1] = Path(os.fsdecode(bytes(tmp_path) + b"/none\xff.net"))
+    assert json.loads(subprocess.run(words, capture_output=True, check=False).stdout)["error"]["file"] == str(words[1])
+
+
+def test_a_title_may_begin_with_a_line(program: Program):
+    with desk(program, NET, CERT, "--title=--x") as running:
+        assert "<h1>--x</h1>" in running.enter() and "--html x-given.html --title=--x" in part(running.news(), "out")
+        assert "<title>--x</title>" in running.get("/out/report")[1]
+
+
+@pytest.mark.parametrize("seed", range(6))
+def test_drawn_edits_have_the_bounds_of_the_command_line(program: Program, tmp_path: Path, monkeypatch: pytest.MonkeyPatch, seed: int):
+    """Lists of edits, undone and done again, byte for byte as mcf whatif of their script and of the file of --save says."""
+    monkeypatch.setenv("MCF", program.path)
+    drawn = random.Random(seed)
+    modes = ["--links", drawn.choice(["undirected", "directed", "bidirected"]), "--modules", drawn.choice(["largest", "none", "sum"])]
+    net, cert, save = EXAMPLES / drawn.choice(["polska.net", "triangle.net", "both-ways.net"]), tmp_path / "cert", tmp_path / "save"
+    cert.write_bytes(subprocess.run([program.path, "solve", net, *modes], capture_output=True, check=False).stdout)
+    state, _ = opened(Request(str(net), str(cert), str(save), None, None, None, None))
+    for _ in range(40):
+        what = drawn.choice(["close", "double", "set", "set", "restore", "undo", "undo", "redo"])
+        with contextlib.suppress(TextError):
+            if what in ("undo", "redo"):
+                getattr(state, what)()
+            else:
+                state.edit(drawn.randrange(len(state.ground.installed)), what, drawn.choice(["0", "7", "1e3", ".5", "3.25", "12.000001", " 4 "]))
+        if drawn.random() < 0.2 and state.script():
+            (tmp_path / "script").write_text(state.script())
+            said = ask(program, "whatif", net, cert, tmp_path / "script")
+            assert state.settle() and state.bounds.line == said == ask(program, "whatif", net, cert, save)
+
+
 def test_without_a_file_the_last_line_has_the_edits(program: Program):
     with desk(program, NET, CERT) as running:
         running.enter()
@@ -249,3 +420,20 @@ def test_a_port_that_is_taken_is_told_in_one_line(program: Program):
     with desk(program, NET, CERT) as running:
         status, out, err = refused(program, NET, CERT, "--port", str(running.port))
         assert (status, out, err) == (2, "", f"desk: port {running.port} of 127.0.0.1: Address already in use\n")
+
+
+def test_the_end_of_a_desk_is_no_fault_of_its_server() -> None:
+    """Its socket is closed while the server waits at it."""
+    class Closed:
+        """A server whose socket was closed, and the desk that it is of."""
+
+        closed = True
+
+        def run(self) -> None:
+            """Waits at the socket."""
+            raise OSError(9, "Bad file descriptor")
+
+    serve._run(Closed(), Closed())  # type: ignore[arg-type]
+    Closed.closed = False
+    with pytest.raises(OSError, match="Bad file descriptor"):
+        serve._run(Closed(), Closed())  # type: ignore[arg-type]

@@ -164,13 +164,18 @@ def test_it_listens_on_the_loopback_address_alone(running: Running):
 
 
 def test_strangers_who_only_connect_keep_nobody_out(running: Running):
-    lines = [socket.create_connection(("127.0.0.1", running.port)) for _ in range(60)]
+    lines = [socket.create_connection(("127.0.0.1", running.port)) for _ in range(600)]
     try:
         for line in lines[::2]:
             line.sendall(b"POST /edit HTTP/1.1\r\nHost: x\r\nContent-Length: 1000\r\n\r\nx")
+        for line in lines[1::3]:
+            line.sendall(b"GET / HTTP/1.1\r\nHost: ")
         with urllib.request.build_opener(Open).open(f"{running.base}/", timeout=60) as answer:
             assert answer.status == 403
         assert running.get("/")[0] == 200
+        # (what says nothing is let go of, so that not even more of them keep others out for long)
+        lines[1].settimeout(60)
+        assert lines[1].recv(1) == b""
     finally:
         for line in lines:
             line.close()

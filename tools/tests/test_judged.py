@@ -2,6 +2,7 @@
 
 from __future__ import annotations
 
+import pickle
 from fractions import Fraction
 from pathlib import Path
 
@@ -62,6 +63,22 @@ def test_what_is_not_valid_is_not_spoken_of(program: Program, root: Path) -> Non
 def test_other_lines_are_no_judgement(tmp_path: Path, line: str, status: int) -> None:
     with pytest.raises(NotValid):
         judge(faked(tmp_path, line, status), "net", "mcf-certificate 2\n")
+
+
+def test_a_judge_that_is_killed_says_nothing(tmp_path: Path) -> None:
+    """Whatever it wrote before, the text is not called invalid."""
+    program = faked(tmp_path, "valid closed undirected largest lower 1/1 1.000000 upper 1/1 1.000000", 0)
+    Path(program.path).write_text(Path(program.path).read_text().replace("exit 0", "kill -9 $$"))
+    with pytest.raises(TextError, match="^mcf check: ended by SIGKILL$") as told:
+        judge(program, "net", "mcf-certificate 2\n")
+    assert not isinstance(told.value, NotValid) and told.value.kind == "program"
+    with pytest.raises(TextError, match="^mcf solve: ended by SIGKILL$"):
+        program.solve("net")
+
+
+def test_what_is_not_valid_comes_out_of_another_process() -> None:
+    told = pickle.loads(pickle.dumps(NotValid("check", "invalid C2", "what it means").at("a.cert", kind="invalid", code="C2")))
+    assert (str(told), told.said, told.code, told.file) == ("mcf check says: what it means", "invalid C2", "C2", "a.cert")
 
 
 def test_lines_that_contradict_themselves_are_refused() -> None:

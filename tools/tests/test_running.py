@@ -186,6 +186,27 @@ def test_each_end_is_an_error_of_its_own(tmp_path: Path, monkeypatch: pytest.Mon
     assert "\n" not in str(caught.value)
 
 
+@pytest.mark.parametrize("number", [9, 11, 34])
+def test_a_program_that_is_killed_is_no_other_program(tmp_path: Path, monkeypatch: pytest.MonkeyPatch, root: Path, number: int) -> None:
+    (tmp_path / "mcf").write_text(f"#!/bin/sh\nkill -{number} $$\n")
+    (tmp_path / "mcf").chmod(0o755)
+    monkeypatch.setenv("MCF", str(tmp_path / "mcf"))
+    with pytest.raises(mcf.McfError, match=f"{tmp_path}/mcf was ended by (SIGKILL|SIGSEGV|SIGRTMIN|signal 34)$") as told:
+        mcf.read(root / "examples/triangle.net")
+    assert not isinstance(told.value, mcf.NoProgram)
+
+
+@pytest.mark.parametrize("timeout", [-1, "1", float("nan"), True, [1], 1j])
+def test_a_timeout_is_a_number_of_seconds(program: Program, root: Path, timeout: object) -> None:
+    with pytest.raises(ValueError, match="timeout is a number of seconds from 0 on, or None, and not "):
+        mcf.read(root / "examples/triangle.net").solve(timeout=timeout)  # type: ignore[arg-type]
+
+
+@pytest.mark.parametrize("timeout", [float("inf"), 1e20, pytest.param(10**400, id="long"), Fraction(200, 1), None])
+def test_a_timeout_may_be_long(program: Program, root: Path, timeout: float | None) -> None:
+    assert mcf.read(root / "examples/triangle.net").solve(timeout=timeout).judged
+
+
 def test_a_certificate_that_is_not_valid_is_not_handed_out(tmp_path: Path, monkeypatch: pytest.MonkeyPatch, root: Path, program: Program) -> None:
     (tmp_path / "wrong").write_text((root / "examples/triangle.cert").read_text().replace("scale 10 ", "scale 11 "))
     monkeypatch.setenv("MCF", script(tmp_path, f"#!/bin/sh\n[ \"$1\" = solve ] && exec cat {tmp_path}/wrong\nexec {program.path} \"$@\"\n"))

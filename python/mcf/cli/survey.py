@@ -130,6 +130,15 @@ def run(words: argparse.Namespace, kinds: list[str]) -> int:
         return surveys_of(words, kinds, program, net, certificate)
 
 
+def _growths(words: list[str]) -> list[Fraction]:
+    """The growths that are asked for."""
+    from mcf.survey.words import growth_of
+    try:
+        return [growth_of(word) for word in words]
+    except TextError as why:
+        raise why.led("--grow: ").at(kind="usage") from None
+
+
 def surveys_of(words: argparse.Namespace, kinds: list[str], program: Program, net: str, certificate: str) -> int:
     """Makes the surveys of two files, writes them, and says the status."""
     with needed():
@@ -138,9 +147,7 @@ def surveys_of(words: argparse.Namespace, kinds: list[str], program: Program, ne
         from mcf.survey.page import survey_page
         from mcf.survey.values import growth_values, survey_values
         from mcf.survey.words import grown, grown_sentence, sentence, survey_table
-    growths = [fraction_of(word) for word in words.grow]
-    if not all(growths):
-        raise TextError("--grow is more than 0").at(kind="usage")
+    growths = _growths(words.grow)
     figures, judgement = judged_figures(program, net, certificate)
     ground = Ground(program, net, certificate, figures, judgement)
     settings = settings_of(words, growths[0] if kinds and growths else Fraction(1))

@@ -7,7 +7,7 @@ from dataclasses import dataclass, field, replace
 from fractions import Fraction
 
 from ..errors import TextError
-from ..given import decimal_word
+from ..given import decimal_word, name_of
 from ..limits import MAX_SCRIPT_BYTES
 from ..network import Network
 from ..numbers import fraction_of
@@ -59,7 +59,7 @@ class History:
 
     def call(self, number: int, name: str) -> None:
         """Gives an edit a name; TextError where there is no such edit."""
-        clean = one_line(" ".join(name.split()))[:NAME_LENGTH]
+        clean = one_line(" ".join(name.split()))
         for rows in (self.done, self.undone):
             for at, edit in enumerate(rows):
                 if edit.number == number:
@@ -109,27 +109,38 @@ def _latin(name: str) -> str:
 
 
 def read_script(text: str, network: Network, installed: Sequence[Fraction]) -> History:
-    """The edits of a script; the comment behind one is its name. TextError, with the line, where the program would refuse it."""
+    """The edits of a script, named by the comments behind and before them. TextError, with the line, where the program would refuse it."""
     history, now = History(), {link.id: at for at, link in enumerate(network.links)}
     capacities = dict(enumerate(installed))
     words: list[str] = []
+    comments: list[str] = []
     for number, line in enumerate(text.split("\n"), 1):
         front, _, comment = line.partition("#")
         count = len(history.done)
         words += front.split()
         while words and (command := _whole(words, number)):
             _apply(command, now, capacities, history, number)
-        if comment.strip() and len(history.done) > count:
-            history.call(history.done[-1].number, comment.encode("latin-1").decode("utf-8", "replace"))
+        comments += [comment.strip()] if comment.strip() else []
+        if len(history.done) > count:
+            _name(history, comments)
     if words:
         raise TextError("the script ends inside a command")
+    if history.done:
+        _name(history, [history.done[-1].name.encode("utf-8").decode("latin-1"), *comments] if comments else [])
     return history
+
+
+def _name(history: History, comments: list[str]) -> None:
+    """Gives the last edit the name that comments spell, which are then used up: what a file has is not lost where it is written anew."""
+    if comments:
+        history.call(history.done[-1].number, "; ".join(filter(None, comments)).encode("latin-1").decode("utf-8", "replace"))
+        comments.clear()
 
 
 def _whole(words: list[str], line: int) -> list[str] | None:
     """The first command of words, which is taken from them; None where it is not whole yet."""
     if words[0] not in _WORDS:
-        raise TextError(f"line {line}: {words[0][:40]!r} is no command of a script: set, add, sub, close and show are")
+        raise TextError(f"line {line}: {name_of(words[0])[:40]!r} is no command of a script: set, add, sub, close and show are")
     count = 1 + _WORDS[words[0]]
     if len(words) < count:
         return None
@@ -144,7 +155,7 @@ def _apply(command: list[str], links: Mapping[str, int], capacities: dict[int, F
     if what == "show":
         return
     if rest[0] not in links:
-        raise TextError(f"line {line}: the network has no link {rest[0][:80]}")
+        raise TextError(f"line {line}: the network has no link {name_of(rest[0])[:80]}")
     link = links[rest[0]]
     before = capacities[link]
     try:
@@ -153,6 +164,6 @@ def _apply(command: list[str], links: Mapping[str, int], capacities: dict[int, F
         raise TextError(f"line {line}: {why}") from None
     after = {"set": value, "add": before + value, "sub": before - value, "close": Fraction(0)}[what]
     if after < 0:
-        raise TextError(f"line {line}: sub of more than the capacity of {rest[0][:80]}")
+        raise TextError(f"line {line}: sub of more than the capacity of {name_of(rest[0])[:80]}")
     capacities[link] = after
     history.add(link, "close" if after == 0 else "double" if after == 2 * before else "set", before, after)

@@ -20,10 +20,10 @@ from .child import Held
 
 @dataclass(frozen=True)
 class Ground:
-    """The program, the network's file by the name that the user gave, and what it has."""
+    """The program, the network's file by the name that the user gave, None where the program takes no such word, and what it has."""
 
     program: str
-    net: str
+    net: str | None
     stem: str
     text: Held
     printed: Held

@@ -58,8 +58,12 @@ class Ground:
 
     def used(self, links: Links) -> Drawing:
         """The map by utilisation and share of the bound."""
+        return self._drawn(dict(enumerate(self.buttons(links))))
+
+    def buttons(self, links: Links) -> list[Button]:
+        """The buttons of all cells, without their paths."""
         most = links.most
-        return self._drawn({cell: self.button(links, cell, most) for cell in range(len(self.scaled.cells))})
+        return [self.button(links, cell, most) for cell in range(len(self.scaled.cells))]
 
     def button(self, links: Links, cell: int, most: Fraction) -> Button:
         """The button of a cell, without its path."""

@@ -9,7 +9,8 @@ from pathlib import Path
 from typing import TypeVar
 
 from ..commands import ask, program_path
-from ..errors import McfError, TextError, kind_of
+from ..errors import Invalid, McfError, Refused, TextError, kind_of
+from ..inputs import is_word
 from ..network import read_network
 from ..output import contents, require_output
 from ..report.shown import name
@@ -37,21 +38,25 @@ class Request:
 _Value = TypeVar("_Value")
 
 
-def _said(of: str, question: Callable[[], _Value]) -> _Value:
-    """The answer to a question; TextError, which names the file, where there is none."""
+def _said(of: str, question: Callable[[], _Value], **files: str) -> _Value:
+    """The answer to a question on files; TextError, which names them, where there is none."""
     try:
         return question()
     except TextError as why:
         raise why.led(f"{of}: ") from None
+    except Refused as why:
+        raise TextError(f"{of}: {why}").at(files.get(why.file), why.line, kind=kind_of(why), code=why.kind) from None
+    except Invalid as why:
+        raise TextError(f"{of}: {why}").at(files.get("cert"), kind=kind_of(why), code=why.condition) from None
     except McfError as why:
-        raise TextError(f"{of}: {why}").at(kind=kind_of(why), code=getattr(why, "kind", None) or getattr(why, "condition", None)) from None
+        raise TextError(f"{of}: {why}").at(kind=kind_of(why)) from None
 
 
 def opened(request: Request) -> tuple[Desk, Works]:
     """The desk of a request; TextError, in one line, where a file is none, or the certificate is of another network."""
     program = program_path()
     net = contents(request.net)
-    printed = _said(request.net, lambda: ask("print", {"net": net}).out)
+    printed = _said(request.net, lambda: ask("print", {"net": net}).out, net=request.net)
     cert = contents(request.cert) if request.cert is not None else None
     links, modules = _modes(request, cert)
     try:
@@ -59,12 +64,13 @@ def opened(request: Request) -> tuple[Desk, Works]:
     except TextError as why:
         raise why.led(f"{request.net}: ") from None
     stem = request.title or name(Path(os.fsencode(request.net).decode("latin-1")).stem)
-    ground = Ground(program, _shown(request.net), stem, Held(net), Held(printed), scaled)
+    ground = Ground(program, request.net if is_word(request.net) else None, stem, Held(net), Held(printed), scaled)
     desk = Desk(ground, _history(request, ground), request.save)
     works = Works(desk, request.gap)
     if cert is not None and request.cert is not None:
         data, made = cert, _shown(request.cert)
-        desk.add(_said(f"{request.cert} on {request.net}", lambda: works.judged(Work(), made, "given", works.edited(), data)))
+        files = {"net": request.net, "cert": request.cert}
+        desk.add(_said(f"{request.cert} on {request.net}", lambda: works.judged(Work(), made, "given", works.edited(), data), **files))
     return desk, works
 
 

@@ -42,16 +42,19 @@ class Outs:
         if desk.history.done:
             rows.append(Out("The edited network", f"{self.stem}-edited.net", "/out/edited", (f"{command} solve {self.stem}-edited.net {modes}",)))
         rows.append(Out(f"The certificate {one.name}", cert, "/out/certificate", (f"{command} check {net} {cert}",), one.bounds.line))
+        if self.ground.net is None:
+            rows.append(Out("The network as it was read, whose name is no text that the program takes", self.read_file, "/out/read",
+                            (f"{command} print {self.read_file}",)))
         if one.network is not self.ground.text:
             rows.append(Out(f"The network that {one.name} is of", net, "/out/network", (f"{command} print {net}",)))
         page = f"{self.stem}-{one.name}.html"
         rows.append(Out(f"The report page of {one.name}" + (", without the edits behind it" if steps else ""), page, "/out/report",
-                        (f"tools/report {net} {cert} --html {page} --title {shlex.quote(self.ground.stem)}",)))
+                        (f"tools/report {net} {cert} --html {page} {self.title}",)))
         if one is not first:
             both = f"{self.stem}-before-after.html"
             words = f"{self.net_file(first)} {self.cert_file(first)} {cert} --net2 {net}"
             rows.append(Out(f"The report page of {first.name} and {one.name} side by side", both, "/out/both",
-                            (f"tools/report {words} --html {both} --title {shlex.quote(self.ground.stem)}",)))
+                            (f"tools/report {words} --html {both} {self.title}",)))
         return rows
 
     @property
@@ -60,9 +63,19 @@ class Outs:
         clean = "".join(c if c.isascii() and (c.isalnum() or c in "-_") else "-" for c in self.ground.stem).strip("-")
         return clean[:60] or "network"
 
+    @property
+    def read_file(self) -> str:
+        """The file that was read, as a word of a shell; where the program takes no such name, that of its download."""
+        return f"{self.stem}.net" if self.ground.net is None else _quoted(self.ground.net)
+
+    @property
+    def title(self) -> str:
+        """The option of the title."""
+        return f"--title{'=' if self.ground.stem.startswith('-') else ' '}{shlex.quote(self.ground.stem)}"
+
     def net_file(self, one: Certificate) -> str:
         """The network file of a certificate, as a word of a shell."""
-        return _quoted(self.ground.net) if one.network is self.ground.text else f"{self.stem}-{one.name}.net"
+        return self.read_file if one.network is self.ground.text else f"{self.stem}-{one.name}.net"
 
     def cert_file(self, one: Certificate) -> str:
         """The file of a certificate, likewise."""

@@ -4,6 +4,7 @@ from __future__ import annotations
 
 from collections.abc import Callable, Mapping
 from dataclasses import dataclass
+from functools import cached_property
 from importlib.resources import files
 from typing import Any, Protocol
 
@@ -15,7 +16,7 @@ from ..matrices import unit_of
 from ..ranges import Ranged, fits
 from ..report import shown
 from ..report.page import LEGEND, about
-from ..survey.words import grown, grown_sentence
+from ..survey.words import grown, grown_sentence, growth_of
 from .bounds import SHORT, Bounds
 from .links import SORTS
 from .maps import FAILURE_LEGEND, FEW, Button
@@ -26,6 +27,7 @@ from .works import METHODS, Works
 
 MOST_ROWS = 100
 MOST_GROWTHS = 50
+MOST_BITS = 10_000
 DARK = {"f0": "#6cb6e8", "f5": "#ff6b81", "f6": "#d79bff", "fn": "#6b7a88", "fc": "#8a97a3", "x4": "#ff6b81", "xc": "#8a97a3"}
 COLOURS = [(key, light, DARK.get(key, "")) for key, light, _ in ((f"f{key}", light, words) for key, light, words in LEGEND)]
 COLOURS += [(key, light, DARK.get(key, "")) for key, light, _ in FAILURE_LEGEND]
@@ -55,7 +57,7 @@ class Pages:
         self.desk, self.works, self.ground = desk, works, desk.ground
         self.places = Places(self.ground.scaled, self.ground.places)
         self.unit = unit_of(self.ground.text.data.decode("latin-1"))
-        self._maps: dict[str, str] = {}
+        self._shown: dict[str, tuple[list[int], set[int]]] = {}
 
     # -- whole pages
 
@@ -107,10 +109,16 @@ class Pages:
     def bounds(self) -> Markup:
         """Both bounds in large."""
         desk = self.desk
-        first = next(iter(desk.certificates.values()), None)
+        first = next((one for one in desk.certificates.values() if not one.edits), None)
         count = len(desk.steps) if desk.certificate else 0
         words = shown.counted(count, "changed link") if count else ""
-        return _part("bounds", desk.shown, desk.certificate, words, first, desk.unsaved)
+        return _part("bounds", desk.shown, desk.certificate, words, first, desk.unsaved, self.limited)
+
+    @cached_property
+    def limited(self) -> str:
+        """How many demands have a longest path in the file, in words."""
+        count = sum(self.ground.network.demands[one.demand].hops is not None for one in self.ground.scaled.commodities)
+        return shown.counted(count, "demand has a longest path", "demands have a longest path") if count else ""
 
     def edits(self) -> Markup:
         """The list of edits, the last one first."""
@@ -142,11 +150,11 @@ class Pages:
         if not isinstance(now, Bounds):
             return _part("growth", "", None)
         try:
-            growth, times = self.desk.growth(page.x), number_of(page.times)
+            growth, times = growth_of(page.x), number_of(page.times)
             if not 1 <= times <= MOST_GROWTHS:
                 raise TextError(f"so many times: 1 to {MOST_GROWTHS}")
-            if growth.numerator.bit_length() + growth.denominator.bit_length() > 200:
-                raise TextError("that number is too long")
+            if (growth.numerator.bit_length() + growth.denominator.bit_length()) * times > MOST_BITS:
+                raise TextError("that number is too long to be taken so many times")
             words: Any = [shown.joined(grown_sentence(*one)) for one in grown(now.range, [growth**at for at in range(1, times + 1)])][::-1]
             words = words[::-1] if growth < 1 else words
         except TextError as why:
@@ -185,15 +193,20 @@ class Pages:
             words = "The fraction of every demand falls at least by"
             return _part("map", drawing, "Map of failures: each link is a button", legend, words, few)
         legend = [(f"f{name}", words) for name, _, words in LEGEND]
+        self._moved(self.places.buttons(links))
         return _part("map", self.places.used(links), "Map of the network: each link is a button", legend, "Utilisation", few)
 
     def _changes(self) -> list[Button]:
-        """The buttons of the links that edits have touched."""
-        desk, links = self.desk, self.desk.links()
-        if not desk.touched:
-            return []
-        most = links.most
-        return [self.places.button(links, cell, most) for link in sorted(desk.touched) for cell in links.cells_of(link)]
+        """The buttons that a page may show otherwise: an edit changes the share of the bound of each link."""
+        buttons = self.places.buttons(self.desk.links())
+        return [buttons[cell] for cell in sorted(self._moved(buttons))]
+
+    def _moved(self, buttons: list[Button]) -> set[int]:
+        """The cells whose buttons were ever shown otherwise on this map than when it was shown first."""
+        marks = [hash((button.title, button.at_full, button.width)) for button in buttons]
+        first, moved = self._shown.setdefault(self.desk.active or "", (marks, set()))
+        moved |= {cell for cell, mark in enumerate(marks) if mark != first[cell]}
+        return moved
 
     # -- out
 

@@ -4,6 +4,7 @@ from __future__ import annotations
 
 import logging
 import os
+import resource
 import sys
 import threading
 import webbrowser
@@ -16,12 +17,15 @@ from waitress.task import ErrorTask
 
 from .. import jsons
 from ..errors import TextError
+from ..given import name_of
 from .edits import script
 from .security import HEADERS, MOST_BYTES, Gate, Guard
 from .server import Server
 from .state import Desk
 from .works import Works
 
+CONNECTIONS = 1000
+IDLE_SECONDS = 10
 LINES = {413: "a request has at most 1 MB: nothing was changed", 431: "the head of this request is too long: nothing was changed"}
 
 
@@ -60,7 +64,8 @@ def serve(desk: Desk, works: Works, ways: Ways) -> int:
     gate = Gate(lambda address: _say(f"{address} (for another browser)"))
     server = _bound(Guard(Server(desk, works).app.wsgi_app, gate), ways.port)
     gate.port = int(server.effective_port)
-    threading.Thread(target=server.run, daemon=True).start()
+    served = threading.Thread(target=_run, args=(server, desk), daemon=True)
+    served.start()
     try:
         _announce(gate, ways)
         if not desk.certificates:
@@ -74,16 +79,35 @@ def serve(desk: Desk, works: Works, ways: Ways) -> int:
     return 0
 
 
+def _run(server: Any, desk: Desk) -> None:
+    """Serves; the end of the desk closes the socket that is waited at, whatever the server says of that."""
+    try:
+        server.run()
+    except Exception:
+        if not desk.closed:
+            raise
+
+
 def _bound(app: Guard, port: int) -> Any:
-    """A server on the loopback address alone."""
+    """A server on the loopback address alone; connections on which nothing comes are closed soon, so nobody keeps others out by them."""
+    _allow_connections()
     try:
         server = create_server(
             app, host="127.0.0.1", port=port, threads=8, ident=None, max_request_body_size=MOST_BYTES, max_request_header_size=1 << 16,
-            connection_limit=200, channel_timeout=60, clear_untrusted_proxy_headers=True)
+            connection_limit=CONNECTIONS, channel_timeout=IDLE_SECONDS, cleanup_interval=1, asyncore_use_poll=True,
+            clear_untrusted_proxy_headers=True)
     except OSError as fault:
         raise TextError(f"port {port} of 127.0.0.1: {fault.strerror or fault}").at(kind="usage") from None
     server.channel_class = Channel
     return server
+
+
+def _allow_connections() -> None:
+    """Lets the process have as many open files as connections and certificates need, if the system allows it."""
+    soft, hard = resource.getrlimit(resource.RLIMIT_NOFILE)
+    wanted = 4 * CONNECTIONS if hard == resource.RLIM_INFINITY else min(hard, 4 * CONNECTIONS)
+    if soft != resource.RLIM_INFINITY and soft < wanted:
+        resource.setrlimit(resource.RLIMIT_NOFILE, (wanted, hard))
 
 
 def _announce(gate: Gate, ways: Ways) -> None:
@@ -109,6 +133,6 @@ def kept(desk: Desk) -> str:
         return ""
     if desk.save is not None and not desk.unsaved:
         return f"; the edits are in {desk.save}"
-    text = " ".join(line.partition(" #")[0] for line in script(desk.ground.network, done).splitlines())
+    text = name_of(" ".join(line.partition(" #")[0] for line in script(desk.ground.network, done).split("\n")).rstrip())
     trouble = f" ({desk.unsaved})" if desk.unsaved else ""
     return f"; the edits{trouble}, as a script of mcf whatif: {text}"

@@ -3,6 +3,7 @@
 from __future__ import annotations
 
 import logging
+from collections.abc import Callable
 from importlib.resources import files
 from typing import Any
 
@@ -16,6 +17,9 @@ from .state import Certificate, Desk
 from .works import Works
 
 BUSY = 202
+HTML = "text/html; charset=utf-8"
+REVISION, PART = "Desk-Revision", "Desk-Part"
+"""The revision of the state that an answer is of, under one name for whole pages and under another one for single fragments."""
 UNKNOWN = {404: "there is no such page here", 405: "this address takes no such request"}
 
 
@@ -40,7 +44,7 @@ class Server:
                              "/plain": self.plain, "/double": self.double, "/routes": self.routes}.items():
             app.add_url_rule(path, path, change, methods=["POST"])
         for path, file in {"script": self.script, "edited": self.edited, "certificate": self.certificate, "network": self.network,
-                           "report": self.report, "both": self.both, "routing": self.routing}.items():
+                           "read": self.read, "report": self.report, "both": self.both, "routing": self.routing}.items():
             app.add_url_rule(f"/out/{path}", f"/out/{path}", file)
         app.register_error_handler(Exception, _refused)
 
@@ -48,7 +52,7 @@ class Server:
 
     def page(self) -> Response:
         """The whole page."""
-        return self._html(self.pages.page())
+        return Response(self.pages.page(), content_type=HTML)
 
     def news(self) -> Response:
         """What is new since a revision: everything, the progress of what is under way, or nothing."""
@@ -57,21 +61,20 @@ class Server:
             return self._all()
         job = self.desk.job
         if job is not None and job.running:
-            return self._html(self.pages.one("job", self.pages.job()))
+            return self._one("job", self.pages.job)
         return Response(status=204)
 
     def link(self) -> Response:
         """The link that a page has chosen."""
-        return self._html(self.pages.one("link", self.pages.link(self._fields().link)))
+        return self._one("link", lambda: self.pages.link(self._fields().link))
 
     def links(self) -> Response:
         """The list of links in an order, or those that have a text."""
-        return self._html(self.pages.one("rows", self.pages.rows(request.args.get("sort", "share"), request.args.get("find", "")[:100])))
+        return self._one("rows", lambda: self.pages.rows(request.args.get("sort", "share"), request.args.get("find", "")[:100]))
 
     def growth(self) -> Response:
         """Growth alone."""
-        with self.desk.lock:
-            return self._html(self.pages.one("growth", self.pages.growth(self._fields())))
+        return self._one("growth", lambda: self.pages.growth(self._fields()))
 
     def _fields(self) -> Page:
         """What the page that asks has chosen."""
@@ -81,11 +84,13 @@ class Server:
         """All fragments, once the bounds of now are known; nothing where a later request has the same to show."""
         if not self.desk.settle():
             return Response(status=BUSY)
-        return self._html(self.pages.fragments(page or self._fields()))
+        with self.desk.lock:
+            return _html(self.pages.fragments(page or self._fields()), REVISION, self.desk.revision)
 
-    def _html(self, text: str) -> Response:
-        """An answer of HTML, with the revision that it is at least of."""
-        return Response(text, content_type="text/html; charset=utf-8", headers={"Desk-Revision": str(self.desk.revision)})
+    def _one(self, name: str, text: Callable[[], str]) -> Response:
+        """One fragment; what else a page shows stays of the revision that it is of."""
+        with self.desk.lock:
+            return _html(self.pages.one(name, text()), PART, self.desk.revision)
 
     # -- what pages change
 
@@ -170,6 +175,10 @@ class Server:
         """Its network."""
         return _file(self._counting().network.data)
 
+    def read(self) -> Response:
+        """The network as it was read."""
+        return _file(self.desk.ground.text.data)
+
     def report(self) -> Response:
         """The report page of it."""
         one = self._counting()
@@ -197,8 +206,13 @@ class Server:
     def _reported(self, words: list[str]) -> Response:
         """A page of the tool report."""
         with self.desk.working() as work:
-            page = work.tool("report", [*words, "--html", "-", "--title", self.desk.ground.stem, "--mcf", self.desk.ground.program])
+            page = work.tool("report", [*words, "--html", "-", f"--title={self.desk.ground.stem}", "--mcf", self.desk.ground.program])
         return _file(page.out)
+
+
+def _html(text: str, header: str, revision: int) -> Response:
+    """An answer of HTML, with the revision that it is of, which somebody else may have changed by now."""
+    return Response(text, content_type=HTML, headers={header: str(revision)})
 
 
 def _constant(data: bytes, kind: str) -> Any:

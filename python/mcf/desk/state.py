@@ -9,11 +9,10 @@ from dataclasses import dataclass
 from fractions import Fraction
 
 from ..errors import Invalid, McfError, Refused, TextError
-from ..numbers import fraction_of
 from ..output import write
 from .bounds import Bounds, bounds_of
 from .child import Held, Stopped, Work
-from .edits import Edit, History, changed, difference, same, script
+from .edits import NAME_LENGTH, Edit, History, changed, difference, same, script
 from .ground import Ground
 from .links import Links
 from .turns import Job, Newest
@@ -62,14 +61,19 @@ class Desk:
         self.lock = threading.RLock()
         self.certificates: dict[str, Certificate] = {}
         self.active: str | None = None
+        self._chosen: str | None = None
         self.job: Job | None = None
         self.revision = 1
-        self.touched: set[int] = {edit.link for edit in history.done}
         self.unsaved = ""
         self._known: dict[Key, Bounds | Trouble] = {}
         self._newest = Newest()
         self._asking: set[Work] = set()
         self._closed = False
+
+    @property
+    def closed(self) -> bool:
+        """Whether the desk has ended."""
+        return self._closed
 
     # -- edits
 
@@ -86,35 +90,41 @@ class Desk:
             after = known[what] if what in known else self.ground.capacity_of(word)
             self.ground.require_capacity(after)
             self.history.add(link, "set" if what == "restore" else what, before, after)
-            self._edited(link)
+            self._edited()
 
     def undo(self) -> None:
         """Takes the last edit back."""
         with self.lock:
             self.history.undo()
-            self._edited(self.history.undone[-1].link)
+            self._edited()
 
     def redo(self) -> None:
         """Does the edit again that was undone last."""
         with self.lock:
             self.history.redo()
-            self._edited(self.history.done[-1].link)
+            self._edited()
 
     def call(self, number: int, name: str) -> None:
         """Gives an edit a name."""
         with self.lock:
-            self.history.call(number, name)
+            self.history.call(number, name[:NAME_LENGTH])
             self._saved()
             self.revision += 1
 
-    def _edited(self, link: int) -> None:
-        """What follows a change of the list: the certificate that stands nearest counts, and the list is saved."""
-        self.touched.add(link)
+    def _edited(self) -> None:
+        """What follows a change of the list: the certificate that was chosen counts, or else the nearest one, and the list is saved."""
         fitting = [one for one in self.certificates.values() if same(one.edits, self.history.done[: len(one.edits)])]
+        if self._chosen not in [one.name for one in fitting]:
+            self._chosen = None
         if fitting:
-            self.active = max(fitting, key=lambda one: len(one.edits)).name
+            self.active = self._chosen or max(fitting, key=lambda one: len(one.edits)).name
+        self._tried_again()
         self._saved()
         self.revision += 1
+
+    def _tried_again(self) -> None:
+        """What was in the way of bounds may be gone, as a want of memory: they are asked for once more."""
+        self._known = {key: found for key, found in self._known.items() if isinstance(found, Bounds)}
 
     def _saved(self) -> None:
         """Writes the edits into their file, whole; what fails is told on the page, and tried again with the next edit."""
@@ -147,7 +157,8 @@ class Desk:
         with self.lock:
             if name not in self.certificates:
                 raise TextError("there is no such certificate")
-            self.active = name
+            self.active = self._chosen = name
+            self._tried_again()
             self.revision += 1
 
     def add(self, certificate: Certificate) -> None:
@@ -155,7 +166,7 @@ class Desk:
         with self.lock:
             self.certificates[certificate.name] = certificate
             if self.active is None or same(certificate.edits, self.history.done[: len(certificate.edits)]):
-                self.active = certificate.name
+                self.active, self._chosen = certificate.name, None
             self.revision += 1
 
     @property
@@ -251,13 +262,6 @@ class Desk:
         if same(before, self.history.done[: len(before)]):
             return script(self.ground.network, self.history.done[len(before) :])
         return self.ground.commands([*self.steps, "show"])
-
-    def growth(self, word: str) -> Fraction:
-        """A number that demands are multiplied by."""
-        value = fraction_of(word.strip())
-        if not value:
-            raise TextError("demands times 0 are none: give a number above 0")
-        return value
 
     # -- long work
 

@@ -219,7 +219,8 @@ class Works:
             self.sweep()
         with self.desk.lock:
             before, edits = self.found.failures, tuple(self.desk.history.done)
-        assert before is not None
+            if before is None or before.key != self.desk.key:
+                raise TextError("the network was changed meanwhile: solve each failure once more")
         self.desk.start(f"{self.ground.command} sweepsolve of the network {_with(len(edits))}", partial(self._failed, before=before, edits=edits))
 
     def _failed(self, work: Work, before: Failures, edits: tuple[Edit, ...]) -> str:

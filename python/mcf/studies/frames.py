@@ -96,7 +96,7 @@ def _matrices(network: Network, given: Mapping[str, Any] | Sequence[Path], store
         return read_matrices([os.fspath(path) for path in given], network.data, How(), lambda key, rows: store.keep_texts([(key, rows)]), Told())
     found = []
     for name, demands in given.items():
-        rows = demand_rows(network.with_demands({}).with_demands(demands).rows.demands)
+        rows = demand_rows(network.with_demands(demands).rows.demands)
         found.append(Matrix(word_of(name, "matrix"), digest_of(rows)))
         store.keep_texts([(found[-1].digest, rows)])
     return found

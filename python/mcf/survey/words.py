@@ -5,7 +5,7 @@ from __future__ import annotations
 from collections.abc import Sequence
 from fractions import Fraction
 
-from mcf import decimal_of, rounded_down, rounded_up
+from mcf import TextError, decimal_of, fraction_of, rounded_down, rounded_up
 
 from ..names import cell_of
 from ..ranges import Answer, Extreme, Range, best, fits, gains, most_gain, worst
@@ -83,6 +83,14 @@ def _titles(cases: Sequence[Case]) -> str:
 def _title(case: Case) -> str:
     """A link with its ends."""
     return f"{name(case.link.id)} ({name(case.link.source)} – {name(case.link.target)})"
+
+
+def growth_of(word: str) -> Fraction:
+    """The number that a user wrote for all demands to be multiplied by; TextError where it is none above 0."""
+    value = fraction_of(word.strip())
+    if not value:
+        raise TextError("demands times 0 are none: give a number above 0")
+    return value
 
 
 def grown_sentence(growth: Fraction, bounds: Range) -> str:

@@ -32,11 +32,15 @@
       say(text.trim().split("\n")[0]);
       return false;
     }
-    const old = Number(body.dataset.revision), now = Number(answer.headers.get("Desk-Revision"));
-    if (now >= old) {
-      apply(text);
+    const whole = answer.headers.get("Desk-Revision"), old = Number(body.dataset.revision);
+    const now = Number(whole ?? answer.headers.get("Desk-Part"));
+    if (now < old) return true;
+    apply(text);
+    if (now > old) {
+      // A single part may be newer than the rest of the page, which is then asked for.
+      if (whole === null) return poll(), true;
       body.dataset.revision = now;
-      if (now > old) reorder();
+      reorder();
     }
     return true;
   }
@@ -50,11 +54,13 @@
       if (part.dataset.map) place.dataset.map = part.dataset.map;
       if (place.innerHTML === part.innerHTML) continue;
       const active = place.contains(document.activeElement) ? document.activeElement : null;
-      if (active && active.matches("input[type=text], input:not([type])") && active.value !== active.defaultValue) continue;
+      const typed = active?.matches("input[type=text], input:not([type])") && active.value !== active.defaultValue ? active.value : null;
       const open = [...place.querySelectorAll("details[open] input[id]")].map((input) => input.id);
       place.replaceChildren(...part.childNodes);
       for (const id of open) by(id)?.closest("details")?.setAttribute("open", "");
-      if (active?.id) by(active.id)?.focus({ preventScroll: true });
+      if (!active?.id || !by(active.id)) continue;
+      by(active.id).focus({ preventScroll: true });
+      if (typed !== null) by(active.id).value = typed;
     }
     for (const row of document.querySelectorAll("#changes li")) {
       const button = by(`m${row.dataset.cell}`);
@@ -77,7 +83,7 @@
   async function reorder() {
     const form = by("find");
     const answer = await fetch(`/links?${new URLSearchParams(new FormData(form))}`).catch(() => null);
-    if (answer?.ok) apply(await answer.text());
+    if (answer?.ok && Number(answer.headers.get("Desk-Part")) >= Number(body.dataset.revision)) apply(await answer.text());
   }
 
   async function choose(link) {
