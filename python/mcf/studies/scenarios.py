@@ -17,6 +17,7 @@ ROUTINGS = ("best", "exact", *RULES)
 _OPTIONS = {"best": ("gap", "phases", "step"), "exact": ("gap", "seconds"), "ecmp": ("lengths", "cost"), "cost": ("cost",),
             "k-paths": ("lengths", "cost", "paths", "seconds")}
 KEY_DIGITS = 24
+MOST_PATHS = 1000
 DEMANDS = "DEMANDS (\n"
 
 
