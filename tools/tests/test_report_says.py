@@ -371,7 +371,8 @@ def summary(name: str, low: Fraction, high: Fraction) -> Summary:
 def test_the_sentence_on_many_matrices(bounds: list[tuple[str, str]], sentence: str) -> None:
     rows = [summary(f"m{at}", Fraction(low), Fraction(high)) for at, (low, high) in enumerate(bounds)]
     assert batch_sentence(rows, []) == sentence
-    assert batch_sentence(rows, ["x"]) == sentence + " 1 matrix of the list has no answer there."
+    front, least = sentence.split(". ", 1)
+    assert batch_sentence(rows, ["x"]) == f"{front}. 1 matrix of the list has no answer there. Among the others: {least[0].lower()}{least[1:]}"
 
 
 # -- the command

@@ -20,7 +20,7 @@ import mcf
 from mcf import Program, TextError, read_network, write_network
 from mcf.network import Network
 from mcf.ranges import Answer, Range
-from mcf.studies import answers, run
+from mcf.studies import answers, run, work
 from mcf.studies.bands import band
 from mcf.studies.changes import Fibres, all_changes, failures, read_changes, read_groups
 from mcf.studies.engine import Pace
@@ -233,6 +233,30 @@ def test_exact_is_as_near_as_certify(tmp_path: Path, program: Program) -> None:
     for row in found:
         assert row["verdict"] == "closed" and Fraction(row["lower"]) <= optima[row["change"]] <= Fraction(row["upper"])
         assert Fraction(row["upper"]) - Fraction(row["lower"]) <= Fraction(2, 10**6)
+
+
+def test_an_exact_scenario_without_its_linear_program_is_open(program: Program, monkeypatch: pytest.MonkeyPatch) -> None:
+    """What `mcf solve` calls closed at its own gap is not as close as an exact scenario has to be."""
+    pytest.importorskip("scipy")
+    from mcf.studies import children, exact
+
+    def fails(*_: object) -> None:
+        """No linear program."""
+        raise RuntimeError("no memory for it")
+
+    monkeypatch.setattr(exact, "_optimum", fails)
+    mcf_here, text = children.program(program.path), TRIANGLE.encode()
+    assert work.solved(mcf_here, text, Asked()).verdict == "closed"
+    found = exact.exact(mcf_here, read_network(TRIANGLE), text, Asked(), "ground", "exact")
+    assert found.verdict == "open" and Fraction(found.lower) <= Fraction(4, 3) <= Fraction(found.upper)
+    assert exact.exact(mcf_here, read_network(TRIANGLE), text, Asked(gap="0.05"), "ground", "exact").verdict == "closed"
+    children.end_all()
+
+
+def test_options_that_mean_nothing_for_a_routing_are_said(tmp_path: Path, program: Program) -> None:
+    out, why = ran(tmp_path, net_file(tmp_path), "--routing", "best,hops", "--phases", "30", "--paths", "2", program=program, status=0)
+    assert why.splitlines() == ["study: --phases means nothing for the routing hops", "study: --paths means nothing for the routing best",
+                                "study: --paths means nothing for the routing hops"]
 
 
 # -- what is kept

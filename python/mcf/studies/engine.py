@@ -323,6 +323,7 @@ def _cluster(jobs: int) -> Iterator[Any]:
             yield cluster
         finally:
             _end(cluster)
+            signals.let_go()
 
 
 @contextlib.contextmanager

@@ -77,6 +77,12 @@ class Asked:
         given = {name: str(value) for name in known if (value := getattr(self, name)) is not None}
         return {"links": self.links, "modules": self.modules, **given}
 
+    def unused(self, routings: Iterable[str]) -> list[tuple[str, str]]:
+        """The options that are given, each with a routing that does not know it."""
+        default = Asked()
+        given = [name for name in ("gap", "phases", "step", "lengths", "cost", "paths", "seconds") if getattr(self, name) != getattr(default, name)]
+        return [(name, routing) for name in given for routing in routings if name not in _OPTIONS.get(routing, ())]
+
     @cached_property
     def solve_words(self) -> tuple[str, ...]:
         """The words of `mcf solve`: one worker, so that an answer doesn't depend on where it is made."""

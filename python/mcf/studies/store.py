@@ -209,6 +209,8 @@ class Store:
 
     def keys(self, front: str) -> list[str]:
         """The keys that begin so, at most two."""
+        if not front.isascii():
+            return []
         with self._told():
             return [key for key, in self._base.execute("SELECT key FROM rows WHERE substr(key, 1, ?) = ? LIMIT 2", (len(front), front))]
 

@@ -72,6 +72,8 @@ def planned(words: Words, network: Network, store: Store) -> Plan:
     matrices = _matrices(words, network, store)
     phases, step = (None if number is None else str(number) for number in (words.phases, words.step))
     asked = Asked(mode, words.modules, words.gap, phases, step, words.lengths, words.cost, words.paths, words.seconds)
+    for name, routing in asked.unused(words.routing):
+        say(f"--{name} means nothing for the routing {routing}")
     return Plan(Ground.of(network.rows), matrices, changes, words.routing, asked, words.grow)
 
 
