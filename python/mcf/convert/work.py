@@ -126,7 +126,7 @@ def _as_meant(source: Source, mode: str | None) -> Source:
     if mode is None or not source.links:
         return source
     if source.links_mode not in (None, mode):
-        raise Refused(f"{source.path} says that its links are {source.links_mode}, and --links says {mode}")
+        raise Refused(f"{source.path} says that its links are {source.links_mode}, and --links says {mode}").at(source.path)
     return replace(source, links_mode=mode)
 
 

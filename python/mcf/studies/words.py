@@ -4,7 +4,7 @@ from __future__ import annotations
 
 from collections.abc import Sequence
 
-from ..ranges import Answer
+from ..ranges import Answer, Extreme
 from ..report.extremes import few, fraction_words, worst_words
 from ..report.shown import counted, name, percent_down
 from .answers import Case, Part
