@@ -10,6 +10,7 @@ import sqlite3
 import subprocess
 import tarfile
 import time
+import zlib
 from dataclasses import replace
 from fractions import Fraction
 from pathlib import Path
@@ -37,6 +38,7 @@ CLOSED = {"AB": Fraction(1, 2), "AC": Fraction(5, 6), "BC": Fraction(5, 4)}
 # two arcs of each fibre of a triangle
 ARCS = network([(f"{a}{b}", a, b, "10") for a, b in ("AB", "BA", "BC", "CB", "CA", "AC")], [("D", "A", "B", "8"), ("E", "C", "A", "4")])
 # D2 goes over a bridge
+CERT = zlib.compress(b"mcf-certificate")
 BRIDGE = network([("AB", "A", "B", "4"), ("BA2", "A", "B", "4"), ("BC", "B", "C", "3")], [("D1", "A", "B", "4"), ("D2", "A", "C", "2")])
 
 
@@ -309,7 +311,8 @@ def test_a_certificate_is_handed_out_and_the_check_judges_it(tmp_path: Path, pro
 
 def test_show_says_why_it_has_none(tmp_path: Path, program: Program) -> None:
     key = rows(tmp_path, net_file(tmp_path), program=program)[0]["key"]
-    for words, said in ((["xyz"], "study.db: no key begins with 'xyz'"), ([b"\xff"], "study.db: no key begins with"), ([key], "its certificate was not kept"), ([key, "--store", "none.db"], "no such file")):
+    for words, said in ((["xyz"], "study.db: no key begins with 'xyz'"), ([b"\xff"], "study.db: no key begins with"),
+                        ([key], "its certificate was not kept"), ([key, "--store", "none.db"], "no such file")):
         done = subprocess.run([STUDY, "show", *words], cwd=tmp_path, capture_output=True, text=True, check=False)
         assert done.returncode == 2 and said in done.stderr and done.stderr.count("\n") == 1 and done.stdout == ""
     assert rows(tmp_path, net_file(tmp_path), "--keep", program=program)[0]["key"] == key
@@ -337,13 +340,13 @@ def test_of_two_studies_at_once_nothing_is_lost(tmp_path: Path) -> None:
     scenario = next(iter(plan_of(read_network(BRIDGE), [INTACT])))
     store = Store(str(tmp_path / "s.db"))
     cut = Found("closed", "one", "0", "0")
-    kept = Row(scenario.key, replace(cut, certificate=b"cert"), None, (), ("D2",), 0.0, "", "")
+    kept = Row(scenario.key, replace(cut, certificate=CERT), None, (), ("D2",), 0.0, "", "")
     rest = Row(scenario.key, cut, Found("closed", "two", "1", "1"), (), ("D2",), 0.0, "", "")
     failed = Row(scenario.key, Found("failed", "three"), None, (), (), 0.0, "", "")
     for one in (failed, kept, rest, failed, kept):
         store.add([(scenario, one, False)], "net", Asked())
     found = store.rows([scenario.key], certificates=True)[scenario.key].row
-    assert (found.found.certificate, found.rest, found.cut) == (b"cert", rest.rest, ("D2",))
+    assert (found.found.certificate, found.rest, found.cut) == (CERT, rest.rest, ("D2",))
     # (of the rest there is no certificate, which --keep asks for)
     assert not store.left([scenario], Wanted(False, True)) and store.left([scenario], Wanted(True, False))[0].without_cut
     store.close()
@@ -364,10 +367,12 @@ def test_a_rest_without_an_answer_leaves_the_answer_on_all_demands(tmp_path: Pat
 @pytest.mark.parametrize("seed", range(12))
 def test_a_damaged_store_is_one_line(tmp_path: Path, seed: int) -> None:
     draw = random.Random(seed)
-    plan, whole = plan_of(read_network(TRIANGLE), list(failures(read_network(TRIANGLE), ("links", "nodes", "pairs"), Fibres(read_network(TRIANGLE))))), tmp_path / "s.db"
+    net, whole = read_network(TRIANGLE), tmp_path / "s.db"
+    plan = plan_of(net, list(failures(net, ("links", "nodes", "pairs"), Fibres(net))))
     store = Store(str(whole))
     store.keep_texts([(plan.ground.digest, plan.ground.text)])
-    store.add([(one, Row(one.key, Found("closed", "line", "1/2", "2/3", b"x" * 900), None, ("D",), (), 0.1, "here", "1"), False) for one in plan], plan.ground.digest, plan.asked)
+    found = Found("closed", "line", "1/2", "2/3", zlib.compress(draw.randbytes(900)))
+    store.add([(one, Row(one.key, found, None, ("D",), (), 0.1, "here", "1"), False) for one in plan], plan.ground.digest, plan.asked)
     store.close()
     data = bytearray(whole.read_bytes())
     for _ in range(draw.choice((1, 20, 200))):
@@ -387,6 +392,18 @@ def test_a_damaged_store_is_one_line(tmp_path: Path, seed: int) -> None:
             assert str(why).startswith(f"{whole}: ") and "\n" not in str(why)
         else:
             assert text == bytes(data)
+
+
+@pytest.mark.parametrize("column, value", [("certificate", b"no certificate"), ("asked", "{}"), ("asked", "[]"), ("asked", "{"), ("cut", "3"), ("seconds", "x")])
+def test_a_row_that_is_damaged_is_one_line(tmp_path: Path, column: str, value: object) -> None:
+    plan, path = plan_of(read_network(TRIANGLE), [INTACT]), tmp_path / "study.db"
+    store, one = Store(str(path)), next(iter(plan))
+    store.add([(one, Row(one.key, Found("closed", "line", "1", "2", CERT), None, (), (), 0.1, "", ""), False)], "net", Asked())
+    store.close()
+    with sqlite3.connect(path) as base:
+        base.execute(f"UPDATE rows SET {column} = ?", (value,))
+    done = subprocess.run([STUDY, "show", one.key], cwd=tmp_path, capture_output=True, text=True, check=False)
+    assert done.returncode == 2 and done.stderr.startswith("study: study.db: is damaged (") and done.stderr.count("\n") == 1 and not done.stdout
 
 
 def test_bounds_that_contradict_each_other_are_damage(tmp_path: Path) -> None:
@@ -419,7 +436,8 @@ def test_a_file_that_is_no_store_is_refused(tmp_path: Path, program: Program) ->
     with sqlite3.connect(tmp_path / "other.db") as base:
         base.execute("CREATE TABLE rows (a)")
     (tmp_path / "short.db").write_text("x")
-    for store, said in (("text.db", "text.db: is no file of a study"), ("short.db", "short.db: is no file of a study"), ("other.db", "other.db: is a database, and none of a study; name another file by --store"),
+    for store, said in (("text.db", "text.db: is no file of a study"), ("short.db", "short.db: is no file of a study"),
+                        ("other.db", "other.db: is a database, and none of a study; name another file by --store"),
                         ("none/study.db", "none/study.db: No such file or directory")):
         assert ran(tmp_path, net, "--store", store, program=program, status=2)[1] == f"study: {said}\n"
     assert ran(tmp_path, net, "--store", net, program=program, status=2)[1].startswith(f"study: {net}: is read too")

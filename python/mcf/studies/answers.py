@@ -226,7 +226,7 @@ class _Sum:
 
 
 def status_of(found: Iterable[Part]) -> int:
-    """The status: 0 if all demands fit in all cases; 1 if not, or it is not decided; 2 where one has no answer, or nothing is known at all."""
+    """The status: 0 if all demands fit in all cases; 1 if not, or it is not decided; 2 where one has no answer, or nothing is known."""
     some = list(found)
     if any(part.failed or part.lost_rest for part in some) or not any(part.known for part in some):
         return 2

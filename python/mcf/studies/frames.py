@@ -30,7 +30,8 @@ def study(network: Network | Path, matrices: Mapping[str, Any] | Sequence[Path] 
           fibres: bool = False, intact: bool = False, grow: Iterable[Number] = (1,), routing: Iterable[str] | str = ("best",),
           without_cut: bool = False, gap: Number | None = None, phases: int | None = None, step: int | None = None,
           links: str | None = None, modules: str = "largest", lengths: str = "hops", cost: str = "routing", paths: int = 4,
-          seconds: float = 300.0, from_unit: str | None = None, round: int | None = None, store: Path | None = None, jobs: int | None = None,
+          seconds: float = 300.0, from_unit: str | None = None, round: int | None = None, store: Path | None = None,
+          jobs: int | None = None,
           scheduler: str | None = None, keep: bool = False, recheck: bool = False, progress: bool = True, exact: bool = False) -> pandas.DataFrame:
     """Many scenarios, matrices × changes × routings × growths, as a frame with a row for each; each was solved and judged.
 
@@ -52,11 +53,12 @@ def study(network: Network | Path, matrices: Mapping[str, Any] | Sequence[Path] 
     with needed():
         from .tool import done
     ground = of(network)
-    for what, given, known in (("lengths", lengths, LENGTHS), ("cost", cost, COSTS), ("modules", modules, MODULES), ("links", links or ground.mode, LINK_MODES)):
+    mode = links or ground.mode
+    for what, given, known in (("lengths", lengths, LENGTHS), ("cost", cost, COSTS), ("modules", modules, MODULES), ("links", mode, LINK_MODES)):
         _known(given, known, what)
     if not 1 <= paths <= MOST_PATHS:
         raise ValueError(f"paths: {paths} is not from 1 to {MOST_PATHS}")
-    asked = Asked(links or ground.mode, modules, None if gap is None else decimal_word(number_of(gap, "gap")), _word(phases), _word(step), lengths, cost,
+    asked = Asked(mode, modules, None if gap is None else decimal_word(number_of(gap, "gap")), _word(phases), _word(step), lengths, cost,
                   paths, seconds)
     with tempfile.TemporaryDirectory(prefix="mcf-study-") as room:
         kept = _store(os.fspath(store) if store is not None else os.path.join(room, "study.db"))
@@ -97,7 +99,8 @@ def _store(path: str) -> Store:
     return Store(path)
 
 
-def _matrices(network: Network, given: Mapping[str, Any] | Sequence[Path], from_unit: str | None, decimals: int | None, store: Store) -> list[Matrix]:
+def _matrices(network: Network, given: Mapping[str, Any] | Sequence[Path], from_unit: str | None, decimals: int | None,
+              store: Store) -> list[Matrix]:
     """The matrices, whose texts are kept in the store."""
     from .matrices import How, own
     from .tool import read

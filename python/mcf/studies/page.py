@@ -125,7 +125,8 @@ def _of_all(plan: Plan, part: Part) -> str:
     """What a scenario that is drawn is among those of its routing and growth."""
     those = "of those" if part.known == part.of else "of those that have an answer"
     if part.worst is None:
-        which = "The scenario of which the least is shown to be carried" if part.known == part.of else f"The least that is shown to be carried {those}"
+        which = "The scenario of which the least is shown to be carried"
+        which += "" if part.known == part.of else ", of those that have an answer"
     elif part.worst.alone:
         which = "The worst scenario" if part.known == part.of else f"The worst {those}"
     else:

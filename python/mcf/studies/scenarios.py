@@ -80,7 +80,8 @@ class Asked:
     def unused(self, routings: Iterable[str]) -> list[tuple[str, str]]:
         """The options that are given, each with a routing that does not know it."""
         default = Asked()
-        given = [name for name in ("gap", "phases", "step", "lengths", "cost", "paths", "seconds") if getattr(self, name) != getattr(default, name)]
+        names = ("gap", "phases", "step", "lengths", "cost", "paths", "seconds")
+        given = [name for name in names if getattr(self, name) != getattr(default, name)]
         return [(name, routing) for name in given for routing in routings if name not in _OPTIONS.get(routing, ())]
 
     @cached_property

@@ -37,7 +37,8 @@ CREATE TABLE rows (
 """
 _COLUMNS = ("key", "network", "matrix", "asked", "verdict", "line", "lower", "upper", "rest_verdict", "rest_line", "rest_lower",
             "rest_upper", "left_out", "cut", "seconds", "place", "version", "rechecked", "certificate", "rest_certificate")
-_FOUND = ("network", "matrix", "asked", "verdict", "line", "lower", "upper", "left_out", "cut", "seconds", "place", "version", "certificate")
+_FOUND = ("network", "matrix", "asked", "verdict", "line", "lower", "upper", "left_out", "cut", "seconds", "place", "version",
+          "certificate")
 _REST = ("rest_verdict", "rest_line", "rest_lower", "rest_upper", "rest_certificate")
 # what stands there stays where the new one has no answer, or no certificate and this has one
 _OLD_FOUND = (f"(rows.verdict <> '{FAILED}' AND (excluded.verdict = '{FAILED}' OR "
@@ -63,7 +64,7 @@ class Wanted:
 
 @dataclass(frozen=True)
 class Due:
-    """A scenario that is not done, whether its certificates are kept, and whether those of its demands that have a way are solved for too."""
+    """A scenario that is not done, whether its certificates are kept, and whether its demands that have a way are solved for alone too."""
 
     scenario: Scenario
     keep: bool
@@ -184,7 +185,7 @@ class Store:
             self._base.executemany(_ADD, values)
 
     def left(self, scenarios: Sequence[Scenario], wanted: Wanted) -> list[Due]:
-        """The scenarios that are not done, in their order, each with what its new row has to have: what is wanted, and what its old one has."""
+        """The scenarios that are not done, in their order; a new row has what is wanted, and what the old one has."""
         states: dict[str, tuple[bool, bool, bool]] = {}
         for part in _parts([scenario.key for scenario in scenarios]):
             places = ", ".join("?" * len(part))
@@ -259,9 +260,12 @@ def _kept(named: dict[str, object]) -> Kept:
         return str(named[name])
 
     def blob(name: str) -> bytes | None:
-        """A certificate, where there is one."""
+        """A certificate, where there is one; zlib.error where it is damaged."""
         value = named.get(name)
-        return value if isinstance(value, bytes) else None
+        if not isinstance(value, bytes):
+            return None
+        zlib.decompress(value)
+        return value
 
     found = Found(word("verdict"), word("line"), word("lower"), word("upper"), blob("certificate"))
     rest = None
@@ -271,7 +275,10 @@ def _kept(named: dict[str, object]) -> Kept:
         _require_bounds(one)
     row = Row(word("key"), found, rest, tuple(json.loads(word("left_out"))), tuple(json.loads(word("cut"))), float(word("seconds")),
               word("place"), word("version"))
-    return Kept(row, word("network"), word("matrix"), json.loads(word("asked")))
+    kept = Kept(row, word("network"), word("matrix"), json.loads(word("asked")))
+    # (its change is made of what was asked, or that is damaged)
+    kept.change
+    return kept
 
 
 def _require_bounds(found: Found | None) -> None:

@@ -69,7 +69,7 @@ def _more(part: Part) -> list[str]:
 
 
 def _fitting(front: str, part: Part, alone: str = "") -> str:
-    """In how many scenarios all demands fit, what else there is among them, what the only one leaves, and of which demands this is not said."""
+    """In how many scenarios all demands fit, what else there is, what the only one leaves, and where demands are left out."""
     text = "; ".join([front, *_more(part)])
     lost = f". In {part.left_out:,} the demands of lost nodes are left out" if part.left_out else ""
     return f"{text[0].upper()}{text[1:]}{alone}{lost}"

@@ -28,7 +28,7 @@ _Value = TypeVar("_Value")
 
 @dataclass(frozen=True)
 class Job:
-    """A scenario for a worker: what it asks, whether its certificates are handed over, and whether its demands that have a way are asked for too."""
+    """A scenario for a worker: what it asks, and whether its certificates, and its demands that have a way alone, are asked for too."""
 
     key: str
     matrix: str
