@@ -108,6 +108,11 @@ class HeldSignals:
                 self._handlers[number] = handler
                 signal.signal(number, lambda number, _: self._came.append(number))
 
+    @property
+    def came(self) -> bool:
+        """Whether one waits."""
+        return bool(self._came)
+
     def let_go(self) -> None:
         """Hands over those that came."""
         handlers, self._handlers = self._handlers, {}

@@ -6,6 +6,7 @@ from collections.abc import Iterator, Sequence
 from contextlib import contextmanager
 from importlib.util import find_spec
 
+from .children import HeldSignals
 from .errors import TextError
 from .version import PACKAGE, TOP
 
@@ -21,9 +22,16 @@ PACKAGES = {
 
 @contextmanager
 def needed() -> Iterator[None]:
-    """Around imports: where one of these packages is missing, a TextError that names all that are missing."""
+    """Around imports alone: where one of these packages is missing, a TextError that names all that are missing.
+
+    A signal waits for their end: some packages, broken off, say that they are missing or damaged, or go on without a part.
+    """
     try:
-        yield
+        signals = HeldSignals()
+        try:
+            yield
+        finally:
+            signals.let_go()
     except ModuleNotFoundError as error:
         if (error.name or "").partition(".")[0] not in PACKAGES:
             raise

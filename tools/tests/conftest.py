@@ -30,10 +30,11 @@ try:
 except ImportError:
     pass
 else:
-    # (the quick one draws the same inputs each time; the long one others, of a seed that it tells)
+    # (the quick one draws the same inputs each time; the others draw others, of a seed that they tell)
     settings.register_profile("quick", max_examples=40, deadline=None, derandomize=True, database=None)
     settings.register_profile("long", max_examples=10_000, deadline=None, database=None, print_blob=True)
-    settings.load_profile("long" if os.environ.get("MCF_LONG") else "quick")
+    settings.register_profile("processes", max_examples=300, deadline=None, database=None, print_blob=True)
+    settings.load_profile("long" if os.environ.get("MCF_LONG") else "processes" if os.environ.get("MCF_PROCESSES") else "quick")
 
 
 @pytest.fixture(scope="session")

@@ -1,9 +1,11 @@
-"""`tools/convert` within the process of a test: its status, what it wrote, and what it said."""
+"""`tools/convert` within the process of a test, or with `tools/test --processes` as one of its own: its status, what it wrote and said."""
 
 from __future__ import annotations
 
 import contextlib
 import io
+import os
+import subprocess
 import sys
 from dataclasses import dataclass
 from pathlib import Path
@@ -42,13 +44,25 @@ class Converted:
 
 def converted(room: Path, *words: str | Path, to: str = "net") -> Converted:
     """What the words make of files; names of files that were written in the room may stand alone."""
-    target, said = room / "converted.out", io.StringIO()
+    target = room / "converted.out"
     target.unlink(missing_ok=True)
     full = [str(room / word) if isinstance(word, str) and (room / word).is_file() else str(word) for word in words]
-    with mock.patch.object(sys, "argv", ["convert", *full, str(target), "--to", to]), contextlib.redirect_stderr(said):
-        status = status_of(run, "convert")
+    status, said = (_as_process if os.environ.get("MCF_PROCESSES") else _within)([*full, str(target), "--to", to])
     text = target.read_bytes().decode("utf-8", "surrogateescape") if target.exists() else None
-    return Converted(status, text, said.getvalue().replace(f"{room}/", "").splitlines())
+    return Converted(status, text, said.replace(f"{room}/", "").splitlines())
+
+
+def _within(words: list[str]) -> tuple[int, str]:
+    """The status, and what is said, of the tool within this process."""
+    said = io.StringIO()
+    with mock.patch.object(sys, "argv", ["convert", *words]), contextlib.redirect_stderr(said):
+        return status_of(run, "convert"), said.getvalue()
+
+
+def _as_process(words: list[str]) -> tuple[int, str]:
+    """The same of the tool as it is started by a user."""
+    done = subprocess.run([ROOT / "tools/convert", *words], stdout=subprocess.DEVNULL, stderr=subprocess.PIPE, check=False)
+    return done.returncode, done.stderr.decode("utf-8", "surrogateescape")
 
 
 def made(room: Path, **files: str) -> Path:

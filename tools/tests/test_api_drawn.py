@@ -31,7 +31,7 @@ from mcf.network import Network as Rows  # noqa: E402
 from mcf.ranges import Range  # noqa: E402
 
 # what asks the program takes longer; the long profile tries as many as everywhere
-FEW = settings(max_examples=8 if not os.environ.get("MCF_LONG") else settings().max_examples,
+FEW = settings(max_examples=settings().max_examples if os.environ.get("MCF_LONG") or os.environ.get("MCF_PROCESSES") else 8,
                suppress_health_check=[HealthCheck.function_scoped_fixture])
 DECIMALS = st.decimals(0, MAX_UNITS, places=6, allow_nan=False)
 # what a network text can hold, and what else may be given

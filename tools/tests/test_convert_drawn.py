@@ -1,13 +1,16 @@
 """`tools/convert` on drawn input: there and back in each format, and beside readings that share nothing with it.
 
-Quick by default; `tools/test --long` draws 10,000 inputs for each property, from the seed of `--hypothesis-seed`.
+Quick by default; `tools/test --long` draws 10,000 inputs for each property, from the seed of `--hypothesis-seed`, and
+`tools/test --processes` 300, each with a process of its own.
 """
 
 from __future__ import annotations
 
 import csv
 import io
+import os
 import re
+import subprocess
 import tempfile
 from collections.abc import Iterator
 from dataclasses import dataclass
@@ -30,6 +33,8 @@ from mcf.names import cell_of, text_of  # noqa: E402
 from mcf.network import Demand, Link, Module, Network, Node  # noqa: E402
 from mcf.program import Program  # noqa: E402
 
+ROOT = Path(__file__).resolve().parents[2]
+
 
 @dataclass
 class Room:
@@ -44,14 +49,38 @@ class Room:
 
     def convert(self, *sources: str, to: str, **asked: object) -> tuple[str, str]:
         """What is written of these files, and all that is said; Refused where they are refused, and nothing is written then."""
-        target, said = self.path / f"written.{to}", io.StringIO()
+        target = self.path / f"written.{to}"
         target.unlink(missing_ok=True)
         try:
-            work.convert(Task(list(sources), str(target), written=to, **asked), Notes(said))  # type: ignore[arg-type]
+            said = (_as_process if os.environ.get("MCF_PROCESSES") else _within)(list(map(str, sources)), str(target), to, asked)
         except Refused as why:
             assert not target.exists() and str(why) and "\n" not in str(why), why
             raise
-        return target.read_bytes().decode("utf-8", "surrogateescape"), said.getvalue()
+        return target.read_bytes().decode("utf-8", "surrogateescape"), said
+
+
+def _within(sources: list[str], target: str, to: str, asked: dict[str, object]) -> str:
+    """What is said of a conversion within this process."""
+    said = io.StringIO()
+    work.convert(Task(sources, target, written=to, **asked), Notes(said))  # type: ignore[arg-type]
+    return said.getvalue()
+
+
+def _as_process(sources: list[str], target: str, to: str, asked: dict[str, object]) -> str:
+    """The same of the tool as a user starts it; Refused with its line where it ends with status 2."""
+    words = [*sources, target, "--to", to]
+    for name, value in asked.items():
+        if name == "edits":
+            words += [word for edit in value for word in (edit.option, edit.name, edit.word) if word]  # type: ignore[attr-defined]
+        elif value:
+            words += [f"--{'from' if name == 'kind' else name}", *([] if value is True else [str(value)])]
+    done = subprocess.run([ROOT / "tools/convert", *words], stdout=subprocess.PIPE, stderr=subprocess.PIPE, check=False)
+    *said, last = done.stderr.decode("utf-8", "surrogateescape").splitlines(keepends=True) or [""]
+    assert done.stdout == b"" and done.returncode in (0, 2), (done.stdout, done.returncode, last)
+    if done.returncode:
+        assert last.startswith("convert: "), last
+        raise Refused(last.removeprefix("convert: ").rstrip("\n"))
+    return "".join([*said, last])
 
 
 @pytest.fixture(scope="module")

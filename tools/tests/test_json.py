@@ -147,6 +147,16 @@ def test_trouble_is_told_in_the_object(program: Program, tmp_path: Path, tool: s
     assert not {"surveys", "sides", "output", "files"} & set(said) and not (tmp_path / "out").exists()
 
 
+@pytest.mark.parametrize("name, text, line", [
+    ("a line 3: b.csv", "source,target,capacity\nA,B,1\nA,B,x\n", 3), ("a.csv line 7: ", "source,target,capacity\nA,B\n", 2),
+    ("a.graphml", "<graphml><graph edgedefault='directed'><node id='A'/>\n<edge source='A' target='B'/></graph></graphml>", 2),
+    ("a.list line 1: b.csv", "", None)])
+def test_the_place_of_a_refusal_is_data_whatever_the_file_is_called(tmp_path: Path, name: str, text: str, line: int | None) -> None:
+    (tmp_path / name).write_text(text)
+    status, said, _ = ran(tmp_path, "convert", name, "out.net", "--from", "graphml" if "graphml" in name else "csv", program=None)
+    assert status == 2 and (said["error"]["file"], said["error"]["line"]) == (name, line)
+
+
 def test_a_file_that_standard_output_goes_to_is_no_other_output(program: Program, tmp_path: Path) -> None:
     words = [str(ROOT / "tools/report"), *TRIANGLE, "--csv", "out", "--json", "--mcf", program.path]
     with open(tmp_path / "out", "wb") as out:

@@ -270,3 +270,22 @@ def test_right_words_and_the_version() -> None:
     done = tool(ARGUMENTS.replace("WORDS", "['--version']"))
     assert (done.returncode, done.stdout.decode()) == (0, f"mcf {(ROOT / 'VERSION').read_text().strip()} ({commit_of(ROOT)})\n")
     assert tool(ARGUMENTS.replace("WORDS", "['--help']")).returncode == 0
+
+
+@pytest.mark.parametrize("number, why", [(signal.SIGINT, "interrupted"), (signal.SIGTERM, "ended by SIGTERM"), (signal.SIGHUP, "ended by SIGHUP")])
+@pytest.mark.parametrize("script", ["/a/tools/show", "/usr/bin/mcf-show"])
+def test_a_signal_while_a_tool_is_imported_is_one_line(number: signal.Signals, why: str, script: str) -> None:
+    """Where the process is a tool: in any other one signals do what they did."""
+    text = "import mcf.cli, os, time; os.kill(os.getpid(), number); time.sleep(60)"
+    for name, end, line in ((script, 130, f"{Path(script).name.removeprefix('mcf-')}: {why}\n"), ("/a/notebook", -number, "")):
+        code = f"import signal, sys; sys.path.insert(0, {str(ROOT / 'python')!r}); sys.argv = [{name!r}]; number = {number}\n"
+        code += "signal.signal(signal.SIGINT, signal.SIG_DFL)\n" + text
+        done = subprocess.run([sys.executable, "-c", code], capture_output=True, text=True, check=False)
+        assert (done.returncode, done.stderr) == (end, line)
+
+
+def test_a_signal_waits_for_the_end_of_imports() -> None:
+    """A package that is broken off amid its import says that it is missing, or damaged."""
+    done = tool("from mcf.needs import needed\nwith needed():\n    os.kill(os.getpid(), signal.SIGINT)\n    time.sleep(0.1)\n    print('whole', flush=True)\n"
+                "print('more', flush=True)")
+    assert (done.returncode, done.stdout, done.stderr) == (130, b"whole\n", b"tool: interrupted\n")

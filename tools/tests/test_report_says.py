@@ -155,7 +155,20 @@ def test_a_certificate_with_hop_limits() -> None:
     )
     text = page_of(found)
     assert "<th>Hop limit</th>" in text and "The paths keep it, and the bound is one of routings that keep it" in text
+    assert text.count("o routing within the hop limits") == 5 and "No routing carries" not in text and "No routing of any paths" not in text
     assert "no routing within the hop limits would carry more than" in sentences.growth(found)
+
+
+def test_a_link_without_capacity_is_no_other_link_that_may_get_more(program: Program, tmp_path: Path) -> None:
+    """It has no share of the bound, and more capacity on it alone lifts the optimum."""
+    text = ("?SNDlib native format; type: network; version: 1.0\nNODES (\n  A\n  B\n)\nLINKS (\n  L1 ( A B ) 1 0 0 0 ( )\n"
+            "  L2 ( A B ) CAP 0 0 0 ( )\n)\nDEMANDS (\n  D ( A B ) 1 2 UNLIMITED\n)\n")
+    found = []
+    for size in ("0", "9"):
+        (tmp_path / "net").write_text(text.replace("CAP", size))
+        found.append(figures((tmp_path / "net").read_text(), program.solve(tmp_path / "net", "--workers", "1")))
+    assert [row.link for row in found[0].bottleneck] == ["L1"] and found[0].upper == Fraction(1, 2) and found[1].lower > found[0].upper
+    assert "However much capacity all other links get that have some, no routing carries more than the upper fraction" in page_of(found[0])
 
 
 def test_a_routing_takes_no_bound_of_one_with_hop_limits() -> None:
@@ -371,7 +384,8 @@ def summary(name: str, low: Fraction, high: Fraction) -> Summary:
 def test_the_sentence_on_many_matrices(bounds: list[tuple[str, str]], sentence: str) -> None:
     rows = [summary(f"m{at}", Fraction(low), Fraction(high)) for at, (low, high) in enumerate(bounds)]
     assert batch_sentence(rows, []) == sentence
-    assert batch_sentence(rows, ["x"]) == sentence + " 1 matrix of the list has no answer there."
+    front, least = sentence.split(". ", 1)
+    assert batch_sentence(rows, ["x"]) == f"{front}. 1 matrix of the list has no answer there. Among the others: {least[0].lower()}{least[1:]}"
 
 
 # -- the command

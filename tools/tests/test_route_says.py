@@ -28,7 +28,7 @@ from test_route import asked, simple_graph  # noqa: E402
 
 ROOT = Path(__file__).resolve().parents[2]
 ROUTE = ROOT / "tools/route"
-DRAWN = 10_000 if os.environ.get("MCF_LONG") else 150
+DRAWN = 10_000 if os.environ.get("MCF_LONG") else 300 if os.environ.get("MCF_PROCESSES") else 150
 
 
 def grid(side: int) -> Network:

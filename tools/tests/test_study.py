@@ -4,11 +4,13 @@ from __future__ import annotations
 
 import gzip
 import io
+import random
 import signal
 import sqlite3
 import subprocess
 import tarfile
 import time
+import zlib
 from dataclasses import replace
 from fractions import Fraction
 from pathlib import Path
@@ -19,15 +21,16 @@ import mcf
 from mcf import Program, TextError, read_network, write_network
 from mcf.network import Network
 from mcf.ranges import Answer, Range
-from mcf.studies import answers, run
+from mcf.studies import answers, run, work
 from mcf.studies.bands import band
 from mcf.studies.changes import Fibres, all_changes, failures, read_changes, read_groups
 from mcf.studies.engine import Pace
-from mcf.studies.matrices import _stamp, in_numbers
+from mcf.studies.matrices import How, Told, _stamp, in_numbers, read_matrices
 from mcf.studies.scenarios import INTACT, Asked, Change, Ground, Matrix, Plan, changed, demand_rows, demands_of, digest_of
 from mcf.studies.store import Store, Wanted
 from mcf.studies.work import Found, Row
 from mcf.convert.numbers import Unit
+from mcf.studies.words import sentences
 from studied import EXAMPLES, STUDY, TRIANGLE, net_file, network, ran, rows, table, timeless
 
 # the exact optima of the triangle with one link closed: cuts that are easily seen
@@ -35,6 +38,7 @@ CLOSED = {"AB": Fraction(1, 2), "AC": Fraction(5, 6), "BC": Fraction(5, 4)}
 # two arcs of each fibre of a triangle
 ARCS = network([(f"{a}{b}", a, b, "10") for a, b in ("AB", "BA", "BC", "CB", "CA", "AC")], [("D", "A", "B", "8"), ("E", "C", "A", "4")])
 # D2 goes over a bridge
+CERT = zlib.compress(b"mcf-certificate")
 BRIDGE = network([("AB", "A", "B", "4"), ("BA2", "A", "B", "4"), ("BC", "B", "C", "3")], [("D1", "A", "B", "4"), ("D2", "A", "C", "2")])
 
 
@@ -233,6 +237,30 @@ def test_exact_is_as_near_as_certify(tmp_path: Path, program: Program) -> None:
         assert Fraction(row["upper"]) - Fraction(row["lower"]) <= Fraction(2, 10**6)
 
 
+def test_an_exact_scenario_without_its_linear_program_is_open(program: Program, monkeypatch: pytest.MonkeyPatch) -> None:
+    """What `mcf solve` calls closed at its own gap is not as close as an exact scenario has to be."""
+    pytest.importorskip("scipy")
+    from mcf.studies import children, exact
+
+    def fails(*_: object) -> None:
+        """No linear program."""
+        raise RuntimeError("no memory for it")
+
+    monkeypatch.setattr(exact, "_optimum", fails)
+    mcf_here, text = children.program(program.path), TRIANGLE.encode()
+    assert work.solved(mcf_here, text, Asked()).verdict == "closed"
+    found = exact.exact(mcf_here, read_network(TRIANGLE), text, Asked(), "ground", "exact")
+    assert found.verdict == "open" and Fraction(found.lower) <= Fraction(4, 3) <= Fraction(found.upper)
+    assert exact.exact(mcf_here, read_network(TRIANGLE), text, Asked(gap="0.05"), "ground", "exact").verdict == "closed"
+    children.end_all()
+
+
+def test_options_that_mean_nothing_for_a_routing_are_said(tmp_path: Path, program: Program) -> None:
+    out, why = ran(tmp_path, net_file(tmp_path), "--routing", "best,hops", "--phases", "30", "--paths", "2", program=program, status=0)
+    assert why.splitlines() == ["study: --phases means nothing for the routing hops", "study: --paths means nothing for the routing best",
+                                "study: --paths means nothing for the routing hops"]
+
+
 # -- what is kept
 
 
@@ -283,7 +311,8 @@ def test_a_certificate_is_handed_out_and_the_check_judges_it(tmp_path: Path, pro
 
 def test_show_says_why_it_has_none(tmp_path: Path, program: Program) -> None:
     key = rows(tmp_path, net_file(tmp_path), program=program)[0]["key"]
-    for words, said in ((["xyz"], "study.db: no key begins with 'xyz'"), ([key], "its certificate was not kept"), ([key, "--store", "none.db"], "no such file")):
+    for words, said in ((["xyz"], "study.db: no key begins with 'xyz'"), ([b"\xff"], "study.db: no key begins with"),
+                        ([key], "its certificate was not kept"), ([key, "--store", "none.db"], "no such file")):
         done = subprocess.run([STUDY, "show", *words], cwd=tmp_path, capture_output=True, text=True, check=False)
         assert done.returncode == 2 and said in done.stderr and done.stderr.count("\n") == 1 and done.stdout == ""
     assert rows(tmp_path, net_file(tmp_path), "--keep", program=program)[0]["key"] == key
@@ -295,6 +324,95 @@ def test_what_was_kept_is_not_lost(tmp_path: Path, program: Program) -> None:
     key = rows(tmp_path, net, "--failures", "links", "--keep", program=program)[2]["key"]
     rows(tmp_path, net, "--failures", "links", "--without-cut", program=program)
     assert subprocess.run([STUDY, "show", key], cwd=tmp_path, capture_output=True, check=False).returncode == 0
+
+
+def test_what_is_known_of_the_rest_is_not_lost(tmp_path: Path, program: Program) -> None:
+    words = (net_file(tmp_path, BRIDGE), "--failures", "links")
+    whole = rows(tmp_path, *words, "--without-cut", program=program)
+    kept = rows(tmp_path, *words, "--keep", program=program)
+    assert whole[2]["rest_lower"] and [row["rest_lower"] for row in kept] == [row["rest_lower"] for row in whole]
+    show = [STUDY, "show", whole[2]["key"], "--rest"]
+    assert subprocess.run(show, cwd=tmp_path, capture_output=True, check=False).returncode == 0
+
+
+def test_of_two_studies_at_once_nothing_is_lost(tmp_path: Path) -> None:
+    """One keeps certificates, and the other one asks for the rest: what comes last takes the place of nothing that has more."""
+    scenario = next(iter(plan_of(read_network(BRIDGE), [INTACT])))
+    store = Store(str(tmp_path / "s.db"))
+    cut = Found("closed", "one", "0", "0")
+    kept = Row(scenario.key, replace(cut, certificate=CERT), None, (), ("D2",), 0.0, "", "")
+    rest = Row(scenario.key, cut, Found("closed", "two", "1", "1"), (), ("D2",), 0.0, "", "")
+    failed = Row(scenario.key, Found("failed", "three"), None, (), (), 0.0, "", "")
+    for one in (failed, kept, rest, failed, kept):
+        store.add([(scenario, one, False)], "net", Asked())
+    found = store.rows([scenario.key], certificates=True)[scenario.key].row
+    assert (found.found.certificate, found.rest, found.cut) == (CERT, rest.rest, ("D2",))
+    # (of the rest there is no certificate, which --keep asks for)
+    assert not store.left([scenario], Wanted(False, True)) and store.left([scenario], Wanted(True, False))[0].without_cut
+    store.close()
+
+
+def test_a_rest_without_an_answer_leaves_the_answer_on_all_demands(tmp_path: Path, program: Program) -> None:
+    weak = tmp_path / "weak"
+    weak.write_text(f'#!/bin/sh\nfor net; do :; done\n[ "$1" = solve ] && ! grep -q "D2 " "$net" && kill -9 $$\nexec {program.path} "$@"\n')
+    weak.chmod(0o755)
+    words = (net_file(tmp_path, BRIDGE), "--failures", "links", "--without-cut")
+    found = rows(tmp_path, *words, program=Program(str(weak)), status=2)[2]
+    assert (found["lower"], found["upper"], found["without_way"], found["rest_fits"]) == ("0", "0", "D2", "undecided")
+    out, _ = ran(tmp_path, *words, program=Program(str(weak)), status=2)
+    assert "of 1 the demands that have a way have no answer, and the same command tries again" in out
+    assert rows(tmp_path, *words, program=program, status=1)[2]["rest_fits"] == "yes"
+
+
+@pytest.mark.parametrize("seed", range(12))
+def test_a_damaged_store_is_one_line(tmp_path: Path, seed: int) -> None:
+    draw = random.Random(seed)
+    net, whole = read_network(TRIANGLE), tmp_path / "s.db"
+    plan = plan_of(net, list(failures(net, ("links", "nodes", "pairs"), Fibres(net))))
+    store = Store(str(whole))
+    store.keep_texts([(plan.ground.digest, plan.ground.text)])
+    found = Found("closed", "line", "1/2", "2/3", zlib.compress(draw.randbytes(900)))
+    store.add([(one, Row(one.key, found, None, ("D",), (), 0.1, "here", "1"), False) for one in plan], plan.ground.digest, plan.asked)
+    store.close()
+    data = bytearray(whole.read_bytes())
+    for _ in range(draw.choice((1, 20, 200))):
+        data[draw.randrange(len(data))] = draw.randrange(256)
+    some = [bytes(data), *(whole.read_bytes()[:length] for length in (1, 50, 100, 512, draw.randrange(len(data)))), bytes(len(data)), bytes(5)]
+    for text in some:
+        whole.write_bytes(text)
+        try:
+            store = Store(str(whole))
+            try:
+                store.left(list(plan), Wanted())
+                store.rows([one.key for one in plan], certificates=True)
+                store.text(plan.ground.digest)
+            finally:
+                store.close()
+        except TextError as why:
+            assert str(why).startswith(f"{whole}: ") and "\n" not in str(why)
+        else:
+            assert text == bytes(data)
+
+
+@pytest.mark.parametrize("column, value", [("certificate", b"no certificate"), ("asked", "{}"), ("asked", "[]"), ("asked", "{"), ("cut", "3"), ("seconds", "x")])
+def test_a_row_that_is_damaged_is_one_line(tmp_path: Path, column: str, value: object) -> None:
+    plan, path = plan_of(read_network(TRIANGLE), [INTACT]), tmp_path / "study.db"
+    store, one = Store(str(path)), next(iter(plan))
+    store.add([(one, Row(one.key, Found("closed", "line", "1", "2", CERT), None, (), (), 0.1, "", ""), False)], "net", Asked())
+    store.close()
+    with sqlite3.connect(path) as base:
+        base.execute(f"UPDATE rows SET {column} = ?", (value,))
+    done = subprocess.run([STUDY, "show", one.key], cwd=tmp_path, capture_output=True, text=True, check=False)
+    assert done.returncode == 2 and done.stderr.startswith("study: study.db: is damaged (") and done.stderr.count("\n") == 1 and not done.stdout
+
+
+def test_bounds_that_contradict_each_other_are_damage(tmp_path: Path) -> None:
+    plan, path = plan_of(read_network(TRIANGLE), [INTACT]), tmp_path / "s.db"
+    store, one = Store(str(path)), next(iter(plan))
+    for lower, upper in (("3", "2"), ("x", "2"), ("1/0", "2"), ("-1", "2")):
+        store.add([(one, Row(one.key, Found("closed", "line", lower, upper), None, (), (), 0.1, "", ""), False)], "net", Asked())
+        with pytest.raises(TextError, match="s.db: is damaged"):
+            store.rows([one.key])
 
 
 def test_what_arrives_is_judged_again(tmp_path: Path, program: Program) -> None:
@@ -317,7 +435,9 @@ def test_a_file_that_is_no_store_is_refused(tmp_path: Path, program: Program) ->
     (tmp_path / "text.db").write_text("no database " * 100)
     with sqlite3.connect(tmp_path / "other.db") as base:
         base.execute("CREATE TABLE rows (a)")
-    for store, said in (("text.db", "text.db: is no file of a study"), ("other.db", "other.db: is a database, and none of a study; name another file by --store"),
+    (tmp_path / "short.db").write_text("x")
+    for store, said in (("text.db", "text.db: is no file of a study"), ("short.db", "short.db: is no file of a study"),
+                        ("other.db", "other.db: is a database, and none of a study; name another file by --store"),
                         ("none/study.db", "none/study.db: No such file or directory")):
         assert ran(tmp_path, net, "--store", store, program=program, status=2)[1] == f"study: {said}\n"
     assert ran(tmp_path, net, "--store", net, program=program, status=2)[1].startswith(f"study: {net}: is read too")
@@ -373,6 +493,30 @@ def _count(room: Path) -> int:
 
 
 # -- matrices
+
+
+@pytest.mark.parametrize("mode", ["w", "w:gz"])
+def test_an_archive_that_is_cut_short_is_refused(tmp_path: Path, program: Program, mode: str) -> None:
+    net, file = net_file(tmp_path), tmp_path / "day.tar"
+    with tarfile.open(file, mode) as packed:
+        for at in range(3):
+            data = f"m{at} (\n  D ( A B ) 1 4 UNLIMITED\n)\n".encode()
+            info = tarfile.TarInfo(f"m{at}.list")
+            info.size = len(data)
+            packed.addfile(info, io.BytesIO(data))
+    whole = file.read_bytes()
+    # (behind the first and the second of three members of two blocks each, amid the third one, and before the mark of the end)
+    for length in (1024, 2048, 2600, 3072) if mode == "w" else (len(whole) // 2, len(whole) - 40):
+        file.write_bytes(whole[:length])
+        why = ran(tmp_path, net, "--matrices", "day.tar", program=program, status=2)[1]
+        assert why.startswith("study: day.tar: ") and why.count("\n") == 1
+    file.write_bytes(whole)
+    assert [matrix.name for matrix in _matrices_of(file)] == ["m0", "m1", "m2"]
+
+
+def _matrices_of(path: Path) -> list[Matrix]:
+    """The matrices of a file, for the triangle."""
+    return read_matrices([str(path)], TRIANGLE.encode(), How(), lambda *_: None, Told())
 
 
 def dynamic(time_of: str, amount: str) -> bytes:
@@ -443,6 +587,74 @@ def test_times_are_seen_in_names() -> None:
 # -- what is said
 
 
+def case_of(found: Found, name: str, rest: Found | None = None, routing: str = "best") -> answers.Case:
+    """A case of the triangle with one link closed."""
+    scenario = next(iter(plan_of(read_network(TRIANGLE), [Change("link", name, (name,))], routings=(routing,))))
+    return answers.Case(scenario, Fraction(1), Row(scenario.key, found, rest, (), (), 0.0, "", ""))
+
+
+def summed(cases: list[answers.Case], routing: str = "best") -> answers.Part:
+    """What was found of cases."""
+    sums = answers._Sum(routing, "1")
+    sums.take(cases)
+    return sums.part()
+
+
+HALF, MOST, LOST, OUT = Found("closed", "", "1/2", "1/2"), Found("closed", "", "3/4", "4/5"), Found("failed", "died"), Found("refused", "N1")
+
+
+@pytest.mark.parametrize("found, said, status", [
+    ([HALF, MOST, LOST], "Not all demands fit in 2 of 3 scenarios; 1 has no answer, and the same command tries again. "
+                         "Of the 2 that have an answer the worst is link L0: 50.0 % to 50.0 % of every demand.", 2),
+    ([HALF, HALF, OUT], "Not all demands fit in 2 of 3 scenarios; 1 was refused. "
+                        "Of the 2 that have an answer the worst are link L0 and link L1, which are equally bad: 50.0 % to 50.0 % of every demand.", 1),
+    ([OUT, HALF, OUT], "Not all demands fit in 1 of 3 scenarios; 2 were refused. The one that has an answer is link L1: 50.0 % to 50.0 % of every demand.", 1),
+    ([OUT, OUT], "Nothing is known of 2 scenarios; 2 were refused.", 2),
+    ([LOST], "Nothing is known of 1 scenario; 1 has no answer, and the same command tries again.", 2),
+    ([HALF, MOST], "Not all demands fit in 2 of 2 scenarios. The worst is link L0: 50.0 % to 50.0 % of every demand.", 1),
+    ([HALF], "Not all demands fit in 1 of 1 scenario: 50.0 % to 50.0 % of every demand.", 1)])
+def test_the_worst_is_one_of_those_that_have_an_answer(found: list[Found], said: str, status: int) -> None:
+    part = summed([case_of(one, f"L{at}") for at, one in enumerate(found)])
+    plan = plan_of(read_network(TRIANGLE), [INTACT])
+    assert sentences(plan, [part]) == [said] and answers.status_of([part]) == status
+
+
+def test_of_a_rule_the_least_is_of_those_that_have_an_answer() -> None:
+    carried = Found("feasible", "", "1/2", "")
+    part = summed([case_of(carried, "L0", routing="ecmp"), case_of(LOST, "L1", routing="ecmp")], "ecmp")
+    assert sentences(plan_of(read_network(TRIANGLE), [INTACT], routings=("ecmp",)), [part]) == [
+        "It is shown to carry all demands in 0 of 2 scenarios; 1 has no answer, and the same command tries again. "
+        "Of the 1 that has an answer the least that it is shown to carry is 50.0 % of every demand: link L0."]
+
+
+def test_demands_of_lost_nodes_are_said_to_be_left_out(tmp_path: Path, program: Program) -> None:
+    out, _ = ran(tmp_path, net_file(tmp_path), "--failures", "nodes", program=program, status=1)
+    assert "1 was refused. In 3 the demands of lost nodes are left out. Of the 2 that have an answer " in out
+
+
+def test_a_network_without_demands_has_no_answer(tmp_path: Path, program: Program) -> None:
+    out, _ = ran(tmp_path, net_file(tmp_path, TRIANGLE.partition("DEMANDS")[0] + "DEMANDS (\n)\n"), program=program, status=2)
+    assert out == "Nothing is known of 1 scenario; 1 was refused.\n"
+
+
+def test_a_rule_that_has_no_routing_is_a_row_with_its_reason(tmp_path: Path, program: Program) -> None:
+    net = net_file(tmp_path, TRIANGLE.replace("10 0 0 0", "10 0 n/a 0"))
+    found = rows(tmp_path, net, "--routing", "hops,cost", program=program, status=1)
+    assert [row["verdict"] for row in found] == ["feasible", "refused"]
+    assert found[1]["refusal"] == "there is no routing by cost: a routing cost of the file: 'n/a' is no number"
+
+
+def test_a_page_of_rules_shows_no_bound(tmp_path: Path, program: Program) -> None:
+    (tmp_path / "day.list").write_text("m1 (\n  D ( A B ) 1 4 UNLIMITED\n)\nm2 (\n  D ( A B ) 1 8 UNLIMITED\n)\n")
+    words = (net_file(tmp_path), "--matrices", "day.list", "--routing", "ecmp", "--html", "p.html")
+    ran(tmp_path, *words, program=program, status=0)
+    page = (tmp_path / "p.html").read_text()
+    assert page.count("<svg") == 3 and "no routing carries more" not in page and "#b2182b" not in page.partition("</style>")[2]
+    for said in ("Over time, if the matrices stand in its order", "as is shown; more may be",
+                 "The scenario of which the least is shown to be carried: the network as it is with matrix m2"):
+        assert said in page
+
+
 @pytest.mark.parametrize("words, said", [
     (["--failures", "links,links"], "'links,links' is no list of different words"), (["--failures", "arcs"], "--failures: 'arcs' is none of links, nodes, pairs"),
     (["--routing", "worst"], "--routing: 'worst' is none of best, exact, ecmp"), (["--grow", "0"], "--grow is more than 0"),
@@ -506,6 +718,19 @@ def test_a_study_of_a_notebook_is_a_frame(program: Program, tmp_path: Path, monk
     assert both["links"] == "AB AC BC" and both["without_way"] == "A-B" and both["left_out"] == ""
     for words, said in (({"failures": "arcs"}, "failures: 'arcs' is none of"), ({"groups": {"g": ["X"]}}, "group 'g': 'X' is no link and no node"),
                         ({"grow": [0]}, "grow: 0 leaves no demands"), ({"routing": []}, "routing: None is none of")):
+        with pytest.raises(ValueError, match=said):
+            mcf.study(net_file(tmp_path), jobs=1, progress=False, **words)  # type: ignore[arg-type]
+
+
+def test_a_notebook_has_the_options_of_the_command(program: Program, tmp_path: Path, monkeypatch: pytest.MonkeyPatch) -> None:
+    monkeypatch.setenv("MCF", program.path)
+    (tmp_path / "m.list").write_text("one (\n  D ( A B ) 1 0.1234567 UNLIMITED\n)\n")
+    frame = mcf.study(net_file(tmp_path), [tmp_path / "m.list"], round=2, routing="k-paths", lengths="capacity", paths=1, grow=[1, "1.0"], jobs=1,
+                      progress=False, exact=True)
+    assert len(frame) == 1 and frame["lower"][0] == Fraction(1000, 12)
+    for words, said in (({"paths": 0}, "paths: 0 is not from 1 to 1000"), ({"lengths": "miles"}, "lengths: 'miles' is none of hops"),
+                        ({"cost": "x"}, "cost: 'x' is none of routing"), ({"modules": "all"}, "modules: 'all' is none of"),
+                        ({"links": "both"}, "links: 'both' is none of"), ({"matrices": [tmp_path / "m.list"], "from_unit": "mile"}, "'mile' is none of")):
         with pytest.raises(ValueError, match=said):
             mcf.study(net_file(tmp_path), jobs=1, progress=False, **words)  # type: ignore[arg-type]
 

@@ -9,11 +9,13 @@ import subprocess
 import sys
 import time
 from pathlib import Path
+from types import SimpleNamespace
 
 import pytest
 
-from clusters import Cluster, below, cluster, kill, listening, workers_of
+from clusters import Cluster, below, cluster, command_of, kill, listening, workers_of
 from mcf import Program
+from mcf.studies import engine
 from studied import EXAMPLES, STUDY, net_file, ran, rows, table, timeless
 
 pytest.importorskip("distributed")
@@ -85,6 +87,38 @@ def test_workers_that_are_killed_at_ten_moments_change_nothing(tmp_path: Path, p
     out, why = child.communicate()
     assert child.returncode == 1 and why == "", out + why
     require_once(tmp_path, table((tmp_path / "t.csv").read_text()), alone)
+
+
+def test_workers_that_are_killed_while_they_start_change_nothing(tmp_path: Path, program: Program) -> None:
+    """Dask's nanny of one that dies before it was ready ends, and starts no other one."""
+    command = [STUDY, POLSKA, *SMALL, "--jobs", "2", "--csv", "t.csv", "--mcf", program.path]
+    child = subprocess.Popen([str(word) for word in command], cwd=tmp_path, stdout=subprocess.PIPE, stderr=subprocess.PIPE, text=True)
+    killed: set[int] = set()
+    end = time.monotonic() + 120
+    while len(killed) < 6 and time.monotonic() < end and child.poll() is None:
+        for pid in {pid for pid in below(child.pid) if "multiprocessing.spawn" in command_of(pid)} - killed:
+            kill(pid)
+            killed.add(pid)
+        time.sleep(0.01)
+    out, why = child.communicate()
+    assert child.returncode == 1 and why == "" and len(killed) >= 2, (child.returncode, out, why, killed)
+    assert count(tmp_path) == 30 == len(table((tmp_path / "t.csv").read_text()))
+
+
+def test_a_worker_that_is_away_for_long_gives_way_to_another_one(monkeypatch: pytest.MonkeyPatch) -> None:
+    clock, replaced = [100.0], []  # type: tuple[list[float], list[list[object]]]
+    monkeypatch.setattr(engine.time, "monotonic", lambda: clock[0])
+    there = {"a": {"name": 0}}
+    fake = SimpleNamespace(worker_spec={0: {}, 1: {}}, scheduler_info={"workers": there}, sync=lambda _, lost: replaced.append(lost))
+    staff = engine.Staff(fake, 2, patience=30.0)
+    for moment, others, said in ((100, (), []), (120, (), []), (125, (1,), []), (126, (), []), (130, (), []), (155, (), []), (162, (), [[1]]), (180, (), [[1]]),
+                                 (215, (), [[1]]), (250, (), [[1], [1]])):
+        clock[0] = float(moment)
+        there.update({str(name): {"name": name} for name in others})
+        staff.mend()
+        for name in others:
+            del there[str(name)]
+        assert replaced == said, moment
 
 
 def test_a_client_that_is_killed_goes_on_where_it_was(tmp_path: Path, program: Program, alone: list[dict[str, str]]) -> None:

@@ -33,7 +33,7 @@ from mcf.survey.words import sentence  # noqa: E402
 ROOT = Path(__file__).resolve().parents[2]
 SURVEY = ROOT / "tools/survey"
 DATA = ROOT / "tools/tests/data/survey"
-LONG = bool(os.environ.get("MCF_LONG"))
+LONG = bool(os.environ.get("MCF_LONG") or os.environ.get("MCF_PROCESSES"))
 DRAWN = 300 if LONG else 15
 NEAR = 2e-6
 WAYS = ((), ("--quick",), ("--gap", "0.5", "--phases", "2"))

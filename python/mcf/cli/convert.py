@@ -113,7 +113,6 @@ def run() -> int:
     from mcf.convert.numbers import number
     from mcf.convert.tables import columns_of
     from mcf.convert.work import Task, convert, target_of
-    from mcf.needs import needed
 
     notes = Notes(quiet=words.pop("quiet") or jsons.asked())
     words["base"] = words.pop("net")
@@ -122,8 +121,7 @@ def run() -> int:
     words |= {name: number(words[name], f"--{name}") for name in ("scale", "gravity")}
     task = Task(**words)
     try:
-        with needed():
-            network = convert(task, notes)
+        network = convert(task, notes)
     finally:
         for verb, text in notes.said if jsons.asked() else ():
             jsons.note(f"{verb}: {text}")

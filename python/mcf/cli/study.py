@@ -142,7 +142,7 @@ def studied() -> int:
 def _require(parser: Arguments, words: argparse.Namespace) -> None:
     """Refuses words that cannot be, before anything is done."""
     from mcf.studies.changes import FAILURES
-    from mcf.studies.scenarios import ROUTINGS
+    from mcf.studies.scenarios import MOST_PATHS, ROUTINGS
     for option, given, known in (("--failures", words.failures, FAILURES), ("--routing", words.routing, ROUTINGS)):
         other = next((word for word in given if word not in known), None)
         if other is not None:
@@ -160,8 +160,8 @@ def _require(parser: Arguments, words: argparse.Namespace) -> None:
     for option, number, most in (("--phases", words.phases, MAX_PHASES), ("--step", words.step, MAX_STEP)):
         if number is not None and not 1 <= number <= most:
             parser.error(f"{option} is from 1 to {most}")
-    if not 1 <= words.paths <= 1000:
-        parser.error("--paths is from 1 to 1000")
+    if not 1 <= words.paths <= MOST_PATHS:
+        parser.error(f"--paths is from 1 to {MOST_PATHS}")
     if words.jobs is not None and words.jobs < 1:
         parser.error("--jobs is at least 1")
     if words.jobs is not None and words.scheduler is not None:

@@ -7,7 +7,7 @@ from dataclasses import dataclass, field, replace
 from fractions import Fraction
 
 from ..limits import MAX_DECIMALS, MAX_LINKS, MAX_MATRICES, MAX_TOTAL, MAX_UNITS, WIDE
-from .model import Demand, Link, Matrix, Network, Notes, Refused, Source
+from .model import Demand, Link, Matrix, Network, Notes, Refused, Source, refused
 from .numbers import brief, is_fine, plain, rounded
 
 
@@ -25,7 +25,7 @@ def in_unit(source: Source, bits: Fraction) -> Source:
     """What a file has, in units of so many bits per second."""
     if source.bits is None:
         unit = f" (META has {source.meta['unit']}, which is none that is known)" if source.meta.get("unit") else ""
-        raise Refused(f"{source.path} does not say its unit{unit}: --from-unit says in which its numbers are")
+        raise Refused(f"{source.path} does not say its unit{unit}: --from-unit says in which its numbers are").at(source.path)
     factor = source.bits / bits
     if factor == 1:
         return source
@@ -145,9 +145,9 @@ def _require_counts(network: Network, linked: bool, limited: bool) -> None:
 
 def _require_number(value: Fraction, what: str) -> None:
     if not is_fine(value):
-        raise Refused(f"{what}: {brief(value)} has more than {MAX_DECIMALS} decimals (--round N rounds it)")
+        raise refused(what, f"{brief(value)} has more than {MAX_DECIMALS} decimals (--round N rounds it)")
     if value > MAX_UNITS:
-        raise Refused(f"{what}: {brief(value)} is more than {MAX_UNITS} (--unit Mbit or Gbit makes it smaller)")
+        raise refused(what, f"{brief(value)} is more than {MAX_UNITS} (--unit Mbit or Gbit makes it smaller)")
 
 
 def _require_demands(matrix: Matrix, links: list[Link]) -> None:

@@ -7,7 +7,7 @@ from collections.abc import Iterable
 from dataclasses import dataclass, field, replace
 
 from .files import stem
-from .model import Demand, Link, Matrix, Network, Node, Notes, Refused, Source
+from .model import Demand, Link, Matrix, Network, Node, Notes, Refused, Source, Spot, refused
 from .words import Words, told, word_of
 
 
@@ -24,12 +24,12 @@ class Ends:
         """The node's word, or why there is none."""
         if number:
             if int(name) >= len(self.by_number):
-                raise Refused(f"{what}: {told(name)} is no number of a node, of which there are {len(self.by_number)}")
+                raise refused(what, f"{told(name)} is no number of a node, of which there are {len(self.by_number)}")
             return self.by_number[int(name)]
         found = self.known.get(name) or self._by_word(name)
         if len(found) != 1:
             several = f", but the name of several: {', '.join(sorted(found)[:3])}" if found else ""
-            raise Refused(f"{what}: {told(name)} is no node{several}")
+            raise refused(what, f"{told(name)} is no node{several}")
         return next(iter(found))
 
     def _by_word(self, name: str) -> set[str]:
@@ -88,7 +88,7 @@ def _places(sources: Iterable[Source]) -> dict[str, tuple[str, ...]]:
     for source, node in [(source, node) for source in sources for node in source.nodes if node.place]:
         place = node.place or ()
         if places.setdefault(node.name, place) != place:
-            raise Refused(f"{source.path}: node {told(node.name)} has another place than in the file before")
+            raise Refused(f"{source.path}: node {told(node.name)} has another place than in the file before").at(source.path)
     return places
 
 
@@ -102,7 +102,7 @@ def _named(source: Source, notes: Notes) -> tuple[list[Node], list[Link], dict[s
     """Nodes and links under their words, and the word of each key."""
     double, times = Counter(node.key for node in source.nodes).most_common(1)[0] if source.nodes else ("", 0)
     if times > 1:
-        raise Refused(f"{source.path}: node {told(double)} stands twice")
+        raise Refused(f"{source.path}: node {told(double)} stands twice").at(source.path)
     node_words, link_words = Words("node", notes, source.native), Words("link", notes, source.native)
     words = {node.key: node_words.word(node.name, node.key) for node in source.nodes}
     nodes = [replace(n, name=words[n.key], key=words[n.key], place=_place(n, notes)) for n in source.nodes]
@@ -124,7 +124,7 @@ def _link(source: Source, link: Link, words: dict[str, str], link_words: Words) 
     """A link under its word, between the words of its ends."""
     for end in (link.source, link.target):
         if end not in words:
-            raise Refused(f"{source.path}: link {told(link.name)} has the end {told(end)}, which is no node")
+            raise Refused(f"{source.path}: link {told(link.name)} has the end {told(end)}, which is no node").at(source.path)
     name = link_words.word(link.name, f"{words[link.source]}-{words[link.target]}")
     costs = tuple(_cost(cost, name, link_words.notes) for cost in link.costs)
     modules = tuple((capacity, _cost(cost, name, link_words.notes)) for capacity, cost in link.modules)
@@ -156,7 +156,8 @@ def _demands(source: Source, matrix: Matrix, ends: Ends | dict[str, str], notes:
     words = Words("demand", notes, source.native)
     done = []
     for demand in matrix.demands:
-        what = f"{source.path}{f' line {demand.line}' if demand.line else ''}: demand {told(demand.name)}"
+        what = f"demand {told(demand.name)}"
+        what = Spot(source.path, demand.line, what) if demand.line else f"{source.path}: {what}"
         pair = demand.source, demand.target
         found = [ends[end] if isinstance(ends, dict) else ends.word(end, source.by_number, what) for end in pair]
         name = words.word(demand.name, "-".join(found))

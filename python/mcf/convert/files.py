@@ -11,7 +11,7 @@ from pathlib import Path
 
 from .. import output
 from ..tokens import NATIVE
-from .model import Notes, Refused
+from .model import Notes, Refused, Spot, refused
 
 MAX_BYTES = 1 << 28
 MARKS = (
@@ -33,9 +33,9 @@ def contents(path: str) -> bytes:
             with gzip.open(io.BytesIO(data)) as packed:
                 data = packed.read(MAX_BYTES + 1)
     except (OSError, EOFError, zlib.error) as fault:
-        raise Refused(f"{label(path)}: {getattr(fault, 'strerror', None) or fault}") from None
+        raise Refused(f"{label(path)}: {getattr(fault, 'strerror', None) or fault}").at(label(path)) from None
     if len(data) > MAX_BYTES:
-        raise Refused(f"{label(path)}: more than {MAX_BYTES >> 20} MiB")
+        raise Refused(f"{label(path)}: more than {MAX_BYTES >> 20} MiB").at(label(path))
     return data
 
 
@@ -52,7 +52,7 @@ def without_mark(path: str, data: bytes, notes: Notes) -> bytes:
             try:
                 return data[len(mark) :].decode(encoding).encode("utf-8")
             except UnicodeDecodeError:
-                raise Refused(f"{path}: has the mark of {title}, and is none") from None
+                raise Refused(f"{path}: has the mark of {title}, and is none").at(path) from None
     return data
 
 
@@ -66,7 +66,7 @@ def text_of(path: str, data: bytes, notes: Notes) -> str:
         return data.decode("cp1252")
     except UnicodeDecodeError as fault:
         line = data.count(b"\n", 0, fault.start) + 1
-        raise Refused(f"{path} line {line}: a byte that is neither UTF-8 nor Windows-1252") from None
+        raise refused(Spot(path, line), "a byte that is neither UTF-8 nor Windows-1252") from None
 
 
 def kind_of(path: str, data: bytes) -> str:
@@ -88,7 +88,7 @@ def kind_of(path: str, data: bytes) -> str:
         return "list"
     if any(mark in first for mark in (b",", b";", b"\t")):
         return "csv"
-    raise Refused(f"{path}: no format that is known here (--from FORMAT says which it is)")
+    raise Refused(f"{path}: no format that is known here (--from FORMAT says which it is)").at(path)
 
 
 def _kind_of_xml(path: str, data: bytes) -> str:
@@ -97,7 +97,7 @@ def _kind_of_xml(path: str, data: bytes) -> str:
     root = ROOT.search(bare)
     kinds = {b"network": "xml", b"graphml": "graphml"}
     if not root or root.group(1) not in kinds:
-        raise Refused(f"{path}: XML, but neither of SNDlib's <network> nor <graphml>")
+        raise Refused(f"{path}: XML, but neither of SNDlib's <network> nor <graphml>").at(path)
     return kinds[root.group(1)]
 
 

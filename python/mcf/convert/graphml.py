@@ -9,7 +9,7 @@ from fractions import Fraction
 from xml.etree import ElementTree
 
 from ..units import unit_of
-from .model import Link, Network, Node, Notes, Refused, Source
+from .model import Link, Network, Node, Notes, Refused, Source, Spot, refused
 from .numbers import Form, Unit, plain, rate
 from .words import told
 from .xml import Entry, attribute, child, children, elements, local, root_of, where, words
@@ -28,7 +28,7 @@ def read(path: str, data: bytes, notes: Notes, form: Form) -> Source:
     keys = _keys(path, children(root, "key"))
     graphs = children(root, "graph")
     if not graphs:
-        raise Refused(f"{path} line {root.line}: GraphML without a graph")
+        raise refused(Spot(path, root.line), "GraphML without a graph")
     for other in graphs[1:]:
         notes.say("dropped", f"{path}: graph {told(other.get('id', ''))}, since a file's first one is read")
     return _Reader(path, keys, notes, form).source(graphs[0])
@@ -51,7 +51,7 @@ def _keys(path: str, found: list[Entry]) -> dict[str, _Key]:
     for element in found:
         key = _key(path, element)
         if key.id in keys or (key.name, key.domain) in names:
-            raise Refused(f"{where(path, element)}: a second key of {told(key.name)}")
+            raise refused(where(path, element), f"a second key of {told(key.name)}")
         keys[key.id] = key
         names.add((key.name, key.domain))
     return keys
@@ -95,14 +95,14 @@ class _Reader:
         """How all edges are meant: as each of them says, or else the graph."""
         every = graph.get("edgedefault")
         if every not in MODES.values() and not (every is None and edges and all(e.get("directed") for e in edges)):
-            raise Refused(f"{where(self.path, graph)}: edgedefault is directed or undirected, and not {told(every or '')}")
+            raise refused(where(self.path, graph), f"edgedefault is directed or undirected, and not {told(every or '')}")
         first: str | None = None
         for edge in edges:
             mode = MODES.get(edge.get("directed", ""), None if edge.get("directed") else every)
             if mode is None:
-                raise Refused(f"{where(self.path, edge)}: directed is true or false, and not {told(edge.get('directed', ''))}")
+                raise refused(where(self.path, edge), f"directed is true or false, and not {told(edge.get('directed', ''))}")
             if first not in (None, mode):
-                raise Refused(f"{where(self.path, edge)}: edges of both kinds, directed and undirected, in one graph")
+                raise refused(where(self.path, edge), "edges of both kinds, directed and undirected, in one graph")
             first = mode
         return first or every or "undirected"
 
@@ -112,7 +112,8 @@ class _Reader:
         known = next((name for name in CAPACITIES if name in there), "")
         self.capacity = self.form.capacity or known
         if self.form.capacity and self.form.capacity not in there:
-            raise Refused(f"{self.path}: no edge has an attribute {told(self.form.capacity)}; they have {', '.join(sorted(there)) or 'none'}")
+            which = f"{told(self.form.capacity)}; they have {', '.join(sorted(there)) or 'none'}"
+            raise Refused(f"{self.path}: no edge has an attribute {which}").at(self.path)
         self.unit = Unit(Fraction(1), True, self.form.unit.bytes) if self.capacity == "LinkSpeedRaw" else self.form.unit
         self.taken = {self.capacity, *(("LinkSpeedUnits",) if self.capacity == "LinkSpeed" else ())}
 
@@ -126,7 +127,7 @@ class _Reader:
             key = attribute(self.path, entry, "key")
             name, word = self.keys[key].name if key in self.keys else key, words(entry)
             if said.setdefault(name, word) != word:
-                raise Refused(f"{where(self.path, entry)}: a second {told(name)} of the same {kind}")
+                raise refused(where(self.path, entry), f"a second {told(name)} of the same {kind}")
         return data | said
 
     def _count(self, element: Entry, data: dict[str, str], known: set[str]) -> None:
@@ -134,7 +135,7 @@ class _Reader:
         self.unread.update(data.keys() - known)
         other = next((e for e in elements(element) if local(e) == "graph"), None)
         if other is not None:
-            raise Refused(f"{where(self.path, other)}: a graph within a {local(element)} is not read")
+            raise refused(where(self.path, other), f"a graph within a {local(element)} is not read")
         self.unread.update(f"<{local(e)}>" for e in elements(element) if local(e) != "data")
 
     def _nodes(self, found: list[Entry]) -> list[Node]:
@@ -143,7 +144,7 @@ class _Reader:
         for element in found:
             node = self._node(element)
             if node.key in nodes:
-                raise Refused(f"{where(self.path, element)}: node {told(node.key)} stands twice")
+                raise refused(where(self.path, element), f"node {told(node.key)} stands twice")
             nodes[node.key] = node
         return list(nodes.values())
 
@@ -158,7 +159,7 @@ class _Reader:
         ends = attribute(self.path, element, "source"), attribute(self.path, element, "target")
         unknown = next((end for end in ends if end not in names), None)
         if unknown is not None:
-            raise Refused(f"{where(self.path, element)}: {told(unknown)} is no node")
+            raise refused(where(self.path, element), f"{told(unknown)} is no node")
         self._count(element, data, {"id", "modules", *COSTS, *self.taken})
         costs = (data.get(COSTS[0]) or "0", data.get(COSTS[1]) or "0", data.get(COSTS[2]) or "0")
         return Link(data.get("id", ""), *ends, self._capacity(element, data), costs, self._modules(element, data))
@@ -166,12 +167,12 @@ class _Reader:
     def _modules(self, element: Entry, data: dict[str, str]) -> tuple[tuple[Fraction, str], ...]:
         parts = data.get("modules", "").split()
         if len(parts) % 2:
-            raise Refused(f"{where(self.path, element)}: modules are pairs of a capacity and a cost")
+            raise refused(where(self.path, element), "modules are pairs of a capacity and a cost")
         return tuple((rate(a, where(self.path, element), self.unit), b) for a, b in zip(parts[::2], parts[1::2]))
 
     def _capacity(self, element: Entry, data: dict[str, str]) -> Fraction | None:
         """The capacity of an edge; the missing one where it has none."""
-        what = f"{where(self.path, element)}: edge from {element.get('source')} to {element.get('target')}"
+        what = where(self.path, element).of(f"edge from {element.get('source')} to {element.get('target')}")
         word = self._speed(data, what)
         if word:
             return rate(word, what, self.unit)
@@ -187,7 +188,7 @@ class _Reader:
         word = data.get(self.capacity, "")
         unit = data.get("LinkSpeedUnits", "") if self.capacity == "LinkSpeed" and word else ""
         if unit and unit_of(unit) is None:
-            raise Refused(f"{what}: LinkSpeedUnits is {told(unit)}, which is no unit that is known")
+            raise refused(what, f"LinkSpeedUnits is {told(unit)}, which is no unit that is known")
         return word + unit
 
 

@@ -16,6 +16,29 @@ class Refused(TextError):
     """Why there is no answer, in one line for people."""
 
 
+class Spot(str):
+    """Where something stands, for people: a line of a file, and what is there. The file and the line are kept as data."""
+
+    file: str
+    line: int
+
+    def __new__(cls, file: str, line: int, what: str = "") -> Spot:
+        """The words of a place."""
+        made = super().__new__(cls, f"{file} line {line}{f': {what}' if what else ''}")
+        made.file, made.line = file, line
+        return made
+
+    def of(self, what: str) -> Spot:
+        """What is there."""
+        return Spot(self.file, self.line, what)
+
+
+def refused(where: str, why: str) -> Refused:
+    """A refusal of what stands somewhere, with its file and its line where they are known."""
+    found = Refused(f"{where}: {why}")
+    return found.at(where.file, where.line) if isinstance(where, Spot) else found
+
+
 @dataclass(frozen=True)
 class Node:
     """A node: how its file refers to it, its name, and the words of its place."""

@@ -15,7 +15,7 @@ from ..scaled import LINK_MODES
 from ..tokens import NATIVE
 from ..tokens import tokens as tokens_of
 from ..units import unit_of
-from .model import Demand, Link, Matrix, Network, Node, Notes, Refused, Source
+from .model import Demand, Link, Matrix, Network, Node, Notes, Refused, Source, Spot, refused
 from .numbers import plain
 from .words import told, word_of
 
@@ -63,7 +63,7 @@ class Tokens:
 
     def refused(self, why: str) -> Refused:
         """A fault of the line that was read last."""
-        return Refused(f"{self.path} line {self.line}: {why}")
+        return refused(Spot(self.path, self.line), why)
 
 
 def tokens(path: str, data: bytes, line: int = 1) -> Tokens:
@@ -75,7 +75,7 @@ def tokens(path: str, data: bytes, line: int = 1) -> Tokens:
             if token.startswith(b"#"):
                 comments.extend((at, mode.decode().lower()) for mode in MODE.findall(token))
             elif len(token) > MAX_WORD_BYTES:
-                raise Refused(f"{path} line {at}: a word of {len(token)} bytes: at most {MAX_WORD_BYTES} are read")
+                raise refused(Spot(path, at), f"a word of {len(token)} bytes: at most {MAX_WORD_BYTES} are read")
             else:
                 yield token.decode("utf-8", "surrogateescape"), at
 
@@ -85,7 +85,7 @@ def tokens(path: str, data: bytes, line: int = 1) -> Tokens:
 def read_network(path: str, data: bytes, notes: Notes) -> Source:
     """The rows of a network file."""
     if not data.startswith(NATIVE):
-        raise Refused(f"{path} line 1: {NATIVE.decode()} is due")
+        raise refused(Spot(path, 1), f"{NATIVE.decode()} is due")
     source = Source(path, "native", native=True)
     text = tokens(path, data.partition(b"\n")[2], 2)
     demands: list[Demand] = []
@@ -146,7 +146,7 @@ def _group(text: Tokens, entry: Callable[[Tokens], tuple[_Row, int]]) -> list[_R
     while text.peek() != ")":
         row, line = entry(text)
         if row.name in found:
-            raise Refused(f"{text.path} line {line}: {told(row.name)} stands twice")
+            raise refused(Spot(text.path, line), f"{told(row.name)} stands twice")
         found[row.name] = row
     text.take(")")
     return list(found.values())
@@ -196,7 +196,7 @@ def _demand(text: Tokens, nodes: set[str] | None) -> tuple[Demand, int]:
     name, line = text.take(), text.line
     ends = _ends(text, nodes)
     unit, value, longest = _number(text), _number(text), text.take()
-    require_longest(longest, f"{text.path} line {text.line}")
+    require_longest(longest, Spot(text.path, text.line))
     return Demand(name, *ends, value, unit, longest, line), line
 
 
@@ -206,7 +206,7 @@ def require_longest(word: str, what: str) -> None:
         if word != "UNLIMITED":
             fraction_of(word)
     except TextError:
-        raise Refused(f"{what}: the longest path is UNLIMITED or a number, and not {told(word)}") from None
+        raise refused(what, f"the longest path is UNLIMITED or a number, and not {told(word)}") from None
 
 
 def _skipped(text: Tokens) -> list[str]:

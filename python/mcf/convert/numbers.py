@@ -9,7 +9,7 @@ from fractions import Fraction
 
 from ..limits import MAX_DECIMALS, MAX_WORD_BYTES
 from ..units import KNOWN, Rate, carrier_of, unit_of
-from .model import Refused
+from .model import Refused, refused
 from .words import BLANKS, told
 
 NUMBER = re.compile(r"\+?((?:[0-9]+\.?[0-9]*|\.[0-9]+)(?:[eE][+-]?[0-9]{1,2})?)")
@@ -23,10 +23,10 @@ def number(word: str, what: str, comma: bool = False) -> Fraction:
     """The number that a word spells, or why there is none."""
     text = _pointed(word.strip(BLANKS), what, comma)
     if len(text) > MAX_WORD_BYTES:
-        raise Refused(f"{what}: a number of {len(text)} characters: at most {MAX_WORD_BYTES} are read")
+        raise refused(what, f"a number of {len(text)} characters: at most {MAX_WORD_BYTES} are read")
     fitting = NUMBER.fullmatch(text)
     if not fitting:
-        raise Refused(f"{what}: {told(word.strip(BLANKS))} is no number of at least 0{_hint(text)}")
+        raise refused(what, f"{told(word.strip(BLANKS))} is no number of at least 0{_hint(text)}")
     return Fraction(Decimal(fitting.group(1)))
 
 
@@ -35,9 +35,9 @@ def _pointed(text: str, what: str, comma: bool) -> str:
     if not comma:
         return text
     if POINTED_THOUSANDS.match(text):
-        raise Refused(f"{what}: {told(text)} may be a number of thousands where a comma is the decimal mark: write it without the point")
+        raise refused(what, f"{told(text)} may be a number of thousands where a comma is the decimal mark: write it without the point")
     if "," in text and "." in text:
-        raise Refused(f"{what}: {told(text)} has a comma and a point")
+        raise refused(what, f"{told(text)} has a comma and a point")
     return text.replace(",", ".")
 
 
@@ -75,12 +75,12 @@ def rate(word: str, what: str, unit: Unit, comma: bool = False) -> Fraction:
     if own is None:
         value = number(word, what, comma)
         if unit.bits is not None and not unit.told:
-            raise Refused(f"{what}: {text} has no unit: --from-unit says in which plain numbers are")
+            raise refused(what, f"{text} has no unit: --from-unit says in which plain numbers are")
         return value
     if own.is_of_bytes and not unit.bytes:
-        raise Refused(f"{what}: {told(text)} is of bytes: --bytes reads each of them as eight bits")
+        raise refused(what, f"{told(text)} is of bytes: --bytes reads each of them as eight bits")
     if unit.bits is None:
-        raise Refused(f"{what}: {text} has a unit: --unit says in which all are written")
+        raise refused(what, f"{text} has a unit: --unit says in which all are written")
     return value * own.bits / unit.bits
 
 
@@ -94,7 +94,7 @@ def _parts(text: str, what: str) -> tuple[Fraction, Rate | None]:
         return Fraction(0), None
     own = unit_of(fitting.group(2))
     if own is None:
-        raise Refused(f"{what}: {told(text)} has an unknown unit: {KNOWN}")
+        raise refused(what, f"{told(text)} has an unknown unit: {KNOWN}")
     return number(fitting.group(1), what), own
 
 

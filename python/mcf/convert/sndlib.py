@@ -6,7 +6,7 @@ from fractions import Fraction
 
 from ..units import unit_of
 from .files import stem
-from .model import Demand, Link, Matrix, Node, Notes, Refused, Source
+from .model import Demand, Link, Matrix, Node, Notes, Source, refused
 from .native import require_longest
 from .numbers import number
 from .words import told
@@ -42,7 +42,7 @@ def _entries(path: str, parent: Entry | None, section: str, name: str) -> list[E
     ids: set[str] = set()
     for entry in found:
         if entry.get("id") in ids:
-            raise Refused(f"{where(path, entry)}: {name} {told(entry.get('id', ''))} stands twice")
+            raise refused(where(path, entry), f"{name} {told(entry.get('id', ''))} stands twice")
         ids |= {entry.get("id", "")} - {""}
     return found
 
@@ -54,7 +54,7 @@ def _node(path: str, element: Entry) -> Node:
         return Node(name, name)
     x, y = (words(child(path, place, axis)) for axis in "xy")
     if not x or not y:
-        raise Refused(f"{where(path, place)}: coordinates without x or y")
+        raise refused(where(path, place), "coordinates without x or y")
     return Node(name, name, (x, y))
 
 
@@ -62,10 +62,10 @@ def _ends(path: str, element: Entry, nodes: set[str]) -> tuple[str, str]:
     """Both ends of an entry, which are nodes where the file has some."""
     ends = words(child(path, element, "source")), words(child(path, element, "target"))
     if not all(ends):
-        raise Refused(f"{where(path, element)}: <{local(element)}> has no source or no target")
+        raise refused(where(path, element), f"<{local(element)}> has no source or no target")
     unknown = next((end for end in ends if end not in nodes), None)
     if nodes and unknown is not None:
-        raise Refused(f"{where(path, element)}: {told(unknown)} is no node")
+        raise refused(where(path, element), f"{told(unknown)} is no node")
     return ends
 
 
@@ -89,12 +89,12 @@ def _module(path: str, element: Entry) -> tuple[Fraction, str]:
     """The capacity and the cost of a module."""
     capacity = child(path, element, "capacity")
     if capacity is None:
-        raise Refused(f"{where(path, element)}: a module without a capacity")
+        raise refused(where(path, element), "a module without a capacity")
     return _number(path, capacity), words(child(path, element, "cost")) or "0"
 
 
 def _number(path: str, element: Entry) -> Fraction:
-    return number(words(element), f"{where(path, element)}: {local(element)}")
+    return number(words(element), where(path, element).of(local(element)))
 
 
 def _demand(path: str, element: Entry, nodes: set[str], notes: Notes) -> Demand:
@@ -103,8 +103,8 @@ def _demand(path: str, element: Entry, nodes: set[str], notes: Notes) -> Demand:
     _others(path, element, KNOWN_DEMAND, notes)
     value, unit = child(path, element, "demandValue"), child(path, element, "routingUnit")
     if value is None:
-        raise Refused(f"{where(path, element)}: demand {told(name)} has no demandValue")
+        raise refused(where(path, element), f"demand {told(name)} has no demandValue")
     longest = words(child(path, element, "maxPathLength")) or "UNLIMITED"
-    require_longest(longest, f"{where(path, element)}: maxPathLength")
+    require_longest(longest, where(path, element).of("maxPathLength"))
     size = _number(path, unit) if unit is not None else Fraction(1)
     return Demand(name, *ends, _number(path, value), size, longest, element.line)

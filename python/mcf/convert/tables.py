@@ -12,7 +12,7 @@ from typing import TYPE_CHECKING
 
 from ..names import cell_of, text_of
 from .files import stem
-from .model import Demand, Link, Matrix, Network, Node, Notes, Refused, Source
+from .model import Demand, Link, Matrix, Network, Node, Notes, Refused, Source, Spot, refused
 from .native import require_longest
 from .numbers import Form, is_rate, number, plain, rate
 from .words import BLANKS, told
@@ -60,7 +60,7 @@ class Table:
         """A word that has to be there."""
         found = self.word(row, role)
         if not found:
-            raise Refused(f"{self.path} line {at}: no {role}")
+            raise refused(Spot(self.path, at), f"no {role}")
         return found
 
 
@@ -78,9 +78,9 @@ def lines_of(path: str, text: str, notes: Notes) -> list[tuple[int, list[str]]]:
         if not any(words):
             continue
         if not rows and len(words) == 1 and words[0].startswith("#"):
-            raise Refused(f"{path} line {at}: a line that begins with # is a row too, and the first row names the columns: take it out")
+            raise refused(Spot(path, at), "a line that begins with # is a row too, and the first row names the columns: take it out")
         if rows and len(words) != len(rows[0][1]):
-            raise Refused(f"{path} line {at}: {_counted(words)}, and the first row has {len(rows[0][1])}{_why(rows, row)}")
+            raise refused(Spot(path, at), f"{_counted(words)}, and the first row has {len(rows[0][1])}{_why(rows, row)}")
         blank = blank or (at if any(cell != cell.strip(BLANKS) for cell in row) else 0)
         rows.append((at, [text_of(word) for word in words]))
     if blank:
@@ -96,13 +96,13 @@ def _numbered(path: str, reader: _csv._reader) -> Iterator[tuple[int, list[str]]
             yield at, row
             at = reader.line_num + 1
     except csv.Error as fault:
-        raise Refused(f"{path} line {at}: {fault}") from None
+        raise refused(Spot(path, at), str(fault)) from None
 
 
 def _word(path: str, at: int, cell: str) -> str:
     """The word of a cell."""
     if cell[:1] in (" ", "\t") and cell.lstrip(BLANKS).startswith('"'):
-        raise Refused(f"{path} line {at}: a blank before a quotation mark, which so is no mark")
+        raise refused(Spot(path, at), "a blank before a quotation mark, which so is no mark")
     return cell.strip(BLANKS)
 
 
@@ -158,20 +158,21 @@ def read(path: str, text: str, notes: Notes, form: Form) -> Source:
     """What a table has: links, nodes or demands, by its columns; a square of demands by its names."""
     rows = lines_of(path, text, notes)
     if not rows:
-        raise Refused(f"{path}: no rows")
+        raise Refused(f"{path}: no rows").at(path)
     line, head = rows[0]
     named = {role: name for role, name in form.columns.items() if name in head}
     table = Table(path, _places(head, named), rows[1:], form)
     if not named and _is_square(head, rows):
         if _kind(table.place):
-            raise Refused(f"{path} line {line}: this may be a square of nodes or a table of {_kind(table.place)} (--columns makes it a table)")
+            what = f"this may be a square of nodes or a table of {_kind(table.place)} (--columns makes it a table)"
+            raise refused(Spot(path, line), what)
         return _square(path, line, head, rows[1:], form)
     if "id" not in named and _is_demand_the_id(head, table.place):
         table.place = _places(head, named | {"amount": head[table.place["id"]]})
         _tell_amounts(head, table, notes)
     double = next((head[at] for at in table.place.values() if head.count(head[at]) > 1), None)
     if double is not None:
-        raise Refused(f"{path} line {line}: two columns are named {told(double)}")
+        raise refused(Spot(path, line), f"two columns are named {told(double)}")
     return replace(_read_by_columns(head, table, notes), columns=tuple(head))
 
 
@@ -181,7 +182,7 @@ def _read_by_columns(head: list[str], table: Table, notes: Notes) -> Source:
     if not kind:
         due = "source, target and capacity (links) or amount (demands), or node, x and y (places)"
         lost = "".join(f", and no {name!r}" for name in table.form.columns.values() if name not in head)
-        raise Refused(f"{path}: columns {due} are due; it has {', '.join(head)}{lost} (--columns names them)")
+        raise Refused(f"{path}: columns {due} are due; it has {', '.join(head)}{lost} (--columns names them)").at(path)
     _tell_unread(path, head, place, {"links": LINK_ROLES, "demands": DEMAND_ROLES, "places": ("node", "id", "x", "y")}[kind], notes)
     if kind == "links":
         return _links(table, notes)
@@ -259,20 +260,20 @@ def _capacity(table: Table, at: int, row: list[str], notes: Notes) -> Fraction |
     """The capacity of a row; the missing one where it has none."""
     word = table.word(row, "capacity")
     if word:
-        return rate(word, f"{table.path} line {at}: capacity", table.form.unit, table.form.comma)
+        return rate(word, Spot(table.path, at, "capacity"), table.form.unit, table.form.comma)
     if table.word(row, "modules"):
         return Fraction(0)
     if not table.form.missing:
         return None
     notes.say("added", f"{table.path} line {at}: no capacity, which becomes {table.form.missing}")
-    return rate(table.form.missing, f"{table.path} line {at}: capacity", table.form.unit, table.form.comma)
+    return rate(table.form.missing, Spot(table.path, at, "capacity"), table.form.unit, table.form.comma)
 
 
 def _modules(table: Table, at: int, row: list[str]) -> tuple[tuple[Fraction, str], ...]:
     parts = table.word(row, "modules").split()
     if len(parts) % 2:
-        raise Refused(f"{table.path} line {at}: modules are pairs of a capacity and a cost")
-    where = f"{table.path} line {at}: modules"
+        raise refused(Spot(table.path, at), "modules are pairs of a capacity and a cost")
+    where = Spot(table.path, at, "modules")
     return tuple((rate(a, where, table.form.unit, table.form.comma), b) for a, b in zip(parts[::2], parts[1::2]))
 
 
@@ -282,7 +283,7 @@ def _places_of_nodes(table: Table) -> Source:
     for at, row in table.rows:
         node = _node(table, at, row)
         if node.key in nodes:
-            raise Refused(f"{table.path} line {at}: node {told(node.key)} stands twice")
+            raise refused(Spot(table.path, at), f"node {told(node.key)} stands twice")
         nodes[node.key] = node
     return Source(table.path, "nodes", nodes=list(nodes.values()))
 
@@ -292,7 +293,7 @@ def _node(table: Table, at: int, row: list[str]) -> Node:
     name = table.word(row, "node") or table.must(at, row, "id")
     x, y = (table.word(row, role) for role in ("x", "y"))
     if bool(x) != bool(y):
-        raise Refused(f"{table.path} line {at}: a place is both x and y, or none")
+        raise refused(Spot(table.path, at), "a place is both x and y, or none")
     if table.form.comma:
         x, y = x.replace(",", "."), y.replace(",", ".")
     return Node(name, name, (x, y) if x else None)
@@ -304,16 +305,16 @@ def _demands(table: Table) -> Source:
     for at, row in table.rows:
         found.setdefault(table.word(row, "matrix"), []).append(_demand(table, at, row))
     if "" in found and len(found) > 1:
-        raise Refused(f"{table.path} line {found[''][0].line}: no matrix, which other rows have")
+        raise refused(Spot(table.path, found[''][0].line), "no matrix, which other rows have")
     source.matrices = [Matrix(name or stem(table.path), demands) for name, demands in found.items()]
     return source
 
 
 def _demand(table: Table, at: int, row: list[str]) -> Demand:
     ends = table.must(at, row, "source"), table.must(at, row, "target")
-    what = f"{table.path} line {at}"
-    value = rate(table.must(at, row, "amount"), f"{what}: amount", table.form.unit, table.form.comma)
-    unit = number(table.word(row, "unit", "1"), f"{what}: routing unit", table.form.comma)
+    what = Spot(table.path, at)
+    value = rate(table.must(at, row, "amount"), what.of("amount"), table.form.unit, table.form.comma)
+    unit = number(table.word(row, "unit", "1"), what.of("routing unit"), table.form.comma)
     longest = table.word(row, "longest", "UNLIMITED")
     require_longest(longest, what)
     return Demand(table.word(row, "id"), *ends, value, unit, longest, at)
@@ -329,11 +330,11 @@ def _square(path: str, line: int, head: list[str], rows: list[tuple[int, list[st
     """The demands of a square, row to column; nothing and 0 are no demand."""
     double = next((name for name in head[1:] if head[1:].count(name) > 1), None)
     if double is not None:
-        raise Refused(f"{path} line {line}: {told(double)} stands twice")
+        raise refused(Spot(path, line), f"{told(double)} stands twice")
     demands = []
     for at, row in rows:
         for target, word in zip(head[1:], row[1:]):
-            value = rate(word or "0", f"{path} line {at}: {told(row[0])} to {told(target)}", form.unit, form.comma)
+            value = rate(word or "0", Spot(path, at, f"{told(row[0])} to {told(target)}"), form.unit, form.comma)
             if value:
                 demands.append(Demand("", row[0], target, value, line=at))
     return Source(path, "demands", matrices=[Matrix(stem(path), demands)], bits=form.unit.bits)

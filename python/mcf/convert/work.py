@@ -7,6 +7,7 @@ from dataclasses import dataclass, field, replace
 from fractions import Fraction
 
 from ..limits import NARROW, WIDE_NAME
+from ..needs import needed
 from ..output import require_output
 from . import assemble, files, native, repetita, tables
 from .adjust import Changes, adjusted, in_unit, require_fit
@@ -135,7 +136,7 @@ def _as_meant(source: Source, mode: str | None) -> Source:
     if mode is None or not source.links:
         return source
     if source.links_mode not in (None, mode):
-        raise Refused(f"{source.path} says that its links are {source.links_mode}, and --links says {mode}")
+        raise Refused(f"{source.path} says that its links are {source.links_mode}, and --links says {mode}").at(source.path)
     return replace(source, links_mode=mode)
 
 
@@ -211,7 +212,8 @@ def _text(network: Network, kind: str, notes: Notes) -> str:
     if kind == "list":
         return native.list_text(network)
     if kind == "graphml":
-        from . import graphml
+        with needed():
+            from . import graphml
         return graphml.text(network, notes)
     return tables.text(network, kind, notes)
 
@@ -227,12 +229,12 @@ def read_bytes(path: str, raw: bytes, task: Task, notes: Notes, form: Form | Non
     data = files.without_mark(path, raw, notes)
     kind = task.kind or files.kind_of(path, data)
     if kind == "xml":
-        from . import sndlib
-
+        with needed():
+            from . import sndlib
         return sndlib.read(path, raw, notes)
     if kind == "graphml":
-        from . import graphml
-
+        with needed():
+            from . import graphml
         return graphml.read(path, raw, notes, form)
     if kind == "native":
         return native.read_network(path, data, notes)

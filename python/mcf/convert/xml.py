@@ -8,7 +8,7 @@ from xml.etree import ElementTree
 from defusedxml.common import DefusedXmlException
 from defusedxml.ElementTree import DefusedXMLParser
 
-from .model import Refused
+from .model import Spot, refused
 
 BLANKS = " \t\r\n"
 
@@ -33,11 +33,11 @@ def root_of(path: str, data: bytes) -> Entry:
         root: Entry = parser.close()
         return root
     except ElementTree.ParseError as fault:
-        raise Refused(f"{path} line {fault.position[0]}: no XML: {str(fault).rpartition(': ')[0] or fault}") from None
+        raise refused(Spot(path, fault.position[0]), f"no XML: {str(fault).rpartition(': ')[0] or fault}") from None
     except DefusedXmlException:
-        raise Refused(f"{path} line {parser.parser.CurrentLineNumber}: entities of its own are not read") from None
+        raise refused(Spot(path, parser.parser.CurrentLineNumber), "entities of its own are not read") from None
     except (ValueError, LookupError) as fault:
-        raise Refused(f"{path} line {parser.parser.CurrentLineNumber}: no XML that is read here: {fault}") from None
+        raise refused(Spot(path, parser.parser.CurrentLineNumber), f"no XML that is read here: {fault}") from None
 
 
 def local(element: Entry) -> str:
@@ -59,7 +59,7 @@ def child(path: str, element: Entry | None, name: str) -> Entry | None:
     """The child of that name, or none; a second one is refused."""
     found = children(element, name)
     if len(found) > 1:
-        raise Refused(f"{where(path, found[1])}: a second <{name}>")
+        raise refused(where(path, found[1]), f"a second <{name}>")
     return found[0] if found else None
 
 
@@ -68,14 +68,14 @@ def words(element: Entry | None) -> str:
     return "" if element is None else "".join(element.itertext()).strip(BLANKS)
 
 
-def where(path: str, element: Entry) -> str:
+def where(path: str, element: Entry) -> Spot:
     """The place of an element, for people."""
-    return f"{path} line {element.line}"
+    return Spot(path, element.line)
 
 
 def attribute(path: str, element: Entry, name: str) -> str:
     """An attribute that has to be there."""
     value = element.get(name)
     if value is None:
-        raise Refused(f"{where(path, element)}: <{local(element)}> has no {name}")
+        raise refused(where(path, element), f"<{local(element)}> has no {name}")
     return value

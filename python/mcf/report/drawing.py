@@ -13,7 +13,7 @@ from .layout import Layout
 from .shown import amount, name, percent
 
 CLASSES = (
-    (Fraction(1, 4), "below 25 %"),
+    (Fraction(1, 4), "up to 25 %"),
     (Fraction(1, 2), "25 to 50 %"),
     (Fraction(3, 4), "50 to 75 %"),
     (Fraction(9, 10), "75 to 90 %"),

@@ -79,7 +79,8 @@ class Side:
             return self._total_cards(low, high or self.figures.total)
         cards = [("Carried of every demand", shown.percent_down(low) if low else "0.0 %")]
         if high is not None:
-            cards.append(("No routing carries more than", shown.percent_up(high)))
+            within = " within the hop limits" if self.figures.keeps_limits else ""
+            cards.append((f"No routing{within} carries more than", shown.percent_up(high)))
         left = spare(low)
         if left is not None:
             cards.append(("Headroom of all demands", shown.percent_down(left)))

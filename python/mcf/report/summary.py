@@ -54,7 +54,8 @@ def batch_sentence(rows: Sequence[Summary], without: Sequence[str]) -> str:
     front = f"All demands fit in {yes} of {counted(len(rows), 'matrix', 'matrices')}"
     front += f", not in {no}" if no else ""
     front += f", and in {open_ones} it is not decided" if open_ones else ""
-    return f"{front}. {_least(rows)}{missing}"
+    least = _least(rows)
+    return f"{front}.{missing} Among the others: {least[0].lower()}{least[1:]}" if without else f"{front}. {least}"
 
 
 def _least(rows: Sequence[Summary]) -> str:

@@ -155,7 +155,11 @@ def _line(words: Iterable[str]) -> str:
 
 @dataclass(frozen=True)
 class Part:
-    """What was found for one routing and one growth: counts, and the worst cases, or all that may be."""
+    """What was found for one routing and one growth: counts, and the worst of the cases of which something is known, or all that may be it.
+
+    left_out: how many have demands of lost nodes, which are left out. lost_rest: of how many that was asked for of the demands that have
+    a way there is no answer.
+    """
 
     routing: str
     growth: str
@@ -166,6 +170,8 @@ class Part:
     failed: int
     worst: Extreme[Case] | None
     least: Extreme[Carried] | None = None
+    left_out: int = 0
+    lost_rest: int = 0
 
     @property
     def known(self) -> int:
@@ -190,7 +196,7 @@ class _Sum:
     def __init__(self, routing: str, growth: str) -> None:
         """Nothing was taken yet."""
         self._routing, self._growth = routing, growth
-        self._of = self._cut = self._refused = self._failed = 0
+        self._of = self._cut = self._refused = self._failed = self._left_out = self._lost_rest = 0
         self._counts = dict.fromkeys(Answer, 0)
         self._worst: Extreme[Case] | None = None
         self._least: Extreme[Carried] | None = None
@@ -204,6 +210,8 @@ class _Sum:
         self._of += len(some)
         self._refused += sum(case.found.verdict == REFUSED for case in some)
         self._failed += sum(case.found.verdict == FAILED for case in some)
+        self._left_out += sum(bool(case.row and case.row.left_out) for case in some)
+        self._lost_rest += sum(case.rest is not None and case.rest.verdict == FAILED for case in some)
         if known and self._routing in RULES:
             self._least = worst([*(self._least.cases if self._least else ()), *map(Carried, known)])
         elif known:
@@ -214,13 +222,13 @@ class _Sum:
         known = sum(self._counts.values())
         found = replace(self._worst, of=known) if self._worst else None
         least = replace(self._least, of=known) if self._least else None
-        return Part(self._routing, self._growth, self._of, self._counts, self._cut, self._refused, self._failed, found, least)
+        return Part(self._routing, self._growth, self._of, self._counts, self._cut, self._refused, self._failed, found, least, self._left_out, self._lost_rest)
 
 
 def status_of(found: Iterable[Part]) -> int:
-    """The status: 0 if all demands fit in all cases; 1 if not, or it is not decided; 2 where a scenario has no answer."""
+    """The status: 0 if all demands fit in all cases; 1 if not, or it is not decided; 2 where one has no answer, or nothing is known."""
     some = list(found)
-    if any(part.failed for part in some):
+    if any(part.failed or part.lost_rest for part in some) or not any(part.known for part in some):
         return 2
     if any(part.refused for part in some):
         return 1

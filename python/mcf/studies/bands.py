@@ -25,7 +25,7 @@ class Mark:
 
 @dataclass(frozen=True)
 class Band:
-    """A picture: the area between both bounds, both lines, marks of percents, and labels of places."""
+    """A picture: the area between both bounds, both lines, marks of percents, and labels of places; of rules the lower line alone."""
 
     area: str
     lower: str
@@ -41,8 +41,8 @@ class Band:
     floor: float = HEIGHT - BOTTOM
 
 
-def band(ranges: Sequence[Range], labels: Sequence[str], about: str) -> Band:
-    """The picture of ranges in their order; of the labels, which stand below, a few are written."""
+def band(ranges: Sequence[Range], labels: Sequence[str], about: str, bounded: bool = True) -> Band:
+    """The picture of ranges in their order, or of their lower ends; of the labels, which stand below, a few are written."""
     together = ceil(len(ranges) / MOST)
     drawn = [span(ranges[at:at + together]) for at in range(0, len(ranges), together)]
     most = span(drawn).upper or Fraction(1)
@@ -52,8 +52,8 @@ def band(ranges: Sequence[Range], labels: Sequence[str], about: str) -> Band:
     lower = [(x, _y(one.lower, top)) for x, one in zip(xs, drawn)]
     upper = [(x, _y(one.upper, top)) for x, one in zip(xs, drawn)]
     percents = tuple(Mark(_y(step * at, top), percent(step * at)) for at in range(int(top / step) + 1))
-    return Band(_path([*upper, *lower[::-1]]) + "Z", _path(lower), _path(upper), percents, _places(labels),
-                _y(Fraction(1), top) if top >= 1 else None, together, about)
+    area, line = (_path([*upper, *lower[::-1]]) + "Z", _path(upper)) if bounded else ("", "")
+    return Band(area, _path(lower), line, percents, _places(labels), _y(Fraction(1), top) if top >= 1 else None, together, about)
 
 
 def _step(most: Fraction) -> Fraction:

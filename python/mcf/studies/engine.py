@@ -26,6 +26,12 @@ SECONDS_A_TASK = 0.5
 IN_FLIGHT = 4
 MOST_JOBS = 500
 DEATHS = 3
+PATIENCE = 30.0
+"""How many seconds a worker of this machine may be away before another one takes its place; each time twice as many."""
+
+HURRY = 5.0
+"""How many seconds of the start of workers an interrupt waits for."""
+
 _LOOK = 2.0
 _NEVER = logging.CRITICAL + 1
 _QUIET = ("distributed", "asyncio", "tornado", "bokeh")
@@ -91,11 +97,58 @@ class Alone:
 
 
 @dataclass
+class Staff:
+    """The workers of a cluster of this machine, each of which a nanny of Dask starts again where it dies.
+
+    A nanny may wait for ever, for a worker that was killed while it started. So one whose worker is away for long gives way to another.
+    """
+
+    cluster: Any
+    jobs: int
+    patience: float = PATIENCE
+    _away: dict[object, float] = field(default_factory=dict)
+    _closing: set[object] = field(default_factory=set)
+    _looked: float = 0.0
+
+    @property
+    def there(self) -> set[object]:
+        """The names of the workers that the scheduler knows."""
+        return {worker["name"] for worker in self.cluster.scheduler_info["workers"].values()}
+
+    def mend(self) -> None:
+        """Replaces the workers that are away for long; called again and again."""
+        now = time.monotonic()
+        if now - self._looked < _LOOK:
+            return
+        self._looked = now
+        away = {*self.cluster.worker_spec} - self.there
+        self._away = {name: self._away.get(name, now) for name in away}
+        if lost := [name for name, since in self._away.items() if now - since > self.patience]:
+            self.patience *= 2
+            self._away.clear()
+            with contextlib.suppress(Exception):
+                self.cluster.sync(self._replace, lost)
+
+    async def _replace(self, lost: list[object]) -> None:
+        """New workers in the place of these; on the loop of the cluster."""
+        import asyncio
+        for name in lost:
+            self.cluster.worker_spec.pop(name, None)
+            self.cluster.workers.pop(name, None)
+        for nanny in _nannies(self.cluster):
+            if nanny.name in lost:
+                _kill(nanny)
+                self._closing.add(asyncio.ensure_future(nanny.close(timeout=2)))
+        self.cluster.scale(self.jobs)
+
+
+@dataclass
 class Spread:
     """Workers of Dask do all; what is done is let go of at once, since Dask does again what is still held where a worker dies."""
 
     client: Client
     name: str
+    staff: Staff | None = None
     pace: Pace = field(default_factory=Pace)
     _flying: dict[str, Task] = field(default_factory=dict)
     _looked: float = 0.0
@@ -132,6 +185,8 @@ class Spread:
         """The next future that is done; Gone where the scheduler is, of which not all futures tell."""
         while not running.has_ready():
             self._require_scheduler()
+            if self.staff is not None:
+                self.staff.mend()
             with running.thread_condition:
                 running.thread_condition.wait(timeout=0.1)
         found: tuple[Future, Any] = next(running)
@@ -219,7 +274,7 @@ def engine_of(jobs: int, scheduler: str | None, program: str | None, say: Callab
         import distributed  # noqa: F401 (it sets the levels of its logs when it is imported)
     with _quietly(), _cluster(jobs) if scheduler is None else contextlib.nullcontext() as cluster:
         with _client(cluster.scheduler_address if cluster is not None else scheduler) as client:
-            engine = Spread(client, scheduler or "127.0.0.1")
+            engine = Spread(client, scheduler or "127.0.0.1", Staff(cluster, jobs) if cluster is not None else None)
             if scheduler is not None:
                 _await_workers(client, scheduler, program, say)
             yield engine
@@ -246,12 +301,15 @@ def _cluster(jobs: int) -> Iterator[Any]:
     # (workers hold next to nothing, and a machine that others fill is no reason to stop)
     settings: dict[str, object] = {f"distributed.worker.memory.{name}": False for name in ("terminate", "pause", "spill", "target")}
     settings["distributed.worker.preload"] = ["mcf.studies.quiet"]
+    # (else Dask closes the nanny of a worker that is away for 15 seconds, as on a busy machine, and starts no other one: `Staff` does)
+    settings["distributed.deploy.lost-worker-timeout"] = "1 day"
     quiet = _variable("DASK_DISTRIBUTED__LOGGING__DISTRIBUTED", "critical")
     with dask.config.set(settings), quiet, _main_hidden(), tempfile.TemporaryDirectory(prefix="mcf-study-") as room:
         # (an interrupt while workers start would leave some of them behind, which say so)
         signals = HeldSignals()
         try:
-            cluster = LocalCluster(n_workers=jobs, threads_per_worker=1, processes=True, host="127.0.0.1",
+            # (workers are started later, since this waits for all of them, and for ever for one that is killed meanwhile)
+            cluster = LocalCluster(n_workers=0, threads_per_worker=1, processes=True, host="127.0.0.1",
                                    dashboard_address="127.0.0.1:0", worker_dashboard_address="127.0.0.1:0",
                                    silence_logs=_NEVER, local_directory=room,
                                    env={"DASK_DISTRIBUTED__LOGGING__DISTRIBUTED": "critical"})
@@ -259,10 +317,13 @@ def _cluster(jobs: int) -> Iterator[Any]:
             signals.let_go()
             raise TextError(f"workers could not be started: {fault or type(fault).__name__}") from None
         try:
+            cluster.scale(jobs)
+            _await_all(Staff(cluster, jobs), signals)
             signals.let_go()
             yield cluster
         finally:
             _end(cluster)
+            signals.let_go()
 
 
 @contextlib.contextmanager
@@ -282,14 +343,31 @@ def _variable(name: str, value: str) -> Iterator[None]:
 def _end(cluster: Any) -> None:
     """Ends the workers at once, also amid a scenario."""
     with contextlib.suppress(Exception):
-        for nanny in cluster.workers.values():
-            nanny.auto_restart = False
-            process = getattr(nanny.process, "process", None)
-            if process is not None and process.pid:
-                with contextlib.suppress(ProcessLookupError):
-                    process._process.kill()
+        for nanny in _nannies(cluster):
+            _kill(nanny)
     with contextlib.suppress(Exception):
         cluster.close(timeout=10)
+
+
+def _await_all(staff: Staff, signals: HeldSignals) -> None:
+    """Waits until all workers are there, or as long as they mostly need; an interrupt waits for a few seconds alone."""
+    begun = time.monotonic()
+    while len(staff.there) < staff.jobs and time.monotonic() - begun < (HURRY if signals.came else staff.patience):
+        time.sleep(0.02)
+
+
+def _nannies(cluster: Any) -> list[Any]:
+    """The nannies of a cluster, those that start a worker still too."""
+    return list({*getattr(cluster, "_created", ()), *cluster.workers.values()})
+
+
+def _kill(nanny: Any) -> None:
+    """Ends the process of a nanny's worker, if there is one, and lets it start no other one."""
+    nanny.auto_restart = False
+    process = getattr(nanny.process, "process", None)
+    if process is not None and process.pid:
+        with contextlib.suppress(ProcessLookupError):
+            process._process.kill()
 
 
 @contextlib.contextmanager

@@ -2,7 +2,7 @@
 
 As in tools/certify, whole numbers and whole prices make a certificate, which `mcf check` judges. What a worker keeps of a network are
 the walks that carried something, by the nodes that they join; so only the first scenario asks `mcf solve` for paths, and most have few
-rounds. Where the linear program fails, the certificate is that of `mcf solve`.
+rounds. Where the linear program fails, the certificate is that of `mcf solve`, which is closed only where it is as close as was asked for.
 """
 
 from __future__ import annotations
@@ -78,8 +78,22 @@ def exact(mcf: Program, network: Network, text: bytes, asked: Asked, ground: str
     try:
         certificate = _optimum(mcf, scaled, text, asked, known)
     except Exception:  # whatever fails there, `mcf solve` has a certificate
-        return solved(mcf, text, asked)
+        return _by_solve(mcf, text, asked)
     return judged(mcf, text, write_certificate(certificate).encode("latin-1"))
+
+
+def _by_solve(mcf: Program, text: bytes, asked: Asked) -> Found:
+    """What `mcf solve` finds, with the gap that is asked of exact scenarios in place of its own."""
+    found = solved(mcf, text, asked)
+    if found.certificate is None:
+        return found
+    certificate = with_gap(read_certificate(found.certificate.decode("latin-1")), _gap(asked))
+    return judged(mcf, text, write_certificate(certificate).encode("latin-1"))
+
+
+def _gap(asked: Asked) -> int:
+    """The gap that is asked for, in millionths."""
+    return DEFAULT_GAP if asked.gap is None else millionths(asked.gap)
 
 
 def _known_of(key: tuple[str, str, str]) -> Known:
@@ -107,7 +121,7 @@ def _optimum(mcf: Program, scaled: ScaledNetwork, text: bytes, asked: Asked, kno
     if bound is None:
         raise TextError("the prices give no bound")
     used = len(optimum.flows)
-    gap = DEFAULT_GAP if asked.gap is None else millionths(asked.gap)
+    gap = _gap(asked)
     rounding = SOLVE.rounding(pool.cells_by_walks(len(capacities))[:, :used], np.array(pool.pair[:used]), amounts, capacities, optimum.flows)
     whole = rounding.best(bound.value, bound.value / (1 + Fraction(gap, 10**6)), begun + asked.seconds * 0.9)
     known.keep(pairs, pool, whole.weights)

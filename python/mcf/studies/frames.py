@@ -12,9 +12,12 @@ from ..commands import program_path
 from ..given import Number, decimal_word, number_of, word_of
 from ..needs import needed
 from ..network import Network as Rows
+from ..network import MODULES
 from ..networks import Network, Path, of
+from ..route.lengths import COSTS, LENGTHS
+from ..scaled import LINK_MODES
 from .changes import FAILURES, Fibres, all_changes, capacities, groups
-from .scenarios import ROUTINGS, Asked, Change, Ground, Matrix, Plan, demand_rows, digest_of
+from .scenarios import MOST_PATHS, ROUTINGS, Asked, Change, Ground, Matrix, Plan, demand_rows, digest_of
 
 if TYPE_CHECKING:
     import pandas
@@ -26,7 +29,9 @@ def study(network: Network | Path, matrices: Mapping[str, Any] | Sequence[Path] 
           groups: Mapping[str, Iterable[str]] | None = None, changes: Mapping[str, Mapping[str, Number]] | None = None,
           fibres: bool = False, intact: bool = False, grow: Iterable[Number] = (1,), routing: Iterable[str] | str = ("best",),
           without_cut: bool = False, gap: Number | None = None, phases: int | None = None, step: int | None = None,
-          links: str | None = None, modules: str = "largest", seconds: float = 300.0, store: Path | None = None, jobs: int | None = None,
+          links: str | None = None, modules: str = "largest", lengths: str = "hops", cost: str = "routing", paths: int = 4,
+          seconds: float = 300.0, from_unit: str | None = None, round: int | None = None, store: Path | None = None,
+          jobs: int | None = None,
           scheduler: str | None = None, keep: bool = False, recheck: bool = False, progress: bool = True, exact: bool = False) -> pandas.DataFrame:
     """Many scenarios, matrices × changes × routings × growths, as a frame with a row for each; each was solved and judged.
 
@@ -34,7 +39,10 @@ def study(network: Network | Path, matrices: Mapping[str, Any] | Sequence[Path] 
     network's own demands. failures: some of `links`, `nodes` and `pairs`. groups: {name: links and nodes that fail together}. changes:
     {name: {link: capacity}}. fibres: both arcs of a fibre change together. intact: the network as it is too. grow: all demands times
     each. routing: some of `best`, `exact`, `ecmp`, `hops`, `capacity`, `cost` and `k-paths`. without_cut: where demands have no way, the
-    others too.
+    others too. from_unit, round: the unit of matrices of files that say none, and to how many decimals their amounts are rounded.
+
+    gap, phases, step, links, modules: as `Network.solve` has them. lengths, cost, paths: of the rules, as `Network.route` has them.
+    seconds: the time of a scenario for `exact` and `k-paths`.
 
     store: the file that keeps what is done, so that the same call goes on where it was; without it nothing is kept. jobs: processes of
     this machine (one for each processor; 1 starts none). scheduler: that of a cluster of Dask, in place of processes of this machine.
@@ -45,12 +53,18 @@ def study(network: Network | Path, matrices: Mapping[str, Any] | Sequence[Path] 
     with needed():
         from .tool import done
     ground = of(network)
-    asked = Asked(links or ground.mode, modules, None if gap is None else decimal_word(number_of(gap, "gap")), _word(phases), _word(step), seconds=seconds)
+    mode = links or ground.mode
+    for what, given, known in (("lengths", lengths, LENGTHS), ("cost", cost, COSTS), ("modules", modules, MODULES), ("links", mode, LINK_MODES)):
+        _known(given, known, what)
+    if not 1 <= paths <= MOST_PATHS:
+        raise ValueError(f"paths: {paths} is not from 1 to {MOST_PATHS}")
+    asked = Asked(mode, modules, None if gap is None else decimal_word(number_of(gap, "gap")), _word(phases), _word(step), lengths, cost,
+                  paths, seconds)
     with tempfile.TemporaryDirectory(prefix="mcf-study-") as room:
         kept = _store(os.fspath(store) if store is not None else os.path.join(room, "study.db"))
         try:
-            plan = Plan(Ground.of(ground.rows), _matrices(ground, matrices, kept), _changes(ground, asked.links, failures, groups, changes, fibres, intact),
-                        _known(routing, ROUTINGS, "routing"), asked, [_growth(number) for number in grow])
+            plan = Plan(Ground.of(ground.rows), _matrices(ground, matrices, from_unit, round, kept), _changes(ground, asked.links, failures, groups, changes, fibres, intact),
+                        _known(routing, ROUTINGS, "routing"), asked, list(dict.fromkeys(map(_growth, grow))))
             done(plan, kept, keep or recheck, without_cut, recheck, jobs, scheduler, program_path(), not progress)
             return _frame(plan, kept, exact)
         finally:
@@ -85,15 +99,17 @@ def _store(path: str) -> Store:
     return Store(path)
 
 
-def _matrices(network: Network, given: Mapping[str, Any] | Sequence[Path], store: Store) -> list[Matrix]:
+def _matrices(network: Network, given: Mapping[str, Any] | Sequence[Path], from_unit: str | None, decimals: int | None,
+              store: Store) -> list[Matrix]:
     """The matrices, whose texts are kept in the store."""
-    from .matrices import How, Told, own, read_matrices
+    from .matrices import How, own
+    from .tool import read
     if not given:
         matrix, rows = own(network.rows)
         store.keep_texts([(matrix.digest, rows)])
         return [matrix]
     if not isinstance(given, Mapping):
-        return read_matrices([os.fspath(path) for path in given], network.data, How(), lambda key, rows: store.keep_texts([(key, rows)]), Told())
+        return read([os.fspath(path) for path in given], network, How(from_unit, decimals), store)
     found = []
     for name, demands in given.items():
         rows = demand_rows(network.with_demands(demands).rows.demands)

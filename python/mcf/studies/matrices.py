@@ -127,6 +127,15 @@ def _of_tar(path: str) -> Iterator[tuple[str, bytes, bool]]:
             member = packed.extractfile(info) if info.isfile() else None
             if member is not None:
                 yield f"{path}/{info.name}", _unpacked(f"{path}/{info.name}", member.read(files.MAX_BYTES + 1)), True
+        _require_end(packed)
+
+
+def _require_end(packed: tarfile.TarFile) -> None:
+    """ReadError where the archive has no mark of its end: Python takes any other front of a member, and none, for the end too."""
+    assert packed.fileobj is not None
+    packed.fileobj.seek(packed.offset)
+    if packed.fileobj.read(tarfile.BLOCKSIZE) != bytes(tarfile.BLOCKSIZE):
+        raise tarfile.ReadError("is cut short, or damaged: its members are not followed by the mark of its end")
 
 
 def _unpacked(path: str, data: bytes) -> bytes:

@@ -20,7 +20,7 @@ from .bands import Band, band
 from .run import network_of
 from .scenarios import RULES, Plan
 from .store import Store
-from .words import sentences, title
+from .words import sentences, title, where
 from .work import Job, Task, answered
 
 ROWS = 200
@@ -52,12 +52,11 @@ class Section:
 
 @dataclass(frozen=True)
 class Map:
-    """The map of the worst scenario."""
+    """The map of the worst scenario, or of one that may be it."""
 
-    title: str
+    heading: str
     drawing: Drawing
     judged: str
-    sure: bool
 
 
 def study_page(heading: str | None, name: str, plan: Plan, store: Store, parts: list[Part], program: str) -> str:
@@ -67,7 +66,7 @@ def study_page(heading: str | None, name: str, plan: Plan, store: Store, parts: 
     network = replace(read_network(plan.ground.text), demands=())
     values = {"sections": sections, "map": _map(plan, store, parts, program), "about": about(scale(network, plan.asked.links, plan.asked.modules), demands=False).rstrip("."),
               "spread": _spread, "scenario": title, "words": lambda case: WORDS[fits(case.range)],
-              "matrices": len(plan.matrices), "changes": len(plan.changes)}
+              "matrices": len(plan.matrices), "changes": len(plan.changes), "timed": all(matrix.time for matrix in plan.matrices)}
     return render("study.html", title=heading or name, **values)
 
 
@@ -79,8 +78,9 @@ def _section(plan: Plan, store: Store, part: Part, sentence: str) -> Section:
         return Section(part, sentence, None, None, ())
     ordered = in_order(known)
     ranges = [_drawn(case) for case in ordered]
-    picture = band(ranges, [str(at + 1) for at in range(len(ranges))], "Scenarios in the order of what they carry") if len(known) > 1 else None
-    return Section(part, sentence, _over_time(plan, known), picture, ordered[:ROWS])
+    labels, about_it = [str(at + 1) for at in range(len(ranges))], "Scenarios in the order of what they carry"
+    picture = band(ranges, labels, about_it, part.routing not in RULES) if len(known) > 1 else None
+    return Section(part, sentence, _over_time(plan, part, known), picture, ordered[:ROWS])
 
 
 def _drawn(case: Case) -> Range:
@@ -88,15 +88,15 @@ def _drawn(case: Case) -> Range:
     return Carried(case).range if case.scenario.routing in RULES else case.range
 
 
-def _over_time(plan: Plan, known: list[Case]) -> Band | None:
-    """The worst of each matrix, in the order of matrices."""
+def _over_time(plan: Plan, part: Part, known: list[Case]) -> Band | None:
+    """The least of each matrix, in the order of matrices."""
     if len(plan.matrices) < 2:
         return None
     of_matrix: dict[str, list[Case]] = {}
     for case in known:
         of_matrix.setdefault(case.scenario.matrix.name, []).append(case)
     worsts = [worst([_Drawn(_drawn(case)) for case in some]).range for some in of_matrix.values()]
-    return band(worsts, [shown.name(name) for name in of_matrix], "The worst scenario of each matrix")
+    return band(worsts, [shown.name(name) for name in of_matrix], "The least of each matrix", part.routing not in RULES)
 
 
 @dataclass(frozen=True)
@@ -108,10 +108,9 @@ class _Drawn:
 
 def _map(plan: Plan, store: Store, parts: list[Part], program: str) -> Map | None:
     """The map of the worst scenario, or of one of those that may be it, of the first routing that has one."""
-    found = next((part.worst for part in parts if part.worst), None)
-    ruled = next((part.least for part in parts if part.least), None)
-    case = found.cases[0] if found else ruled.cases[0].case if ruled else None
-    if case is None or case.row is None:
+    part = next((part for part in parts if part.worst), None) or next((part for part in parts if part.least), None)
+    case = part.worst.cases[0] if part and part.worst else part.least.cases[0].case if part and part.least else None
+    if part is None or case is None or case.row is None:
         return None
     text, judged = _certificate(plan, store, case, program)
     if text is None:
@@ -119,7 +118,21 @@ def _map(plan: Plan, store: Store, parts: list[Part], program: str) -> Map | Non
     changed = network_of(store, plan.ground.digest, case.scenario.matrix.digest, case.scenario.change)
     certificate = read_any(text)
     figures = Figures(scale(changed.network, certificate.links, certificate.modules), certificate)
-    return Map(title(case.scenario), drawing(figures, layout(figures.scaled)), judged, bool(found and found.alone))
+    return Map(f"{_of_all(plan, part)}: {title(case.scenario)}", drawing(figures, layout(figures.scaled)), judged)
+
+
+def _of_all(plan: Plan, part: Part) -> str:
+    """What a scenario that is drawn is among those of its routing and growth."""
+    those = "of those" if part.known == part.of else "of those that have an answer"
+    if part.worst is None:
+        which = "The scenario of which the least is shown to be carried"
+        which += "" if part.known == part.of else ", of those that have an answer"
+    elif part.worst.alone:
+        which = "The worst scenario" if part.known == part.of else f"The worst {those}"
+    else:
+        which = f"One {those} that may be the worst"
+    place = where(plan, part)
+    return f"{which} ({place})" if place else which
 
 
 def _certificate(plan: Plan, store: Store, case: Case, program: str) -> tuple[str | None, str]:
@@ -127,9 +140,9 @@ def _certificate(plan: Plan, store: Store, case: Case, program: str) -> tuple[st
     scenario = case.scenario
     found = store.rows([scenario.key], certificates=True)[scenario.key].row.found
     if found.certificate is None:
-        job = Job(scenario.key, scenario.matrix.digest, scenario.change, scenario.routing)
+        job = Job(scenario.key, scenario.matrix.digest, scenario.change, scenario.routing, keep=True)
         matrices = {job.matrix: zlib.compress(store.text(job.matrix).encode("latin-1"), 1)}
-        task = Task(plan.ground.digest, plan.ground.packed, matrices, (job,), plan.asked, program, keep=True)
+        task = Task(plan.ground.digest, plan.ground.packed, matrices, (job,), plan.asked, program)
         found = answered(task)[0].found
     data = found.certificate
     return (zlib.decompress(data).decode("latin-1") if data is not None else None), found.line

@@ -5,20 +5,24 @@ from __future__ import annotations
 import time
 
 from ..certificate import write_routing
+from ..errors import TextError
 from ..network import Network
 from ..route.run import ruled
 from .children import Program
 from .scenarios import Asked
-from .work import Found, judged, scaled_of, solved
+from .work import REFUSED, Found, judged, scaled_of, solved
 
 _FORM = 2
 
 
 def by_rule(mcf: Program, network: Network, text: bytes, asked: Asked, _: str, rule: str) -> Found:
-    """What is known of the routing of a rule; refused as `mcf solve` does."""
+    """What is known of the routing of a rule; refused as `mcf solve` does, or where the rule has none for this network."""
     scaled = scaled_of(network, asked)
     if scaled is None:
         return solved(mcf, text, asked)
     deadline = time.monotonic() + asked.seconds
-    routing = ruled(scaled, _FORM, rule, asked.lengths, asked.cost, asked.paths, deadline, [], quiet=True)
+    try:
+        routing = ruled(scaled, _FORM, rule, asked.lengths, asked.cost, asked.paths, deadline, [], quiet=True)
+    except TextError as why:
+        return Found(REFUSED, f"there is no routing by {rule}: {why}")
     return judged(mcf, text, write_routing(routing).encode("latin-1"))

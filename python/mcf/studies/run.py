@@ -14,7 +14,7 @@ from ..network import read_network, write_network
 from .children import Ended, Program, program
 from .engine import Engine, Gone, engine_of
 from .scenarios import Change, Changed, Plan, Scenario, changed, demands_of, packed
-from .store import Store, Wanted
+from .store import Due, Store, Wanted
 from .work import Found, Job, Row, Task, judged
 
 _AT_ONCE = 2000
@@ -40,7 +40,7 @@ class Left:
     wanted: Wanted
     program: str | None
     sent: dict[str, Scenario] = field(default_factory=dict)
-    _source: Iterator[tuple[Scenario, bool]] | None = None
+    _source: Iterator[Due] | None = None
     _packed: dict[str, bytes] = field(default_factory=dict)
 
     def next(self, most: int) -> Task | None:
@@ -49,16 +49,20 @@ class Left:
         taken = list(islice(source, most))
         if not taken:
             return None
-        matrices = {scenario.matrix.digest for scenario, _ in taken}
+        matrices = {due.scenario.matrix.digest for due in taken}
         self._packed = {digest: self._packed.get(digest) or packed(self.store.text(digest)) for digest in matrices}
-        self.sent |= {scenario.key: scenario for scenario, _ in taken}
-        keep = self.wanted.keep or self.wanted.recheck or any(has for _, has in taken)
-        jobs = tuple(Job(one.key, one.matrix.digest, one.change, one.routing) for one, _ in taken)
+        self.sent |= {due.scenario.key: due.scenario for due in taken}
         ground = self.plan.ground
-        return Task(ground.digest, ground.packed, dict(self._packed), jobs, self.plan.asked, self.program, keep, self.wanted.without_cut)
+        return Task(ground.digest, ground.packed, dict(self._packed), tuple(map(_job, taken)), self.plan.asked, self.program)
 
 
-def _left(plan: Plan, store: Store, wanted: Wanted) -> Iterator[tuple[Scenario, bool]]:
+def _job(due: Due) -> Job:
+    """What a worker is asked."""
+    one = due.scenario
+    return Job(one.key, one.matrix.digest, one.change, one.routing, due.keep, due.without_cut)
+
+
+def _left(plan: Plan, store: Store, wanted: Wanted) -> Iterator[Due]:
     """The scenarios that are not done; those that ask the same are one."""
     for part in parts(plan.once()):
         yield from store.left(part, wanted)

@@ -17,6 +17,7 @@ ROUTINGS = ("best", "exact", *RULES)
 _OPTIONS = {"best": ("gap", "phases", "step"), "exact": ("gap", "seconds"), "ecmp": ("lengths", "cost"), "cost": ("cost",),
             "k-paths": ("lengths", "cost", "paths", "seconds")}
 KEY_DIGITS = 24
+MOST_PATHS = 1000
 DEMANDS = "DEMANDS (\n"
 
 
@@ -75,6 +76,13 @@ class Asked:
         known = _OPTIONS.get(routing, ())
         given = {name: str(value) for name in known if (value := getattr(self, name)) is not None}
         return {"links": self.links, "modules": self.modules, **given}
+
+    def unused(self, routings: Iterable[str]) -> list[tuple[str, str]]:
+        """The options that are given, each with a routing that does not know it."""
+        default = Asked()
+        names = ("gap", "phases", "step", "lengths", "cost", "paths", "seconds")
+        given = [name for name in names if getattr(self, name) != getattr(default, name)]
+        return [(name, routing) for name in given for routing in routings if name not in _OPTIONS.get(routing, ())]
 
     @cached_property
     def solve_words(self) -> tuple[str, ...]:

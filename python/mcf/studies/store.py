@@ -7,21 +7,25 @@ study; rows of several studies may stand in one file, since a row's key is a has
 from __future__ import annotations
 
 import json
+import os
 import sqlite3
 import zlib
 from collections.abc import Iterable, Iterator, Sequence
 from contextlib import contextmanager
 from dataclasses import dataclass
+from fractions import Fraction
 from pathlib import Path
 
 from ..errors import TextError
-from .scenarios import Asked, Change, Scenario
-from .work import FAILED, REFUSED, Found, Row
+from ..ranges import Range
+from .scenarios import Asked, Change, Scenario, digest_of
+from .work import FAILED, NOTHING, REFUSED, Found, Row
 
 APPLICATION = 0x6D636673
 FORM = 1
 _WAIT = 60.0
 _AT_ONCE = 500
+_FRONT = b"SQLite format 3\0"
 _TABLES = """
 CREATE TABLE texts (digest TEXT PRIMARY KEY, data BLOB NOT NULL) WITHOUT ROWID;
 CREATE TABLE rows (
@@ -33,8 +37,20 @@ CREATE TABLE rows (
 """
 _COLUMNS = ("key", "network", "matrix", "asked", "verdict", "line", "lower", "upper", "rest_verdict", "rest_line", "rest_lower",
             "rest_upper", "left_out", "cut", "seconds", "place", "version", "rechecked", "certificate", "rest_certificate")
+_FOUND = ("network", "matrix", "asked", "verdict", "line", "lower", "upper", "left_out", "cut", "seconds", "place", "version",
+          "certificate")
+_REST = ("rest_verdict", "rest_line", "rest_lower", "rest_upper", "rest_certificate")
+# what stands there stays where the new one has no answer, or no certificate and this has one
+_OLD_FOUND = (f"(rows.verdict <> '{FAILED}' AND (excluded.verdict = '{FAILED}' OR "
+              "(rows.certificate IS NOT NULL AND excluded.certificate IS NULL)))")
+_OLD_REST = (f"(coalesce(rows.rest_verdict, '{FAILED}') <> '{FAILED}' AND (coalesce(excluded.rest_verdict, '{FAILED}') = '{FAILED}' OR "
+             "(rows.rest_certificate IS NOT NULL AND excluded.rest_certificate IS NULL)))")
+_RECHECKED = (f"CASE WHEN {_OLD_FOUND} AND {_OLD_REST} THEN rows.rechecked WHEN {_OLD_FOUND} OR {_OLD_REST} THEN "
+              "min(rows.rechecked, excluded.rechecked) ELSE excluded.rechecked END")
+_SETS = [f"{name} = CASE WHEN {old} THEN rows.{name} ELSE excluded.{name} END"
+         for names, old in ((_FOUND, _OLD_FOUND), (_REST, _OLD_REST)) for name in names]
 _ADD = (f"INSERT INTO rows ({', '.join(_COLUMNS)}) VALUES ({', '.join('?' * len(_COLUMNS))}) ON CONFLICT (key) DO UPDATE SET "
-        + ", ".join(f"{name} = excluded.{name}" for name in _COLUMNS[1:]) + f" WHERE rows.verdict = '{FAILED}' OR excluded.verdict <> '{FAILED}'")
+        + ", ".join([*_SETS, f"rechecked = {_RECHECKED}"]))
 
 
 @dataclass(frozen=True)
@@ -44,6 +60,15 @@ class Wanted:
     keep: bool = False
     without_cut: bool = False
     recheck: bool = False
+
+
+@dataclass(frozen=True)
+class Due:
+    """A scenario that is not done, whether its certificates are kept, and whether its demands that have a way are solved for alone too."""
+
+    scenario: Scenario
+    keep: bool
+    without_cut: bool
 
 
 @dataclass(frozen=True)
@@ -72,10 +97,15 @@ class Store:
         if not create and not Path(path).is_file():
             raise TextError(f"{path}: there is no such file")
         with self._told():
+            _require_database(path)
             self._base = sqlite3.connect(path, timeout=_WAIT, isolation_level=None)
-            self._require_own(create)
-            self._base.execute("PRAGMA journal_mode = WAL")
-            self._base.execute("PRAGMA synchronous = FULL")
+            try:
+                self._require_own(create)
+                self._base.execute("PRAGMA journal_mode = WAL")
+                self._base.execute("PRAGMA synchronous = FULL")
+            except BaseException:
+                self._base.close()
+                raise
 
     def _require_own(self, create: bool) -> None:
         """Makes the tables in a file that has nothing; TextError where it has something else."""
@@ -90,16 +120,28 @@ class Store:
                 what = "a study of another form" if application == APPLICATION else "a database, and none of a study"
                 raise TextError(f"{self.path}: is {what}; name another file by --store")
         finally:
-            self._base.execute("COMMIT")
+            if self._base.in_transaction:
+                self._base.execute("COMMIT")
 
     @contextmanager
     def _told(self) -> Iterator[None]:
         """Faults of the database as one line."""
         try:
             yield
-        except sqlite3.Error as fault:
-            what = {"database or disk is full": "the disk is full", "file is not a database": "is no file of a study"}.get(str(fault), str(fault))
-            raise TextError(f"{self.path}: {what}") from None
+        except (sqlite3.Error, UnicodeError, OSError) as fault:
+            known = {"database or disk is full": "the disk is full", "file is not a database": "is no file of a study"}
+            raise TextError(f"{self.path}: {known.get(str(fault), getattr(fault, 'strerror', None) or str(fault))}") from None
+
+    @contextmanager
+    def _read(self) -> Iterator[None]:
+        """What was read and is not what was written, as one line too."""
+        try:
+            with self._told():
+                yield
+        except TextError:
+            raise
+        except (zlib.error, ArithmeticError, AssertionError, LookupError, TypeError, ValueError) as fault:
+            raise TextError(f"{self.path}: is damaged ({fault}); name another file by --store") from None
 
     @contextmanager
     def _transaction(self) -> Iterator[None]:
@@ -127,35 +169,39 @@ class Store:
 
     def text(self, digest: str) -> str:
         """The text of a hash."""
-        with self._told():
+        with self._read():
             found = self._base.execute("SELECT data FROM texts WHERE digest = ?", (digest,)).fetchone()
-        if found is None:
-            raise TextError(f"{self.path}: has no text {digest[:12]}")
-        return zlib.decompress(found[0]).decode("latin-1")
+            if found is None:
+                raise TextError(f"{self.path}: has no text {digest[:12]}")
+            text = zlib.decompress(found[0]).decode("latin-1")
+            if digest_of(text) != digest:
+                raise ValueError(f"the text {digest[:12]} is another one")
+            return text
 
     def add(self, rows: Iterable[tuple[Scenario, Row, bool]], network: str, asked: Asked) -> None:
-        """Writes rows, all or none of them, each in place of one that has less; with each is told whether it was judged again."""
+        """Writes rows, all or none of them; with each is told whether it was judged again. Of one that stands there nothing is lost."""
         values = [_values(scenario, row, rechecked, network, asked) for scenario, row, rechecked in rows]
         with self._transaction():
             self._base.executemany(_ADD, values)
 
-    def left(self, scenarios: Sequence[Scenario], wanted: Wanted) -> list[tuple[Scenario, bool]]:
-        """The scenarios that are not done, in their order, each with whether a certificate of it is kept, which is not to be lost."""
-        states: dict[str, tuple[bool, bool]] = {}
+    def left(self, scenarios: Sequence[Scenario], wanted: Wanted) -> list[Due]:
+        """The scenarios that are not done, in their order; a new row has what is wanted, and what the old one has."""
+        states: dict[str, tuple[bool, bool, bool]] = {}
         for part in _parts([scenario.key for scenario in scenarios]):
             places = ", ".join("?" * len(part))
-            query = f"SELECT key, {_is_done(wanted)}, certificate IS NOT NULL FROM rows WHERE key IN ({places})"
+            query = f"SELECT key, {_is_done(wanted)}, certificate IS NOT NULL, rest_verdict IS NOT NULL FROM rows WHERE key IN ({places})"
             with self._told():
-                states |= {key: (bool(done), bool(has)) for key, done, has in self._base.execute(query, part)}
-        found = ((scenario, *states.get(scenario.key, (False, False))) for scenario in scenarios)
-        return [(scenario, has) for scenario, done, has in found if not done]
+                states |= {key: (bool(done), bool(has), bool(rest)) for key, done, has, rest in self._base.execute(query, part)}
+        found = ((scenario, *states.get(scenario.key, (False, False, False))) for scenario in scenarios)
+        keep = wanted.keep or wanted.recheck
+        return [Due(scenario, keep or has, wanted.without_cut or rest) for scenario, done, has, rest in found if not done]
 
     def rows(self, keys: Sequence[str], certificates: bool = False) -> dict[str, Kept]:
         """The rows of these keys, without their certificates unless these are wanted."""
         found: dict[str, Kept] = {}
         names = _COLUMNS if certificates else _COLUMNS[:-2]
         for part in _parts(keys):
-            with self._told():
+            with self._read():
                 places = ", ".join("?" * len(part))
                 for values in self._base.execute(f"SELECT {', '.join(names)} FROM rows WHERE key IN ({places})", part):
                     kept = _kept(dict(zip(names, values)))
@@ -164,8 +210,19 @@ class Store:
 
     def keys(self, front: str) -> list[str]:
         """The keys that begin so, at most two."""
+        if not front.isascii():
+            return []
         with self._told():
             return [key for key, in self._base.execute("SELECT key FROM rows WHERE substr(key, 1, ?) = ? LIMIT 2", (len(front), front))]
+
+
+def _require_database(path: str) -> None:
+    """DatabaseError where a file has something that is no database; one of a few bytes would be taken for an empty one."""
+    if os.path.isfile(path):
+        with open(path, "rb") as file:
+            front = file.read(len(_FRONT))
+        if front not in (b"", _FRONT):
+            raise sqlite3.DatabaseError("file is not a database")
 
 
 def _parts(keys: Sequence[str]) -> Iterator[Sequence[str]]:
@@ -179,6 +236,7 @@ def _is_done(wanted: Wanted) -> str:
     due = [f"verdict <> '{FAILED}'"]
     if wanted.keep:
         due.append(f"(verdict = '{REFUSED}' OR certificate IS NOT NULL)")
+        due.append(f"(coalesce(rest_verdict, '{NOTHING}') IN ('{NOTHING}', '{REFUSED}', '{FAILED}') OR rest_certificate IS NOT NULL)")
     if wanted.without_cut:
         due.append(f"(cut = '[]' OR (rest_verdict IS NOT NULL AND rest_verdict <> '{FAILED}'))")
     if wanted.recheck:
@@ -202,14 +260,32 @@ def _kept(named: dict[str, object]) -> Kept:
         return str(named[name])
 
     def blob(name: str) -> bytes | None:
-        """A certificate, where there is one."""
+        """A certificate, where there is one; zlib.error where it is damaged."""
         value = named.get(name)
-        return value if isinstance(value, bytes) else None
+        if not isinstance(value, bytes):
+            return None
+        zlib.decompress(value)
+        return value
 
     found = Found(word("verdict"), word("line"), word("lower"), word("upper"), blob("certificate"))
     rest = None
     if named["rest_verdict"] is not None:
         rest = Found(word("rest_verdict"), word("rest_line"), word("rest_lower"), word("rest_upper"), blob("rest_certificate"))
+    for one in (found, rest):
+        _require_bounds(one)
     row = Row(word("key"), found, rest, tuple(json.loads(word("left_out"))), tuple(json.loads(word("cut"))), float(word("seconds")),
               word("place"), word("version"))
-    return Kept(row, word("network"), word("matrix"), json.loads(word("asked")))
+    kept = Kept(row, word("network"), word("matrix"), json.loads(word("asked")))
+    # (its change is made of what was asked, or that is damaged)
+    kept.change
+    return kept
+
+
+def _require_bounds(found: Found | None) -> None:
+    """ArithmeticError where the bounds of a row contradict each other, and ValueError where they are no numbers."""
+    if found is not None and (found.lower or found.upper):
+        lower = Fraction(found.lower)
+        try:
+            Range(lower, Fraction(found.upper) if found.upper else lower)
+        except TextError as why:
+            raise ArithmeticError(str(why)) from None

@@ -4,6 +4,7 @@ from __future__ import annotations
 
 import logging
 import os
+from collections.abc import Sequence
 from pathlib import Path
 
 from .. import jsons, output
@@ -11,7 +12,8 @@ from ..convert import native
 from ..convert.model import Notes
 from ..convert.numbers import UNITS, Unit
 from ..errors import McfError, TextError
-from ..networks import Network, read
+from ..networks import Network
+from ..networks import read as read_file
 from . import answers
 from .asked import Words
 from .changes import Fibres, all_changes, groups, read_changes, read_groups
@@ -53,7 +55,7 @@ def _network(path: str, program: str) -> Network:
     """The network of a file, in any format that is read."""
     os.environ["MCF"] = program
     try:
-        return read(path)
+        return read_file(path)
     except McfError as why:
         raise TextError(str(why)) from None
 
@@ -70,6 +72,8 @@ def planned(words: Words, network: Network, store: Store) -> Plan:
     matrices = _matrices(words, network, store)
     phases, step = (None if number is None else str(number) for number in (words.phases, words.step))
     asked = Asked(mode, words.modules, words.gap, phases, step, words.lengths, words.cost, words.paths, words.seconds)
+    for name, routing in asked.unused(words.routing):
+        say(f"--{name} means nothing for the routing {routing}")
     return Plan(Ground.of(network.rows), matrices, changes, words.routing, asked, words.grow)
 
 
@@ -79,10 +83,15 @@ def _matrices(words: Words, network: Network, store: Store) -> list[Matrix]:
         matrix, rows = own(network.rows)
         store.keep_texts([(matrix.digest, rows)])
         return [matrix]
-    if words.from_unit is not None and words.from_unit not in UNITS:
-        raise TextError(f"--from-unit: {words.from_unit!r} is none of {', '.join(UNITS)}")
+    return read(words.matrices, network, How(words.from_unit, words.round), store)
+
+
+def read(paths: Sequence[str], network: Network, how: How, store: Store) -> list[Matrix]:
+    """The matrices of files, whose texts go into the store; what is noted of them is said."""
+    if how.from_unit is not None and how.from_unit not in UNITS:
+        raise TextError(f"from-unit: {how.from_unit!r} is none of {', '.join(UNITS)}")
     told = Told()
-    found = read_matrices(words.matrices, network.data, How(words.from_unit, words.round), lambda key, rows: store.keep_texts([(key, rows)]), told)
+    found = read_matrices(paths, network.data, how, lambda key, rows: store.keep_texts([(key, rows)]), told)
     for line in told.lines():
         say(line)
     return found

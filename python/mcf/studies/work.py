@@ -28,12 +28,14 @@ _Value = TypeVar("_Value")
 
 @dataclass(frozen=True)
 class Job:
-    """A scenario for a worker."""
+    """A scenario for a worker: what it asks, and whether its certificates, and its demands that have a way alone, are asked for too."""
 
     key: str
     matrix: str
     change: Change
     routing: str
+    keep: bool = False
+    without_cut: bool = False
 
 
 @dataclass(frozen=True)
@@ -46,8 +48,6 @@ class Task:
     jobs: tuple[Job, ...]
     asked: Asked
     program: str | None = None
-    keep: bool = False
-    without_cut: bool = False
 
 
 @dataclass(frozen=True)
@@ -99,12 +99,23 @@ def _row(task: Task, job: Job) -> Row:
 
 def _both(task: Task, job: Job, network: Network) -> tuple[Found, Found | None, tuple[str, ...]]:
     """What is known of all demands, and of the rest where some have no way; and which these are."""
+    found, cut = _tried(task, job, network)
+    if not cut or not job.without_cut:
+        return found, None, cut
+    gone = set(cut)
+    left = tuple(row for row in network.demands if row.id not in gone)
+    if not any(_is_wanted(row) for row in left):
+        return found, Found(NOTHING), cut
+    return found, _tried(task, job, replace(network, demands=left))[0], cut
+
+
+def _tried(task: Task, job: Job, network: Network) -> tuple[Found, tuple[str, ...]]:
+    """What is known of a network, and its demands without a way; that it has no answer where it gives none."""
     try:
         found, cut = _found(task, job.routing, network)
-        rest = _rest(task, job.routing, network, cut) if cut and task.without_cut else None
     except Ended as why:
-        return Found(FAILED, str(why)), None, ()
-    return _sent(found, task.keep), rest and _sent(rest, task.keep), cut
+        return Found(FAILED, str(why)), ()
+    return _sent(found, job.keep), cut
 
 
 def _sent(found: Found, keep: bool) -> Found:
@@ -126,15 +137,6 @@ def _found(task: Task, routing: str, network: Network) -> tuple[Found, tuple[str
     if cut:
         return solved(mcf, text, task.asked), cut
     return _otherwise(routing)(mcf, network, text, task.asked, task.ground, routing), ()
-
-
-def _rest(task: Task, routing: str, network: Network, cut: tuple[str, ...]) -> Found:
-    """What is known of the demands that have a way."""
-    gone = set(cut)
-    left = tuple(row for row in network.demands if row.id not in gone)
-    if not any(_is_wanted(row) for row in left):
-        return Found(NOTHING)
-    return _found(task, routing, replace(network, demands=left))[0]
 
 
 def _otherwise(routing: str) -> Callable[[Program, Network, bytes, Asked, str, str], Found]:
