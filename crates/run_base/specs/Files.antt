@@ -2,17 +2,22 @@
 -- before and behind it, so the files that were started are a part of it.
 use Rattle.std.specs.Prelude.{◌≡◌, ◌⊎◌, ℕ, ◌≤◌, List, Result, Ok, Err}
 use Rattle.std.specs.Global.{Vec}
-use Rattle.mcf_limits.specs.declared.TheConstants.{MAX_NET_BYTES}
+use Rattle.mcf_limits.specs.declared.TheConstants.{MAX_CERT_BYTES, MAX_NET_BYTES}
 use Rattle.mcf_base.specs.Shelf.{ShelfView, IsLonger, FailedAt, LacksMemory, with_file}
 use Rattle.mcf_base.specs.Reading.{IsText}
+use Rattle.flow_paths.specs.declared.certificate.Proof.{Proof}
 use Rattle.sndlib_grammar.specs.declared.refusal.NetRefusal.{NetRefusal}
 use Rattle.sndlib_grammar.specs.Rows.{NetRows, AreNetRows}
 use Rattle.sndlib_grammar.specs.Net.{rows_of}
+use Rattle.unit_scale.specs.Scaling.{ScaledNet}
 use Rattle.cert_lines.specs.declared.net_line.TheConstants.{MAX_COUNT}
+use Rattle.cert_judge.specs.declared.judged.Judged.{Judged as Judgement}
+use Rattle.cert_judge.specs.declared.certifying.Certified.TheVariants.{Valid, Said}
+use Rattle.cert_judge.specs.Certified.{IsCertifiedText}
 use Rattle.run_base.specs.declared.outcome.FileKind.{FileKind}
-use Rattle.run_base.specs.declared.outcome.FileKind.TheVariants.{Network}
+use Rattle.run_base.specs.declared.outcome.FileKind.TheVariants.{Network, Certificate}
 use Rattle.run_base.specs.declared.outcome.Outcome.{Outcome}
-use Rattle.run_base.specs.declared.outcome.Outcome.TheVariants.{ReadFault, TooLong, NetRefused, Memory}
+use Rattle.run_base.specs.declared.outcome.Outcome.TheVariants.{ReadFault, TooLong, NetRefused, Judged, Memory}
 use Rattle.run_base.specs.Answer.{Answer, OrWant, answer_of}
 
 -- the rows are those of a text, which skips no more sections than a certificate can count
@@ -61,6 +66,45 @@ GivesText limit kind name old new (Err outcome) = GivesNone limit kind name old 
 abbrev pub GivesRows : List ℕ → Result NetRows Outcome → Type 0
 GivesRows text (Ok rows) = rows_of text ≡ Ok rows
 GivesRows text (Err outcome) = (outcome ≡ Memory) ⊎ ((r : NetRefusal) × (rows_of text ≡ Err r) × (outcome ≡ NetRefused r))
+
+-- no rows answer, since none came
+abbrev pub Never : NetRows → ShelfView → ShelfView → Answer → Type 0
+Never rows old new answer = ⊥
+
+-- the file of that name has a network's text with these rows
+pub record HasRows (name : List ℕ) (old : ShelfView) (rows : NetRows) : Type 0 where
+  pub text : List ℕ
+  pub held : IsText MAX_NET_BYTES old.holds name text
+  pub read : rows_of text ≡ Ok rows
+
+-- the answer of a network's file where no rows came of it
+pub record GaveNone (name : List ℕ) (old new : ShelfView) (answer : Answer) : Type 0 where
+  pub none : OfNet name Never old new answer
+
+-- the rows of the network in a file, or the outcome that ends the run
+abbrev pub GivesNet : List ℕ → ShelfView → ShelfView → Result NetRows Outcome → Type 0
+GivesNet name old new (Ok rows) = HasRows name old rows × (new ≡ with_file old name)
+GivesNet name old new (Err outcome) = GaveNone name old new (answer_of outcome)
+
+-- the file of that name has the text of this certificate, which is valid on the rows
+pub record HasCertificate (rows : NetRows) (name : List ℕ) (old : ShelfView) (net : ScaledNet) (proof : Proof) : Type 0 where
+  pub text : List ℕ
+  pub held : IsText MAX_CERT_BYTES old.holds name text
+  pub valid : IsCertifiedText rows text (Valid net proof)
+
+-- the answer is what is said of a certificate's text that is refused or invalid, and no file is started any more
+abbrev pub IsSaidOf : NetRows → List ℕ → ShelfView → ShelfView → Answer → Type 0
+IsSaidOf rows text old new answer =
+    (judged : Judgement) × IsCertifiedText rows text (Said judged) × (answer ≡ answer_of (Judged judged)) × (new ≡ old)
+
+-- the answer of a certificate's file where no valid certificate came of it
+pub record GaveNoCertificate (rows : NetRows) (name : List ℕ) (old new : ShelfView) (answer : Answer) : Type 0 where
+  pub none : OfFile MAX_CERT_BYTES Certificate name (λ text. OrMemory (IsSaidOf rows text)) old new answer
+
+-- the network in units and the valid certificate in a file, or the outcome that ends the run
+abbrev pub GivesCertificate : NetRows → List ℕ → ShelfView → ShelfView → Result (ScaledNet × Proof) Outcome → Type 0
+GivesCertificate rows name old new (Ok found) = HasCertificate rows name old found.0 found.1 × (new ≡ with_file old name)
+GivesCertificate rows name old new (Err outcome) = GaveNoCertificate rows name old new (answer_of outcome)
 
 -- a value whose answer is such a one, or an outcome that ends the run, with such an answer
 abbrev pub Finds : {T : Type 0} → (T → Answer) → (ShelfView → ShelfView → Answer → Type 0) → ShelfView → ShelfView → Result T Outcome → Type 0

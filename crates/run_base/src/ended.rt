@@ -1,7 +1,12 @@
 //! How a run ends.
 
+ghost use Rattle.std.specs.Prelude.{ℕ, List};
+ghost use Rattle.mcf_base.specs.Sink.{SinkView, Wrote};
+ghost use Rattle.run_base.specs.Answer.{Writes};
+
 use flow_solver::Solved;
 use hop_check::HopProof;
+use mcf_base::WriteFault;
 use throughput::PartProof;
 
 /// What a run hands out beside its text.
@@ -85,5 +90,16 @@ impl Ended {
             status,
             found: Found::nothing(),
         }
+    }
+}
+
+/// How a run ends that has written its text, with that status and that to hand out; where the output failed, with status 5.
+pub fn end_of(written: Result<(), WriteFault>, status: u8, found: Found) -> Ended
+    ensures { (old new : SinkView) (text : List ℕ) → Wrote old new written text
+        → Writes old new result (record { status = status; text = text; found = found }) }
+{
+    match written {
+        Ok(()) => Ended { status, found },
+        Err(_) => Ended::told(5),
     }
 }

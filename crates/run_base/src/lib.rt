@@ -8,8 +8,8 @@ mod saying;
 mod tell_judged;
 mod telling;
 
-pub use ended::{Ended, Found};
-pub use files::{file_text, net_rows};
+pub use ended::{Ended, Found, end_of};
+pub use files::{certificate_in, file_text, net_in, net_rows};
 pub use outcome::{FileKind, Outcome};
 pub use saying::say;
 pub use tell_judged::{tell_valid, verdict_status, verdict_word};
