@@ -16,7 +16,7 @@ use sndlib_read::{RawNet, ReadNetEnd, read_net};
 use std::alloc::Global;
 use unit_scale::Scaled;
 
-/// The bytes of the file of that name and kind, which has at most so many.
+/// The bytes of the file of that name and kind, of which there are at most `limit`.
 pub fn file_text<F: Shelf>(
     alloc: Global,
     shelf: &mut F,

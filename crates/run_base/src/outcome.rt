@@ -9,10 +9,15 @@ use std::alloc::AllocError;
 /// A kind of file: a network, a certificate or a routing, a second certificate, a script, a list of demand matrices.
 #[derive(Clone, Copy, Debug, PartialEq, Eq)]
 pub enum FileKind {
+    /// A network.
     Network,
+    /// A certificate or a routing.
     Certificate,
+    /// The second certificate of `tighten`.
     Second,
+    /// A script of edits.
     Script,
+    /// A list of demand matrices.
     List,
 }
 
@@ -21,14 +26,19 @@ pub enum FileKind {
 pub enum Outcome {
     /// The words are not in the grammar.
     Usage,
+    /// A file could not be read to its end.
     ReadFault,
+    /// Memory ran out.
     Memory,
     /// The file is over its limit.
     TooLong(FileKind),
+    /// The network's text is refused, or its rows are no network in units.
     NetRefused(NetRefusal),
-    /// There would be so many commodities times phases.
+    /// Commodities times phases would be this number.
     TooMuch(u64),
+    /// The script is refused.
     ScriptRefused(ScriptRefusal),
+    /// The list is refused.
     ListRefused(ListRefusal),
     /// What is said of a certificate.
     Judged(Judged),

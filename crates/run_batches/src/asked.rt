@@ -12,8 +12,11 @@ use solver_run::SolveOptions;
 /// The gap in millionths, the phase budget for each matrix if one was given, and the step of the lengths.
 #[derive(Clone, Copy, Debug, PartialEq, Eq)]
 pub struct BatchAsked {
+    /// The gap, in millionths.
     pub gap: u64,
+    /// The phase budget for each matrix; `None` for as many as the work allows, up to the default.
     pub phases: Option<u32>,
+    /// How sharply lengths rise with loads, from 1 to 2^20.
     pub step: u32,
 }
 

@@ -26,7 +26,9 @@ use std::thread::Threads;
 /// The names of the network's file and of the list's.
 #[derive(Clone, Copy)]
 pub struct BatchFiles<'a> {
+    /// The name of the network's file.
     pub net: &'a str,
+    /// The name of the list's file.
     pub list: &'a str,
 }
 

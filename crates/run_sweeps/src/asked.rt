@@ -11,16 +11,22 @@ use solver_run::SolveOptions;
 /// The gap in millionths, the phase budget for each link if one was given, and the step of the lengths.
 #[derive(Clone, Copy, Debug, PartialEq, Eq)]
 pub struct SweepAsked {
+    /// The gap, in millionths.
     pub gap: u64,
+    /// The phase budget for each link; `None` for as many as the work allows, up to the default.
     pub phases: Option<u32>,
+    /// How sharply lengths rise with loads, from 1 to 2^20.
     pub step: u32,
 }
 
 /// The gap in millionths, the phase budget for each link, and the step of the lengths.
 #[derive(Clone, Copy, Debug, PartialEq, Eq)]
 pub struct SweepOptions {
+    /// The gap, in millionths.
     pub gap: u64,
+    /// How many phases there are at most for each link.
     pub phases: u32,
+    /// How sharply lengths rise with loads, from 1 to 2^20.
     pub step: u32,
 }
 

@@ -24,8 +24,11 @@ use unit_scale::{LinkMode, name_of};
 /// A network whose links are closed one at a time, how its links are read, and how each network is solved.
 #[derive(Drop)]
 pub struct Closing<'a> {
+    /// The network.
     pub net: &'a Net,
+    /// How its links are read.
     pub mode: LinkMode,
+    /// How each network is solved.
     pub options: &'a SweepOptions,
 }
 
