@@ -3,7 +3,7 @@
 ghost use Rattle.std.specs.Prelude.{◌≡◌, length, map, string_bytes};
 ghost use Rattle.mcf_words.specs.Request.{IsFileCount, least_files, IsWithinLimits, AreDrawn};
 ghost use Rattle.run_base.specs.Answer.{IsTold};
-ghost use Rattle.mcf_cli.specs.Run.{OfCommand, RunEnds};
+ghost use Rattle.mcf_cli.specs.Run.{OfCommand, RunEnds, file_at};
 
 use mcf_base::{Gate, Shelf, Sink};
 use mcf_words::{Command, Request, WordsEnd, read_words};
@@ -16,6 +16,16 @@ use run_solves::{gen_net, print, solve_file, trial};
 use run_sweeps::{sweep, sweepsolve};
 use std::alloc::Global;
 use std::thread::Threads;
+
+// The name of the file of that place among the words, and no byte where they name none.
+fn file(request: &Request, place: usize) -> &str
+    ensures { result.now ≡ file_at request.now place }
+{
+    match request.names.get(place) {
+        Some(name) => name,
+        None => "",
+    }
+}
 
 // The answer of the command.
 fn run_command<F: Shelf, K: Sink, G: Gate, R: Threads + Sync>(
@@ -32,76 +42,27 @@ fn run_command<F: Shelf, K: Sink, G: Gate, R: Threads + Sync>(
     ensures { IsTold (OfCommand request.now.command request.now (F.seen shelf.old)
         (F.seen shelf.new)) (K.seen out.old) (K.seen out.new) result }
 {
+    let net = file(request, 0);
+    let second = file(request, 1);
     match request.command {
-        Command::Solve => solve_file(rt, alloc, shelf, out, request.names.name(0), request, gate),
-        Command::Check => check(
-            alloc,
-            shelf,
-            out,
-            request.names.name(0),
-            request.names.name(1),
-        ),
-        Command::Upgrade => upgrade(
-            alloc,
-            shelf,
-            out,
-            request.names.name(0),
-            request.names.name(1),
-        ),
-        Command::Tighten => tighten(
-            rt,
-            alloc,
-            shelf,
-            out,
-            request.names.name(0),
-            request.names.name(1),
-            request.names.get(2),
-        ),
+        Command::Solve => solve_file(rt, alloc, shelf, out, net, request, gate),
+        Command::Check => check(alloc, shelf, out, net, second),
+        Command::Upgrade => upgrade(alloc, shelf, out, net, second),
+        Command::Tighten => tighten(rt, alloc, shelf, out, net, second, request.names.get(2)),
         Command::Batch => {
-            let files = BatchFiles {
-                net: request.names.name(0),
-                list: request.names.name(1),
-            };
+            let files = BatchFiles { net, list: second };
             batch(rt, alloc, shelf, out, files, request, gate)
         }
-        Command::Sweep => sweep(
-            rt,
-            alloc,
-            shelf,
-            out,
-            request.names.name(0),
-            request.names.name(1),
-        ),
-        Command::SweepSolve => {
-            sweepsolve(rt, alloc, shelf, out, request.names.name(0), request, gate)
-        }
-        Command::Hops => hops(alloc, shelf, out, request.names.name(0), request),
-        Command::Throughput => throughput_of(alloc, shelf, out, request.names.name(0), request),
-        Command::CheckHops => checkhops(
-            alloc,
-            shelf,
-            out,
-            request.names.name(0),
-            request.names.name(1),
-        ),
-        Command::CheckThroughput => checkthroughput(
-            alloc,
-            shelf,
-            out,
-            request.names.name(0),
-            request.names.name(1),
-        ),
-        Command::Print => print(alloc, shelf, out, request.names.name(0)),
+        Command::Sweep => sweep(rt, alloc, shelf, out, net, second),
+        Command::SweepSolve => sweepsolve(rt, alloc, shelf, out, net, request, gate),
+        Command::Hops => hops(alloc, shelf, out, net, request),
+        Command::Throughput => throughput_of(alloc, shelf, out, net, request),
+        Command::CheckHops => checkhops(alloc, shelf, out, net, second),
+        Command::CheckThroughput => checkthroughput(alloc, shelf, out, net, second),
+        Command::Print => print(alloc, shelf, out, net),
         Command::Gen => gen_net(alloc, out, request),
         Command::Trial => trial(rt, alloc, out, request, gate),
-        Command::WhatIf => whatif_files(
-            alloc,
-            shelf,
-            out,
-            request.names.name(0),
-            request.names.name(1),
-            request.names.name(2),
-        ),
+        Command::WhatIf => whatif_files(alloc, shelf, out, net, second, file(request, 2)),
     }
 }
 

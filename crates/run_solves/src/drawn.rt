@@ -22,7 +22,7 @@ use mcf_base::{Gate, Sink, WriteFault, write_all_of};
 use mcf_words::Request;
 use net_gen::{drawn_networks_are_scaled, generate};
 use net_solve::{Solving, carried_amount, route_count, solve_rows, total_amount};
-use run_base::{Ended, Found, Outcome, net_rows, tell, verdict_status, verdict_word};
+use run_base::{Ended, Found, Outcome, end_of, net_rows, tell, verdict_status, verdict_word};
 use sndlib_rows::RawNet;
 use std::alloc::{AllocError, Global};
 use std::thread::Threads;
@@ -47,10 +47,7 @@ fn drawn_text(alloc: Global, numbers: &[u64; 4]) -> Result<String, AllocError>
 fn write_drawn<K: Sink>(text: &str, out: &mut K) -> Ended
     ensures { Writes (K.seen out.old) (K.seen out.new) result (text_answer text.now) }
 {
-    match write_all_of(out, text.as_bytes()) {
-        Ok(()) => Ended::told(0),
-        Err(_) => Ended::told(5),
-    }
+    end_of(write_all_of(out, text.as_bytes()), 0, Found::nothing())
 }
 
 /// Writes the network that is drawn by the numbers of the request.
@@ -110,13 +107,8 @@ fn tell_trial<K: Sink>(links: u64, net: &Net, solved: Solved, out: &mut K) -> En
     ensures { Writes (K.seen out.old) (K.seen out.new) result (trial_line links net.now solved) }
 {
     let status = verdict_status(solved.proof().closed);
-    match write_trial(links, net, &solved, out) {
-        Ok(()) => Ended {
-            status,
-            found: Found::solve(solved),
-        },
-        Err(_) => Ended::told(5),
-    }
+    let written = write_trial(links, net, &solved, out);
+    end_of(written, status, Found::solve(solved))
 }
 
 // Solves the network of the rows, and writes the line of what came of it. They are drawn rows, which are never refused.

@@ -14,10 +14,9 @@ use cert_lines::{Form, Names};
 use cert_writer::write_cert;
 use flow_solver::Solved;
 use mcf_base::{Gate, Shelf, Sink};
-use mcf_limits::MAX_NET_BYTES;
 use mcf_words::Request;
 use net_solve::{Asked, Solving, solve_rows, solved_can_be_written};
-use run_base::{Ended, FileKind, Found, Outcome, file_text, net_rows, tell, verdict_status};
+use run_base::{Ended, Found, Outcome, end_of, net_in, tell, verdict_status};
 use sndlib_rows::RawNet;
 use std::alloc::Global;
 use std::thread::Threads;
@@ -30,13 +29,8 @@ fn write_solved<K: Sink>(raw: &RawNet<'_>, net: &Scaled, solved: Solved, out: &m
     ensures { Writes (K.seen out.old) (K.seen out.new) result (solve_answer raw.now net.now solved) }
 {
     let status = verdict_status(solved.proof().closed);
-    match write_cert(&Names::new(raw, net, Form::Second), solved.proof(), out) {
-        Ok(()) => Ended {
-            status,
-            found: Found::solve(solved),
-        },
-        Err(_) => Ended::told(5),
-    }
+    let written = write_cert(&Names::new(raw, net, Form::Second), solved.proof(), out);
+    end_of(written, status, Found::solve(solved))
 }
 
 // Writes the certificate of a solve of the rows.
@@ -97,11 +91,8 @@ pub fn solve_file<F: Shelf, K: Sink, G: Gate, R: Threads + Sync>(
     ensures { IsTold (OfSolve name.now request.now (F.seen shelf.old) (F.seen shelf.new))
         (K.seen out.old) (K.seen out.new) result }
 {
-    let text = match file_text(alloc, shelf, name, MAX_NET_BYTES, FileKind::Network) {
-        Ok(text) => text,
-        Err(outcome) => return tell(out, outcome),
-    };
-    match net_rows(alloc, &text) {
+    let mut text = Vec::new(alloc);
+    match net_in(alloc, shelf, name, &mut text) {
         Ok(raw) => solve_and_tell(rt, alloc, &raw, request, out, gate),
         Err(outcome) => tell(out, outcome),
     }

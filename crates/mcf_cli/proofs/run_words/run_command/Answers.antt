@@ -13,54 +13,54 @@ pub returns-in-Check : goal.returns-in-Check
 returns-in-Check g c =
     let told = c.check.ensures in
     let of : OfCheck (file_at c.args.request.now 0) (file_at c.args.request.now 1) (g.F.Shelf.seen c.args.shelf.now) (g.F.Shelf.seen c.check.new.shelf) told.0 =
-    rw (c.name-in-Check.ensures, c.name-in-Check-2.ensures) at told.1 in
+    rw (c.file-net.ensures, c.file-second.ensures) at told.1 in
     rw c.in-Check.is (told.0, of, told.2)
 
 pub returns-in-Upgrade : goal.returns-in-Upgrade
 returns-in-Upgrade g c =
     let told = c.upgrade.ensures in
     let of : OfUpgrade (file_at c.args.request.now 0) (file_at c.args.request.now 1) (g.F.Shelf.seen c.args.shelf.now) (g.F.Shelf.seen c.upgrade.new.shelf) told.0 =
-    rw (c.name-in-Upgrade.ensures, c.name-in-Upgrade-2.ensures) at told.1 in
+    rw (c.file-net.ensures, c.file-second.ensures) at told.1 in
     rw c.in-Upgrade.is (told.0, of, told.2)
 
 pub returns-in-Tighten : goal.returns-in-Tighten
 returns-in-Tighten g c =
     let told = c.tighten.ensures in
     let of : OfTighten (file_at c.args.request.now 0) (file_at c.args.request.now 1) (file_if c.args.request.now 2) (g.F.Shelf.seen c.args.shelf.now) (g.F.Shelf.seen c.tighten.new.shelf) told.0 =
-    rw (c.name-in-Tighten.ensures, c.name-in-Tighten-2.ensures, c.get.ensures) at told.1 in
+    rw (c.file-net.ensures, c.file-second.ensures, c.get.ensures) at told.1 in
     rw c.in-Tighten.is (told.0, of, told.2)
 
 pub returns-in-Batch : goal.returns-in-Batch
 returns-in-Batch g c =
     let told = c.batch.ensures in
     let of : OfBatch (file_at c.args.request.now 0) (file_at c.args.request.now 1) c.args.request.now (g.F.Shelf.seen c.args.shelf.now) (g.F.Shelf.seen c.batch.new.shelf) told.0 =
-    rw (c.name-in-Batch.ensures, c.name-in-Batch-2.ensures) at told.1 in
+    rw (c.file-net.ensures, c.file-second.ensures) at told.1 in
     rw c.in-Batch.is (told.0, of, told.2)
 
 pub returns-in-Sweep : goal.returns-in-Sweep
 returns-in-Sweep g c =
     let told = c.sweep.ensures in
     let of : OfSweep (file_at c.args.request.now 0) (file_at c.args.request.now 1) (g.F.Shelf.seen c.args.shelf.now) (g.F.Shelf.seen c.sweep.new.shelf) told.0 =
-    rw (c.name-in-Sweep.ensures, c.name-in-Sweep-2.ensures) at told.1 in
+    rw (c.file-net.ensures, c.file-second.ensures) at told.1 in
     rw c.in-Sweep.is (told.0, of, told.2)
 
 pub returns-in-CheckHops : goal.returns-in-CheckHops
 returns-in-CheckHops g c =
     let told = c.checkhops.ensures in
     let of : OfCheckHops (file_at c.args.request.now 0) (file_at c.args.request.now 1) (g.F.Shelf.seen c.args.shelf.now) (g.F.Shelf.seen c.checkhops.new.shelf) told.0 =
-    rw (c.name-in-CheckHops.ensures, c.name-in-CheckHops-2.ensures) at told.1 in
+    rw (c.file-net.ensures, c.file-second.ensures) at told.1 in
     rw c.in-CheckHops.is (told.0, of, told.2)
 
 pub returns-in-CheckThroughput : goal.returns-in-CheckThroughput
 returns-in-CheckThroughput g c =
     let told = c.checkthroughput.ensures in
     let of : OfCheckThroughput (file_at c.args.request.now 0) (file_at c.args.request.now 1) (g.F.Shelf.seen c.args.shelf.now) (g.F.Shelf.seen c.checkthroughput.new.shelf) told.0 =
-    rw (c.name-in-CheckThroughput.ensures, c.name-in-CheckThroughput-2.ensures) at told.1 in
+    rw (c.file-net.ensures, c.file-second.ensures) at told.1 in
     rw c.in-CheckThroughput.is (told.0, of, told.2)
 
 pub returns-in-WhatIf : goal.returns-in-WhatIf
 returns-in-WhatIf g c =
     let told = c.whatif_files.ensures in
     let of : OfWhatIf (file_at c.args.request.now 0) (file_at c.args.request.now 1) (file_at c.args.request.now 2) (g.F.Shelf.seen c.args.shelf.now) (g.F.Shelf.seen c.whatif_files.new.shelf) told.0 =
-    rw (c.name-in-WhatIf.ensures, c.name-in-WhatIf-2.ensures, c.name-in-WhatIf-3.ensures) at told.1 in
+    rw (c.file-net.ensures, c.file-second.ensures, c.file.ensures) at told.1 in
     rw c.in-WhatIf.is (told.0, of, told.2)

@@ -1,15 +1,18 @@
-use Rattle.std.proofs.Common.{◌≡◌, inl, inr, refl}
-use Rattle.run_base.specs.Answer.{answer_of}
+use Rattle.std.proofs.Common.{◌≡◌, inr, refl}
+use Rattle.run_base.specs.Answer.{Answer}
 use Rattle.run_base.specs.Files.{Ends}
-use Rattle.run_base.proofs.Chain.{rows_came}
+use Rattle.run_base.proofs.Chain.{no_net_told, rows_end}
+use Rattle.run_base.proofs.Ending.{ends_as}
+use Rattle.sndlib_grammar.specs.Rows.{NetRows}
 use Rattle.run_solves.specs.Print.{printed}
 use Rattle.run_solves.proofs.printing.print.Goals as goal
 
-pub returns-in-Err : goal.returns-in-Err
-returns-in-Err g c = (answer_of c.in-Err.outcome, inl c.in-Err.ensures, c.tell.ensures)
+pub returns : goal.returns
+returns g c =
+    no_net_told c.args.name.now (λ rows. Ends (λ given. given ≡ printed rows)) _ _ _ _ _ c.in-Err.outcome c.in-Err.ensures.rows c.tell.ensures
 
-pub returns-in-Ok-net_rows : goal.returns-in-Ok-net_rows
-returns-in-Ok-net_rows g c =
-    let came = rows_came c.args.name.now (λ rows. Ends (λ given. given ≡ printed rows)) _ _ _ _ c.in-Ok-net_rows.raw _ c.in-Ok.ensures.0 c.in-Ok.ensures.1
-    (rw c.deref.ensures.value at c.in-Ok-net_rows.ensures.rows) (refl, inr refl) in
-    (printed c.in-Ok-net_rows.raw, came, c.write_rows.ensures)
+pub returns-in-Ok : goal.returns-in-Ok
+returns-in-Ok g c =
+    let raw = c.in-Ok.raw in
+    let writes = ends_as _ _ _ c.print_net.result 0 c.nothing.result (printed raw) refl c.nothing.ensures c.end_of.ensures c.print_net.ensures in
+    rows_end c.args.name.now (λ (rows : NetRows) (given : Answer). given ≡ printed rows) _ _ _ _ _ raw c.in-Ok.ensures.rows.0 c.in-Ok.ensures.rows.1 (printed raw, inr refl, writes)
