@@ -91,7 +91,8 @@ def _mode(path: str, data: bytes) -> str:
 def _converted(paths: list[str], options: dict[str, Any]) -> tuple[bytes, tuple[str, ...]]:
     """The network text of files of any format, and what the converter says of it."""
     said = io.StringIO()
-    asked = {_OPTIONS[name]: number_of(value, name) if name in ("gravity", "scale") else value for name, value in options.items() if value is not None}
+    given = {name: value for name, value in options.items() if value is not None}
+    asked = {_OPTIONS[name]: number_of(value, name) if name in ("gravity", "scale") else value for name, value in given.items()}
     with in_memory([b""]) as (number,):
         target = f"/proc/self/fd/{number}"
         try:
