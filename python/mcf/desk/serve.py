@@ -65,8 +65,7 @@ def serve(desk: Desk, works: Works, ways: Ways) -> int:
     gate = Gate(lambda address: _say(f"{address} (for another browser)"))
     server = _bound(Guard(Server(desk, works).app.wsgi_app, gate), ways.port)
     gate.port = int(server.effective_port)
-    served = threading.Thread(target=_run, args=(server, desk), daemon=True)
-    served.start()
+    threading.Thread(target=_run, args=(server, desk), daemon=True).start()
     try:
         _announce(gate, ways)
         if not desk.certificates:
