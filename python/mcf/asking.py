@@ -136,8 +136,9 @@ def _by_tool(tool: str, words: list[str], network: Network, timeout: float | Non
     """What a tool wrote of a network, and what it said beside; McfError with its line where it has no answer."""
     ended, paths = run_tool(tool, [*words, "--mcf", program_path()], [network.data], timeout)
     if ended.status not in (0, 1) or not ended.out:
-        why, words_told = (ended.trouble or f"{tool} ended with status {ended.status}").replace(paths[0], "the network"), f" ({tool} --help has the words)"
-        raise Usage(why.removesuffix(words_told)) if why.endswith(words_told) else McfError(why)
+        why = (ended.trouble or f"{tool} ended with status {ended.status}").replace(paths[0], "the network")
+        usage = why.removesuffix(f" ({tool} --help has the words)")
+        raise McfError(why) if usage == why else Usage(usage)
     lines = ended.err.decode("utf-8", "replace").splitlines()
     return ended.out, tuple(line.removeprefix(f"{tool}: ") for line in lines if line.startswith(f"{tool}: "))
 

@@ -87,7 +87,7 @@ def _option_word(name: str, value: object) -> str:
     if isinstance(value, str):
         return value
     if isinstance(value, bool) or not isinstance(value, SupportsIndex):
-        raise Usage(f"{name} is a whole number, and not {brief(value, repr)}" if name in WHOLE else f"{name} is a str, and not {brief(value, repr)}")
+        raise Usage(f"{name} is a {'whole number' if name in WHOLE else 'str'}, and not {brief(value, repr)}")
     return str(operator.index(value))
 
 

@@ -190,7 +190,7 @@ class Network:
         ValueError as in `from_frames`, for an unknown id, and for {}, which may mean either.
         """
         if isinstance(demands, Mapping) and not demands:
-            raise ValueError("demands: {} has neither pairs nor ids, so it may mean none at all, or no change: an empty frame means none at all")
+            raise ValueError("demands: {} has neither pairs nor ids, so it may mean none at all or no change: an empty frame means none")
         if isinstance(demands, Mapping) and not any(isinstance(key, tuple) for key in demands):
             wanted = self._numbers(demands, [demand.id for demand in self.rows.demands], "demand")
             rows = tuple(replace(row, unit="1", value=wanted[row.id]) if row.id in wanted else row for row in self.rows.demands)
@@ -318,7 +318,8 @@ class Network:
         return asking.what_if(self, certificate, edits, timeout)
 
     def tighten(self, *certificates: Certificate | Path, timeout: float | None = None) -> Certificate:
-        """The best certificate that one or more of this network, or those of paths, give together, with the bounds of cuts that they point to."""
+        """The best certificate that one or more of this network, or those of paths, give together, with the bounds of cuts that they
+        point to."""
         return asking.tightened(self, certificates, timeout)
 
     def check(self, certificate: Answer | Path, *, timeout: float | None = None) -> Judgement:

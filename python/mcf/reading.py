@@ -3,6 +3,7 @@
 from __future__ import annotations
 
 import io
+import re
 from dataclasses import replace
 from typing import Any
 
@@ -24,7 +25,7 @@ from .tokens import NATIVE
 _OPTIONS = {"capacity": "capacity", "capacity_default": "missing", "unit": "unit", "from_unit": "from_unit", "round": "decimals",
             "merge": "merge", "gravity": "gravity", "scale": "scale"}
 _CHOICES = {"unit": (*UNITS, None), "from_unit": (*UNITS, None), "round": (*range(MAX_DECIMALS + 1), None), "merge": (True, False)}
-_ONE_WAY = "links are one way"
+_TOOL_WORD = re.compile(rf"--({'|'.join(name.replace('_', '-') for name in sorted(_OPTIONS, reverse=True))})\b( (?=[NX]\b))?")
 
 
 def read_files(paths: list[str], options: dict[str, Any]) -> Network:
@@ -35,10 +36,9 @@ def read_files(paths: list[str], options: dict[str, Any]) -> Network:
         _require_readable(path)
     if len(paths) == 1 and not options and data.startswith(NATIVE):
         return _of_text(data, paths[0])
-    converted, notes = _converted(paths, options)
-    mode = "directed" if any(_ONE_WAY in note for note in notes) else "undirected"
-    network = _of_text(converted, paths[0])
-    return replace(network, notes=notes, mode=mode if network.mode == "undirected" else network.mode)
+    data, notes, one_way = _converted(paths, options)
+    network = _of_text(data, paths[0], converted=True)
+    return replace(network, notes=notes, mode="directed" if one_way and network.mode == "undirected" else network.mode)
 
 
 def _require_options(options: dict[str, Any]) -> None:
@@ -70,11 +70,13 @@ def _contents(path: str) -> bytes:
         raise ReadFault(f"{path}: {error.strerror}") from None
 
 
-def _of_text(data: bytes, path: str) -> Network:
-    """The network of a network text, whose rows the proved program reads."""
+def _of_text(data: bytes, path: str, converted: bool = False) -> Network:
+    """The network of a network text, whose rows the proved program reads; what is refused is a line of that text."""
     try:
         rows = read_network(ask("print", {"net": data}).text)
     except Refused as refused:
+        if converted:
+            raise
         raise Refused(refused.kind, path, refused.line, refused.sentence, f"{path}: {refused.said}") from None
     return Network(rows, _mode(path, data), (), data)
 
@@ -88,16 +90,23 @@ def _mode(path: str, data: bytes) -> str:
     return said if said in ("directed", "bidirected") else "undirected"
 
 
-def _converted(paths: list[str], options: dict[str, Any]) -> tuple[bytes, tuple[str, ...]]:
-    """The network text of files of any format, and what the converter says of it."""
+def _by_options(sentence: str) -> str:
+    """What the converter says, with the words of its command line as the options of `mcf.read`."""
+    named = _TOOL_WORD.sub(lambda word: word[1].replace("-", "_") + ("=" if word[2] else ""), sentence)
+    return named.replace(" (--from FORMAT says which it is)", "")
+
+
+def _converted(paths: list[str], options: dict[str, Any]) -> tuple[bytes, tuple[str, ...], bool]:
+    """The network text of files of any format, what the converter says of it, and whether its links are one way."""
     said = io.StringIO()
-    asked = {_OPTIONS[name]: number_of(value, name) if name in ("gravity", "scale") else value for name, value in options.items() if value is not None}
+    given = {name: value for name, value in options.items() if value is not None}
+    asked = {_OPTIONS[name]: number_of(value, name) if name in ("gravity", "scale") else value for name, value in given.items()}
     with in_memory([b""]) as (number,):
         target = f"/proc/self/fd/{number}"
         try:
-            convert(Task(paths, target, written="net", **asked), Notes(said))
+            made = convert(Task(paths, target, written="net", **asked), Notes(said))
         except NoNetwork as refused:
             sentence = one_line(str(refused))
             file, line = place_of(sentence, paths)
-            raise Refused("convert", file or paths[0], line, sentence, "") from None
-        return _contents(target), tuple(said.getvalue().splitlines())
+            raise Refused("convert", file or paths[0], line, _by_options(sentence), "") from None
+        return _contents(target), tuple(said.getvalue().splitlines()), made.one_way

@@ -267,6 +267,22 @@ def test_an_option_of_read_that_cannot_be_is_refused(root: Path, options: dict[s
         mcf.read(root / "examples/alps.graphml", **options)
 
 
+def test_what_is_missing_is_named_by_the_options_of_read(root: Path, tmp_path: Path) -> None:
+    with pytest.raises(mcf.Refused, match="has no capacity: capacity_default=X gives it X$"):
+        mcf.read(root / "examples/alps.graphml")
+    (tmp_path / "links.csv").write_text("source,target,capacity\nA,B,0.12345678\n")
+    with pytest.raises(mcf.Refused, match=r"\(round=N rounds it\)$"):
+        mcf.read(tmp_path / "links.csv")
+    with pytest.raises(mcf.Refused, match="no format that is known here$"):
+        mcf.read(root / "examples/triangle.cert")
+
+
+def test_the_name_of_a_file_says_nothing_of_its_links(program: Program, tmp_path: Path) -> None:
+    (tmp_path / "links are one way.csv").write_bytes(b"\xef\xbb\xbfsource,target,capacity\nA,B,1\n")
+    network = mcf.read(tmp_path / "links are one way.csv")
+    assert any("links are one way.csv" in note for note in network.notes) and network.mode == "undirected"
+
+
 def test_options_of_read_that_are_none_are_as_if_they_were_not_given(program: Program, root: Path) -> None:
     plain = {"unit": None, "from_unit": None, "round": None, "merge": False, "gravity": None, "scale": None, "capacity": None}
     assert mcf.read(root / "examples/alps.graphml", capacity_default="10G", **plain) == mcf.read(root / "examples/alps.graphml", capacity_default="10G")

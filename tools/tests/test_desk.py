@@ -356,7 +356,9 @@ def test_drawn_edits_have_the_bounds_of_the_command_line(program: Program, tmp_p
         if drawn.random() < 0.2 and state.script():
             (tmp_path / "script").write_text(state.script())
             said = ask(program, "whatif", net, cert, tmp_path / "script")
-            assert state.settle() and state.bounds.line == said == ask(program, "whatif", net, cert, save)
+            assert state.settle() and said == ask(program, "whatif", net, cert, save)
+            # (edits that cancel each other leave the line of check, which has the same bounds)
+            assert as_shown(state.bounds.line) == as_shown(said)
 
 
 def test_without_a_file_the_last_line_has_the_edits(program: Program):

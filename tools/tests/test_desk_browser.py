@@ -158,6 +158,31 @@ def test_another_tab_shows_the_same_and_the_last_edit_wins(view: View):
         driver.switch_to.window(first)
 
 
+EDIT = 'return fetch("/edit", {method: "POST", body: new URLSearchParams({link: arguments[0], what: "double"})}).then((answer) => answer.status)'
+"""An edit that the page knows nothing of, as of another tab."""
+
+
+def test_a_click_on_a_page_that_is_behind_brings_all_of_it_up(view: View):
+    before, milan = bounds(view), link(view, "Milan-Verona")
+    # (a click before the page asks for news)
+    click = 'document.querySelector("svg [data-link]").dispatchEvent(new MouseEvent("click", {bubbles: true}))'
+    edit = EDIT.replace("=> answer.status)", f"=> {{ {click}; return answer.status; }})")
+    assert view.driver.execute_script(edit, milan) == 200
+    wait(lambda: view.text("edits").startswith("Milan-Verona") and bounds(view) != before)
+    assert view.find("#link-title").get_attribute("data-link") == view.find("svg [data-link]").get_attribute("data-link")
+
+
+def test_what_is_typed_stays_and_the_words_round_it_follow(view: View):
+    milan = link(view, "Milan-Verona")
+    view.choose("Milan-Verona").type("#capacity", "123")
+    assert view.driver.execute_script(EDIT, milan) == 200
+    wait(lambda: "capacity 200 (in the file 100)" in view.text("link"))
+    field = view.find("#capacity")
+    assert field.get_attribute("value") == "123" and field == view.driver.switch_to.active_element
+    view.click("Set it")
+    assert "capacity 123 (in the file 100)" in view.text("link")
+
+
 def test_all_is_done_by_the_keyboard_and_has_a_name(view: View):
     from selenium.webdriver import ActionChains, Keys
 

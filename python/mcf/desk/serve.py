@@ -25,6 +25,7 @@ from .state import Desk
 from .works import Works
 
 CONNECTIONS = 1000
+FILES = 4096
 IDLE_SECONDS = 10
 LINES = {413: "a request has at most 1 MB: nothing was changed", 431: "the head of this request is too long: nothing was changed"}
 
@@ -64,8 +65,7 @@ def serve(desk: Desk, works: Works, ways: Ways) -> int:
     gate = Gate(lambda address: _say(f"{address} (for another browser)"))
     server = _bound(Guard(Server(desk, works).app.wsgi_app, gate), ways.port)
     gate.port = int(server.effective_port)
-    served = threading.Thread(target=_run, args=(server, desk), daemon=True)
-    served.start()
+    threading.Thread(target=_run, args=(server, desk), daemon=True).start()
     try:
         _announce(gate, ways)
         if not desk.certificates:
@@ -90,11 +90,11 @@ def _run(server: Any, desk: Desk) -> None:
 
 def _bound(app: Guard, port: int) -> Any:
     """A server on the loopback address alone; connections on which nothing comes are closed soon, so nobody keeps others out by them."""
-    _allow_connections()
+    most = _allowed_connections()
     try:
         server = create_server(
             app, host="127.0.0.1", port=port, threads=8, ident=None, max_request_body_size=MOST_BYTES, max_request_header_size=1 << 16,
-            connection_limit=CONNECTIONS, channel_timeout=IDLE_SECONDS, cleanup_interval=1, asyncore_use_poll=True,
+            connection_limit=most, channel_timeout=IDLE_SECONDS, cleanup_interval=1, asyncore_use_poll=True,
             clear_untrusted_proxy_headers=True)
     except OSError as fault:
         raise TextError(f"port {port} of 127.0.0.1: {fault.strerror or fault}").at(kind="usage") from None
@@ -102,12 +102,13 @@ def _bound(app: Guard, port: int) -> Any:
     return server
 
 
-def _allow_connections() -> None:
-    """Lets the process have as many open files as connections and certificates need, if the system allows it."""
+def _allowed_connections() -> int:
+    """How many connections there may be, beside the files of certificates and children; the system is asked for room for them."""
     soft, hard = resource.getrlimit(resource.RLIMIT_NOFILE)
-    wanted = 4 * CONNECTIONS if hard == resource.RLIM_INFINITY else min(hard, 4 * CONNECTIONS)
+    wanted = FILES if hard == resource.RLIM_INFINITY else min(hard, FILES)
     if soft != resource.RLIM_INFINITY and soft < wanted:
         resource.setrlimit(resource.RLIMIT_NOFILE, (wanted, hard))
+    return min(CONNECTIONS, max(100, wanted - 400))
 
 
 def _announce(gate: Gate, ways: Ways) -> None:
