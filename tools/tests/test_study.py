@@ -261,6 +261,15 @@ def test_options_that_mean_nothing_for_a_routing_are_said(tmp_path: Path, progra
                                 "study: --paths means nothing for the routing hops"]
 
 
+def test_how_links_are_read_is_said_where_the_file_says_more(tmp_path: Path, program: Program) -> None:
+    commented = net_file(tmp_path, TRIANGLE.replace("LINKS (", "# directed links\nLINKS ("), "c.net")
+    said = net_file(tmp_path, TRIANGLE.replace("NODES (", "META (\n  links = directed\n)\nNODES ("), "m.net")
+    assert ran(tmp_path, commented, program=program)[1] == (
+        f"study: links are read as undirected; a comment in line 7 of {commented} says directed: --links directed reads them so\n")
+    assert ran(tmp_path, said, program=program)[1] == f"study: links are read as directed, as {said} says\n"
+    assert ran(tmp_path, commented, "--links", "directed", program=program)[1] == "" == ran(tmp_path, net_file(tmp_path), program=program)[1]
+
+
 # -- what is kept
 
 
