@@ -299,6 +299,11 @@ class HopCertificate(Certificate):
 
     kind = "hops"
 
+    @property
+    def upper(self) -> Fraction:
+        """The fraction of every demand that no routing within these limits exceeds; others may."""
+        return super().upper
+
 
 class TotalCertificate(Certificate):
     """A certificate of the greatest total: each demand is carried in part. `lower` and `upper` are totals in the network's unit."""

@@ -168,7 +168,7 @@ def test_a_link_without_capacity_is_no_other_link_that_may_get_more(program: Pro
         (tmp_path / "net").write_text(text.replace("CAP", size))
         found.append(figures((tmp_path / "net").read_text(), program.solve(tmp_path / "net", "--workers", "1")))
     assert [row.link for row in found[0].bottleneck] == ["L1"] and found[0].upper == Fraction(1, 2) and found[1].lower > found[0].upper
-    assert "However much capacity all other links get that have some, no routing carries more than the upper fraction" in page_of(found[0])
+    assert "However much more all other links get that have capacity already, no routing carries more than the upper fraction" in page_of(found[0])
 
 
 def test_a_routing_takes_no_bound_of_one_with_hop_limits() -> None:

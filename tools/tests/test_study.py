@@ -261,6 +261,15 @@ def test_options_that_mean_nothing_for_a_routing_are_said(tmp_path: Path, progra
                                 "study: --paths means nothing for the routing hops"]
 
 
+def test_how_links_are_read_is_said_where_the_file_says_more(tmp_path: Path, program: Program) -> None:
+    commented = net_file(tmp_path, TRIANGLE.replace("LINKS (", "# directed links\nLINKS ("), "c.net")
+    said = net_file(tmp_path, TRIANGLE.replace("NODES (", "META (\n  links = directed\n)\nNODES ("), "m.net")
+    assert ran(tmp_path, commented, program=program)[1] == (
+        f"study: links are read as undirected; a comment in line 7 of {commented} says directed: --links directed reads them so\n")
+    assert ran(tmp_path, said, program=program)[1] == f"study: links are read as directed, as {said} says\n"
+    assert ran(tmp_path, commented, "--links", "directed", program=program)[1] == "" == ran(tmp_path, net_file(tmp_path), program=program)[1]
+
+
 # -- what is kept
 
 
@@ -275,9 +284,13 @@ class Counted:
         script.chmod(0o755)
         self.program = Program(str(script))
 
+    def runs(self, command: str) -> int:
+        """How often a command ran."""
+        return self._log.read_text().split().count(command) if self._log.exists() else 0
+
     def solves(self) -> int:
-        """How many there were."""
-        return self._log.read_text().split().count("solve") if self._log.exists() else 0
+        """How many solves there were."""
+        return self.runs("solve")
 
 
 def test_the_same_command_does_nothing_and_a_wider_one_what_is_new(tmp_path: Path, program: Program) -> None:
@@ -406,6 +419,21 @@ def test_a_row_that_is_damaged_is_one_line(tmp_path: Path, column: str, value: o
     assert done.returncode == 2 and done.stderr.startswith("study: study.db: is damaged (") and done.stderr.count("\n") == 1 and not done.stdout
 
 
+def test_what_is_kept_is_judged_again_without_a_solve(tmp_path: Path, program: Program) -> None:
+    counted, words = Counted(tmp_path, program), (net_file(tmp_path, BRIDGE), "--failures", "links", "--without-cut")
+    rows(tmp_path, *words, "--keep", program=counted.program)
+    solves, checks = counted.runs("solve"), counted.runs("check")
+    rows(tmp_path, *words, "--recheck", program=counted.program)
+    # (of one scenario the rest is judged too)
+    assert (counted.runs("solve"), counted.runs("check")) == (solves, checks + 4)
+    rows(tmp_path, *words, "--recheck", program=counted.program)
+    assert counted.runs("check") == checks + 4
+    with sqlite3.connect(tmp_path / "study.db") as base:
+        base.execute("UPDATE rows SET rechecked = 0, lower = '1/1000' WHERE lower <> '0'")
+    _, why = ran(tmp_path, *words, "--recheck", program=program, status=2)
+    assert ", bounds 1/1000 and " in why and ", and the check here 'valid closed undirected largest lower " in why
+
+
 def test_bounds_that_contradict_each_other_are_damage(tmp_path: Path) -> None:
     plan, path = plan_of(read_network(TRIANGLE), [INTACT]), tmp_path / "s.db"
     store, one = Store(str(path)), next(iter(plan))
@@ -425,9 +453,13 @@ def test_what_arrives_is_judged_again(tmp_path: Path, program: Program) -> None:
     row = store.rows([scenario.key], certificates=True)[scenario.key].row
     tasks = run.Left(plan, store, Wanted(True, False, True), program.path, {row.key: scenario})
     run._recheck(row, tasks, place)
-    for false in (replace(row.found, line=row.found.line.replace("lower 4", "lower 5")), replace(row.found, certificate=b"nothing")):
+    for false in (replace(row.found, line=row.found.line.replace("lower 4", "lower 5")), replace(row.found, certificate=b"nothing"),
+                  replace(row.found, lower="2"), replace(row.found, upper="3/2"), replace(row.found, verdict="open"), replace(row.found, certificate=None)):
         with pytest.raises(TextError, match="the check here"):
             run._recheck(replace(row, found=false), tasks, place)
+    for false_row in (replace(row, cut=("A_to_B",)), replace(row, left_out=("A_to_C",)), replace(row, rest=row.found, cut=("A_to_C",))):
+        with pytest.raises(TextError, match="the check here that these are none and none"):
+            run._recheck(false_row, tasks, place)
 
 
 def test_a_file_that_is_no_store_is_refused(tmp_path: Path, program: Program) -> None:

@@ -2,6 +2,7 @@
 
 from __future__ import annotations
 
+import asyncio
 import contextlib
 import logging
 import os
@@ -113,7 +114,8 @@ class Staff:
     @property
     def there(self) -> set[object]:
         """The names of the workers that the scheduler knows."""
-        return {worker["name"] for worker in self.cluster.scheduler_info["workers"].values()}
+        # (a list first: the loop of the cluster changes it meanwhile)
+        return {worker["name"] for worker in list(self.cluster.scheduler_info["workers"].values())}
 
     def mend(self) -> None:
         """Replaces the workers that are away for long; called again and again."""
@@ -131,7 +133,6 @@ class Staff:
 
     async def _replace(self, lost: list[object]) -> None:
         """New workers in the place of these; on the loop of the cluster."""
-        import asyncio
         for name in lost:
             self.cluster.worker_spec.pop(name, None)
             self.cluster.workers.pop(name, None)

@@ -3,19 +3,20 @@
 from __future__ import annotations
 
 import zlib
-from collections.abc import Callable, Iterator
+from collections.abc import Callable, Iterator, Sequence
 from dataclasses import dataclass, field, replace
 from itertools import islice
 
 from tqdm import tqdm
 
 from ..errors import TextError
+from ..given import name_of
 from ..network import read_network, write_network
 from .children import Ended, Program, program
 from .engine import Engine, Gone, engine_of
 from .scenarios import Change, Changed, Plan, Scenario, changed, demands_of, packed
 from .store import Due, Store, Wanted
-from .work import Found, Job, Row, Task, judged
+from .work import FAILED, Found, Job, Row, Task, cut_off, judged
 
 _AT_ONCE = 2000
 
@@ -77,10 +78,12 @@ def parts(plan: Plan) -> Iterator[list[Scenario]]:
 
 def run(plan: Plan, store: Store, wanted: Wanted, place: Place, say: Callable[[str], None]) -> None:
     """Does what is left of a study. TextError where it cannot go on; what was done stands in the store."""
+    store.keep_texts([(plan.ground.digest, plan.ground.text)])
+    if wanted.recheck:
+        _judge_kept(plan, store, wanted, place)
     left = sum(1 for _ in _left(plan, store, wanted))
     if not left:
         return
-    store.keep_texts([(plan.ground.digest, plan.ground.text)])
     tasks = Left(plan, store, wanted, place.program)
     with tqdm(total=left, unit=" scenarios", disable=True if place.quiet else None, smoothing=0.05) as bar:
         with engine_of(min(place.jobs, left), place.scheduler, place.program, say) as engine:
@@ -88,6 +91,15 @@ def run(plan: Plan, store: Store, wanted: Wanted, place: Place, say: Callable[[s
                 _work(engine, tasks, left, place, bar)
             except Gone as why:
                 raise TextError(f"{why}; what was done stands in {store.path}") from None
+
+
+def _judge_kept(plan: Plan, store: Store, wanted: Wanted, place: Place) -> None:
+    """Judges here what is kept and lacks nothing else, so that nothing of it is solved again."""
+    tasks = Left(plan, store, wanted, place.program)
+    for part in parts(plan.once()):
+        for scenario in store.unchecked(part, wanted):
+            tasks.sent[scenario.key] = scenario
+            _take([store.rows([scenario.key], certificates=True)[scenario.key].row], tasks, place)
 
 
 def _work(engine: Engine, tasks: Left, left: int, place: Place, bar: tqdm[None]) -> None:
@@ -111,19 +123,29 @@ def _recheck(row: Row, tasks: Left, place: Place) -> None:
     """Judges what a worker handed over by the program of this machine; TextError where it says something else."""
     scenario, mcf = tasks.sent[row.key], program(place.here)
     network = network_of(tasks.store, tasks.plan.ground.digest, scenario.matrix.digest, scenario.change)
+    who = f"scenario {row.key}: {row.place or 'a worker'} says"
+    cut = cut_off(network.network, tasks.plan.asked) if row.found.lower else row.cut
+    if (row.left_out, row.cut) != (network.left_out, cut):
+        raise TextError(f"{who} that demands {_named(row.cut)} have no way and {_named(row.left_out)} are left out, and the check here that these "
+                        f"are {_named(cut)} and {_named(network.left_out)}")
     for found, one in ((row.found, network.network), (row.rest, network.without(row.cut))):
-        if found is not None and found.certificate is not None:
-            line = _line(mcf, write_network(one), found)
-            if line != found.line:
-                raise TextError(f"scenario {row.key}: {row.place or 'a worker'} says {found.line!r}, and the check here {line!r}")
+        if found is not None and (found.lower or found.upper or found.certificate is not None):
+            here = _judged_here(mcf, write_network(one), found)
+            if here != replace(found, certificate=None):
+                raise TextError(f"{who} {found.line!r}, bounds {found.lower} and {found.upper or 'none'}, and the check here {here.line!r}")
 
 
-def _line(mcf: Program, text: str, found: Found) -> str:
+def _named(demands: Sequence[str]) -> str:
+    """Some demands by their names."""
+    return ", ".join(map(name_of, demands)) or "none"
+
+
+def _judged_here(mcf: Program, text: str, found: Found) -> Found:
     """What the check of this machine says of a certificate."""
     try:
-        return judged(mcf, text.encode("latin-1"), zlib.decompress(found.certificate or b"")).line
+        return replace(judged(mcf, text.encode("latin-1"), zlib.decompress(found.certificate or b"")), certificate=None)
     except (Ended, zlib.error) as why:
-        return str(why)
+        return Found(FAILED, str(why))
 
 
 def network_of(store: Store, ground: str, matrix: str, change: Change) -> Changed:

@@ -12,7 +12,7 @@ import sqlite3
 import zlib
 from collections.abc import Iterable, Iterator, Sequence
 from contextlib import contextmanager
-from dataclasses import dataclass
+from dataclasses import dataclass, replace
 from fractions import Fraction
 from pathlib import Path
 
@@ -195,6 +195,15 @@ class Store:
         found = ((scenario, *states.get(scenario.key, (False, False, False))) for scenario in scenarios)
         keep = wanted.keep or wanted.recheck
         return [Due(scenario, keep or has, wanted.without_cut or rest) for scenario, done, has, rest in found if not done]
+
+    def unchecked(self, scenarios: Sequence[Scenario], wanted: Wanted) -> list[Scenario]:
+        """The scenarios that lack nothing but that their certificates, which are kept, be judged again."""
+        due = f"{_is_done(replace(wanted, keep=True, recheck=False))} AND verdict <> '{REFUSED}' AND NOT rechecked"
+        found: set[str] = set()
+        for part in _parts([scenario.key for scenario in scenarios]):
+            with self._told():
+                found |= {key for key, in self._base.execute(f"SELECT key FROM rows WHERE key IN ({', '.join('?' * len(part))}) AND {due}", part)}
+        return [scenario for scenario in scenarios if scenario.key in found]
 
     def rows(self, keys: Sequence[str], certificates: bool = False) -> dict[str, Kept]:
         """The rows of these keys, without their certificates unless these are wanted."""

@@ -63,6 +63,8 @@ def _network(path: str, program: str) -> Network:
 def planned(words: Words, network: Network, store: Store) -> Plan:
     """The plan that words ask for; the matrices are kept in the store."""
     mode = words.links or network.mode
+    if words.links is None:
+        _tell_links(words.net, network)
     fibres = Fibres(network.rows, words.fibres)
     fibres.require(mode)
     more = groups(network.rows, read_groups(words.groups, network.rows), fibres) if words.groups else []
@@ -75,6 +77,16 @@ def planned(words: Words, network: Network, store: Store) -> Plan:
     for name, routing in asked.unused(words.routing):
         say(f"--{name} means nothing for the routing {routing}")
     return Plan(Ground.of(network.rows), matrices, changes, words.routing, asked, words.grow)
+
+
+def _tell_links(path: str, network: Network) -> None:
+    """Says how links are read, where the file says another way than the usual one, or a comment of it mentions one."""
+    source = native.read_network("the network", network.data, Notes(quiet=True))
+    if source.links_mode not in (None, "undirected"):
+        say(f"links are read as {network.mode}, as {path} says")
+    elif source.links_mode is None and source.mentioned and source.mentioned[1] != network.mode:
+        line, word = source.mentioned
+        say(f"links are read as {network.mode}; a comment in line {line} of {path} says {word}: --links {word} reads them so")
 
 
 def _matrices(words: Words, network: Network, store: Store) -> list[Matrix]:
