@@ -18,7 +18,7 @@ use matrix_batch::{BatchEnd, Matrix, read_batch};
 use mcf_base::{Gate, Shelf, Sink};
 use mcf_limits::{MAX_LIST_BYTES, MAX_NET_BYTES};
 use mcf_words::Request;
-use run_base::{Ended, FileKind, Outcome, file_text, net_rows, tell};
+use run_base::{Ended, FileKind, Found, Outcome, end_of, file_text, net_rows, tell};
 use sndlib_rows::RawNet;
 use std::alloc::Global;
 use std::thread::Threads;
@@ -70,10 +70,7 @@ fn write_answer<K: Sink>(out: &mut K, status: u8, texts: &[Vec<u8>]) -> Ended
     ensures { Writes (K.seen out.old) (K.seen out.new) result
         (record { status = status; text = joined texts.now; found = nothing }) }
 {
-    match write_texts(out, texts) {
-        Ok(()) => Ended::told(status),
-        Err(_) => Ended::told(5),
-    }
+    end_of(write_texts(out, texts), status, Found::nothing())
 }
 
 // Writes what there is of each matrix, and ends with the status of the solves. All texts are made before the first is written.

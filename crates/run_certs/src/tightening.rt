@@ -12,14 +12,17 @@ ghost use Rattle.run_base.specs.Answer.{IsTold, OrWant, Writes};
 ghost use Rattle.run_base.specs.Files.{Ends, OfFile};
 ghost use Rattle.run_certs.specs.Tighten.{OfFirst, OfTighten, OnFirst, OnSecond, WritesBest, best_answer, go_both_ways};
 
-use cert_judge::{Certified, Second, read_certificate, read_second};
+use cert_judge::{Second, read_second};
 use cert_lines::{Form, Names};
 use cert_writer::write_cert;
 use cut_bound::tightened;
 use flow_paths::Proof;
 use mcf_base::{Shelf, Sink};
-use mcf_limits::{MAX_CERT_BYTES, MAX_NET_BYTES};
-use run_base::{Ended, FileKind, Outcome, file_text, net_rows, tell, verdict_status};
+use mcf_limits::MAX_CERT_BYTES;
+use run_base::{
+    Ended, FileKind, Found, Outcome, certificate_in, end_of, file_text, net_in, tell,
+    verdict_status,
+};
 use sndlib_rows::RawNet;
 use std::alloc::Global;
 use std::thread::Threads;
@@ -48,10 +51,8 @@ fn write_best<K: Sink>(rows: &RawNet<'_>, net: &Scaled, best: &Proof, out: &mut 
     requires fits { FitsProof (sheet_of rows.now net.now) best.now }
     ensures { Writes (K.seen out.old) (K.seen out.new) result (best_answer rows.now net.now best.now) }
 {
-    match write_cert(&Names::new(rows, net, Form::Second), best, out) {
-        Ok(()) => Ended::told(verdict_status(best.closed)),
-        Err(_) => Ended::told(5),
-    }
+    let written = write_cert(&Names::new(rows, net, Form::Second), best, out);
+    end_of(written, verdict_status(best.closed), Found::nothing())
 }
 
 // Writes the best certificate that one or two valid ones give.
@@ -143,16 +144,11 @@ fn tighten_on<F: Shelf, K: Sink, R: Threads + Sync>(
     ensures { IsTold (OfFirst rows.now cert.now (option_map (λ w. w.now) second.entry)
         (F.seen shelf.old) (F.seen shelf.new)) (K.seen out.old) (K.seen out.new) result }
 {
-    let text = match file_text(alloc, shelf, cert, MAX_CERT_BYTES, FileKind::Certificate) {
-        Ok(text) => text,
-        Err(outcome) => return tell(out, outcome),
-    };
-    match read_certificate(alloc, rows, &text) {
-        Ok(Certified::Valid(net, proof)) => {
+    match certificate_in(alloc, shelf, rows, cert) {
+        Ok((net, proof)) => {
             tighten_first(rt, alloc, shelf, out, rows, First { net, proof }, second)
         }
-        Ok(Certified::Said(judged)) => tell(out, Outcome::Judged(judged)),
-        Err(_) => tell(out, Outcome::Memory),
+        Err(outcome) => tell(out, outcome),
     }
 }
 
@@ -170,11 +166,8 @@ pub fn tighten<F: Shelf, K: Sink, R: Threads + Sync>(
     ensures { IsTold (OfTighten net.now cert.now (option_map (λ w. w.now) second.entry)
         (F.seen shelf.old) (F.seen shelf.new)) (K.seen out.old) (K.seen out.new) result }
 {
-    let text = match file_text(alloc, shelf, net, MAX_NET_BYTES, FileKind::Network) {
-        Ok(text) => text,
-        Err(outcome) => return tell(out, outcome),
-    };
-    match net_rows(alloc, &text) {
+    let mut text = Vec::new(alloc);
+    match net_in(alloc, shelf, net, &mut text) {
         Ok(rows) => tighten_on(rt, alloc, shelf, out, &rows, cert, second),
         Err(outcome) => tell(out, outcome),
     }

@@ -6,13 +6,11 @@ ghost use Rattle.cert_writer.specs.Text.{FitsProof};
 ghost use Rattle.run_base.specs.Answer.{IsTold, Writes};
 ghost use Rattle.run_certs.specs.Upgrade.{OfUpgrade, OfUpgraded, upgraded};
 
-use cert_judge::{Certified, read_certificate};
 use cert_lines::{Form, Names};
 use cert_writer::write_cert;
 use flow_paths::Proof;
 use mcf_base::{Shelf, Sink};
-use mcf_limits::{MAX_CERT_BYTES, MAX_NET_BYTES};
-use run_base::{Ended, FileKind, Outcome, file_text, net_rows, tell};
+use run_base::{Ended, Found, certificate_in, end_of, net_in, tell};
 use sndlib_rows::RawNet;
 use std::alloc::Global;
 use unit_scale::Scaled;
@@ -23,10 +21,8 @@ fn write_upgraded<K: Sink>(rows: &RawNet<'_>, net: &Scaled, proof: &Proof, out: 
     requires fits { FitsProof (sheet_of rows.now net.now) proof.now }
     ensures { Writes (K.seen out.old) (K.seen out.new) result (upgraded rows.now net.now proof.now) }
 {
-    match write_cert(&Names::new(rows, net, Form::Second), proof, out) {
-        Ok(()) => Ended::told(0),
-        Err(_) => Ended::told(5),
-    }
+    let written = write_cert(&Names::new(rows, net, Form::Second), proof, out);
+    end_of(written, 0, Found::nothing())
 }
 
 // Writes the certificate of that name in form 2 where it is valid, and what else is said of it.
@@ -41,14 +37,9 @@ fn upgrade_on<F: Shelf, K: Sink>(
     ensures { IsTold (OfUpgraded rows.now cert.now (F.seen shelf.old) (F.seen shelf.new))
         (K.seen out.old) (K.seen out.new) result }
 {
-    let text = match file_text(alloc, shelf, cert, MAX_CERT_BYTES, FileKind::Certificate) {
-        Ok(text) => text,
-        Err(outcome) => return tell(out, outcome),
-    };
-    match read_certificate(alloc, rows, &text) {
-        Ok(Certified::Valid(net, proof)) => write_upgraded(rows, &net, &proof, out),
-        Ok(Certified::Said(judged)) => tell(out, Outcome::Judged(judged)),
-        Err(_) => tell(out, Outcome::Memory),
+    match certificate_in(alloc, shelf, rows, cert) {
+        Ok((net, proof)) => write_upgraded(rows, &net, &proof, out),
+        Err(outcome) => tell(out, outcome),
     }
 }
 
@@ -64,11 +55,8 @@ pub fn upgrade<F: Shelf, K: Sink>(
     ensures { IsTold (OfUpgrade net.now cert.now (F.seen shelf.old) (F.seen shelf.new))
         (K.seen out.old) (K.seen out.new) result }
 {
-    let text = match file_text(alloc, shelf, net, MAX_NET_BYTES, FileKind::Network) {
-        Ok(text) => text,
-        Err(outcome) => return tell(out, outcome),
-    };
-    match net_rows(alloc, &text) {
+    let mut text = Vec::new(alloc);
+    match net_in(alloc, shelf, net, &mut text) {
         Ok(rows) => upgrade_on(alloc, shelf, out, &rows, cert),
         Err(outcome) => tell(out, outcome),
     }

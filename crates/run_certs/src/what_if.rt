@@ -11,12 +11,11 @@ ghost use Rattle.run_base.specs.Answer.{IsTold, Writes, text_answer};
 ghost use Rattle.run_base.specs.Files.{Ends, Finds, OfFile};
 ghost use Rattle.run_certs.specs.WhatIf.{OfWhatIf, OnScript, scripted_answer};
 
-use cert_judge::{Certified, read_certificate};
 use flow_paths::Proof;
 use mcf_base::{Shelf, Sink};
-use mcf_limits::{MAX_CERT_BYTES, MAX_NET_BYTES, MAX_SCRIPT_BYTES};
+use mcf_limits::MAX_SCRIPT_BYTES;
 use net_whatif::{Scripted, read_script, write_shown};
-use run_base::{Ended, FileKind, Outcome, file_text, net_rows, tell};
+use run_base::{Ended, FileKind, Found, Outcome, certificate_in, end_of, file_text, net_in, tell};
 use script::Script;
 use sndlib_rows::RawNet;
 use std::alloc::Global;
@@ -58,21 +57,14 @@ fn scripted_files<F: Shelf>(
         (F.seen shelf.new) result }
     ensures run { IfOk result CanRun }
 {
-    let net_text = file_text(alloc, shelf, net, MAX_NET_BYTES, FileKind::Network)?;
-    let rows = match net_rows(alloc, &net_text) {
+    let mut text = Vec::new(alloc);
+    let rows = match net_in(alloc, shelf, net, &mut text) {
         Ok(rows) => rows,
         Err(outcome) => return Err(outcome),
     };
-    let text = match file_text(alloc, shelf, cert, MAX_CERT_BYTES, FileKind::Certificate) {
-        Ok(text) => text,
-        Err(outcome) => return Err(outcome),
-    };
-    match read_certificate(alloc, &rows, &text) {
-        Ok(Certified::Valid(net, proof)) => scripted_file(
-            alloc, &rows, &net, &proof, shelf, script,
-        ),
-        Ok(Certified::Said(judged)) => Err(Outcome::Judged(judged)),
-        Err(_) => Err(Outcome::Memory),
+    match certificate_in(alloc, shelf, &rows, cert) {
+        Ok((net, proof)) => scripted_file(alloc, &rows, &net, &proof, shelf, script),
+        Err(outcome) => Err(outcome),
     }
 }
 
@@ -82,10 +74,7 @@ fn write_lines<K: Sink>(plan: Plan, script: &Script, out: &mut K) -> Ended
     ensures { Writes (K.seen out.old) (K.seen out.new) result
         (text_answer (shown_text script.now.mode plan script.now.steps)) }
 {
-    match write_shown(plan, script, out) {
-        Ok(()) => Ended::told(0),
-        Err(_) => Ended::told(5),
-    }
+    end_of(write_shown(plan, script, out), 0, Found::nothing())
 }
 
 /// Writes what the script in the third file shows of the certificate in the second on the network in the first.

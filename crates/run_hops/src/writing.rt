@@ -15,9 +15,8 @@ use crate::solving::{HopSolving, solve_hop_rows};
 use cert_lines::{Form, Names};
 use hop_check::HopProof;
 use mcf_base::{Shelf, Sink};
-use mcf_limits::MAX_NET_BYTES;
 use mcf_words::Request;
-use run_base::{Ended, FileKind, Found, Outcome, file_text, net_rows, tell, verdict_status};
+use run_base::{Ended, Found, Outcome, end_of, net_in, tell, verdict_status};
 use run_texts::write_hops;
 use sndlib_rows::RawNet;
 use std::alloc::Global;
@@ -30,13 +29,8 @@ fn write_fitting<K: Sink>(rows: &RawNet<'_>, net: &Scaled, h: HopProof, out: &mu
     ensures { Writes (K.seen out.old) (K.seen out.new) result (hops_answer rows.now net.now h) }
 {
     let status = verdict_status(h.proof.closed);
-    match write_hops(&Names::new(rows, net, Form::Second), &h, out) {
-        Ok(()) => Ended {
-            status,
-            found: Found::hop_proof(h),
-        },
-        Err(_) => Ended::told(5),
-    }
+    let written = write_hops(&Names::new(rows, net, Form::Second), &h, out);
+    end_of(written, status, Found::hop_proof(h))
 }
 
 // Writes the certificate of a run on the network of the rows.
@@ -85,11 +79,8 @@ pub fn hops<F: Shelf, K: Sink>(
     ensures { IsTold (OfHops net.now request.now (F.seen shelf.old) (F.seen shelf.new))
         (K.seen out.old) (K.seen out.new) result }
 {
-    let text = match file_text(alloc, shelf, net, MAX_NET_BYTES, FileKind::Network) {
-        Ok(text) => text,
-        Err(outcome) => return tell(out, outcome),
-    };
-    match net_rows(alloc, &text) {
+    let mut text = Vec::new(alloc);
+    match net_in(alloc, shelf, net, &mut text) {
         Ok(rows) => solve_and_tell(alloc, &rows, request, out),
         Err(outcome) => tell(out, outcome),
     }
