@@ -7,10 +7,10 @@ use std::io::ErrorKind;
 use std::process::ExitCode;
 use std::{env, io};
 
-/// The status where the words of the command line find no memory.
+// The status where the words of the command line find no memory.
 const MEMORY: u8 = 6;
 
-/// The status where the words cannot be had for another cause.
+// The status where the words cannot be had for another cause.
 const NO_WORDS: u8 = 7;
 
 fn words(rt: &HostRuntime) -> io::Result<Vec<String>> {

@@ -55,12 +55,12 @@ OfCommand CheckThroughput request old new answer =
 OfCommand WhatIf request old new answer =
     OfWhatIf (file_at request 0) (file_at request 1) (file_at request 2) old new answer
 
--- usage exactly where the words ask for nothing, and else the answer of the command; want of memory alone is free
+-- usage exactly where the words ask for nothing, and else the answer of the command; memory alone may run out at any time
 abbrev pub OfRequest : Option Request → ShelfView → ShelfView → Answer → Type 0
 OfRequest None old new answer = Ends (λ given. given ≡ answer_of Usage) old new answer
 OfRequest (Some request) old new answer = OfCommand request.command request old new answer
 
--- the answer to the words, or want of memory before any file was started
+-- the answer to the words, or out of memory before any file was started
 abbrev pub IsAnswer : List (List ℕ) → ShelfView → ShelfView → Answer → Type 0
 IsAnswer words old new answer = OrMemory (OfRequest (request_of words)) old new answer
 

@@ -75,7 +75,7 @@ answer_of outcome = line_answer (status_of outcome) (words_of outcome)
 abbrev pub judged_answer : Judged → Answer
 judged_answer judged = answer_of (outcomes.Judged judged)
 
--- want of memory, or such an answer
+-- out of memory, or such an answer
 abbrev pub OrWant : (Answer → Type 0) → Answer → Type 0
 OrWant Of answer = (answer ≡ answer_of outcomes.Memory) ⊎ Of answer
 

@@ -25,11 +25,11 @@ pub record AreTextRows (rows : NetRows) : Type 0 where
   pub well : AreNetRows rows
   pub counted : rows.skipped ≤ MAX_COUNT
 
--- no file is started any more: want of memory, or such an answer
+-- no file is started any more: out of memory, or such an answer
 abbrev pub Ends : (Answer → Type 0) → ShelfView → ShelfView → Answer → Type 0
 Ends Of old new answer = (new ≡ old) × OrWant Of answer
 
--- want of memory before the next file is started, or what follows
+-- out of memory before the next file is started, or what follows
 abbrev pub OrMemory : (ShelfView → ShelfView → Answer → Type 0) → ShelfView → ShelfView → Answer → Type 0
 OrMemory Of old new answer = ((answer ≡ answer_of Memory) × (new ≡ old)) ⊎ Of old new answer
 
@@ -62,7 +62,7 @@ abbrev pub GivesText : ℕ → FileKind → List ℕ → ShelfView → ShelfView
 GivesText limit kind name old new (Ok text) = IsText limit old.holds name text.items × (new ≡ with_file old name)
 GivesText limit kind name old new (Err outcome) = GivesNone limit kind name old new (answer_of outcome)
 
--- the rows of a text, or the outcome that ends the run: want of memory, or its refusal
+-- the rows of a text, or the outcome that ends the run: out of memory, or its refusal
 abbrev pub GivesRows : List ℕ → Result NetRows Outcome → Type 0
 GivesRows text (Ok rows) = rows_of text ≡ Ok rows
 GivesRows text (Err outcome) = (outcome ≡ Memory) ⊎ ((r : NetRefusal) × (rows_of text ≡ Err r) × (outcome ≡ NetRefused r))

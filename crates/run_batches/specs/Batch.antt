@@ -73,7 +73,7 @@ OfList request rows list old new answer =
 abbrev pub OfBatch : List ℕ → List ℕ → Request → ShelfView → ShelfView → Answer → Type 0
 OfBatch net list request old new answer = OfNet net (λ rows. OfList request rows list) old new answer
 
--- the solves, or the outcome that ends the run: want of memory, or work over its limit
+-- the solves, or the outcome that ends the run: out of memory, or work over its limit
 abbrev pub GivesSolves : NetOptions → BatchAsked → List Matrix → Result (Vec SolvedView) Outcome → Type 0
 GivesSolves o asked batch (Ok many) = AreBatchSolves o asked batch many.items
 GivesSolves o asked batch (Err outcome) =

@@ -69,8 +69,8 @@ fn solve_each<G: Gate, R: Threads + Sync>(
 
 /// For each matrix, in the batch's order, a solve of its network with one worker, which starts no thread of its own. Matrices
 /// are handed out one at a time to as many threads as there are processors, at least two and at most 16, its caller's among them,
-/// and it may wait for its own threads. A matrix for which memory is lacking is tried once more when all others are done; `Err`
-/// is for want of memory then. The gate is passed after each claim of each solve.
+/// and the call waits for them. A matrix for which memory ran out is tried once more when all others are done; `Err`: memory ran
+/// out there too. The gate is passed after each claim of each solve.
 pub fn solve_batch<G: Gate, R: Threads + Sync>(
     rt: &R,
     alloc: Global,

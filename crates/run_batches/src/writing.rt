@@ -90,7 +90,7 @@ fn each_text<R: Threads + Sync>(
 }
 
 /// For each matrix, in the batch's order, the line `matrix` with its name, and the text of its certificate. They are made in
-/// several threads, and it may wait for them. `Err` is for want of memory.
+/// several threads, for which the call waits. `Err`: out of memory.
 pub fn texts_of<R: Threads + Sync>(
     rt: &R,
     alloc: Global,

@@ -19,14 +19,14 @@ use Rattle.run_base.specs.Judged.{verdict_word}
 use Rattle.run_base.specs.Answer.{Answer, answer_of}
 use Rattle.run_solves.specs.Solve.{asked_of}
 
--- the text that is drawn from the seed, with so many nodes, links and demands
+-- the text that is drawn from the seed, with these numbers of nodes, links and demands
 abbrev pub text_drawn : List ℕ → List ℕ
 text_drawn numbers = generated_text (slice_index numbers 0) (slice_index numbers 1) (slice_index numbers 2) (slice_index numbers 3)
 
 abbrev pub gen_answer : List ℕ → Answer
 gen_answer numbers = record { status = 0; text = text_drawn numbers; found = nothing }
 
--- the size of the network, which has so many links, the sum of its amounts, the phases, how often a commodity was routed,
+-- the size of the network, whose number of links is given, the sum of its amounts, the phases, how often a commodity was routed,
 -- the sum of all path weights, and the verdict
 abbrev pub trial_words : ℕ → Network → SolvedView → Line
 trial_words links net s =

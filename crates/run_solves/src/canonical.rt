@@ -12,10 +12,10 @@ use mcf_base::{Sink, WriteFault};
 use sndlib_rows::RawNet;
 use text_lines::Buffer;
 
-/// The first line, and the line that opens the nodes.
+// The first line, and the line that opens the nodes.
 const NODES: &[u8] = b"?SNDlib native format; type: network; version: 1.0\nNODES (\n";
 
-/// The line that closes the nodes, and the one that opens the links.
+// The line that closes the nodes, and the one that opens the links.
 const LINKS: &[u8] = b")\nLINKS (\n";
 
 const DEMANDS: &[u8] = b")\nDEMANDS (\n";
