@@ -7,8 +7,8 @@ ghost use Rattle.run_parts.specs.Check.{OfCheckThroughput};
 use crate::judging::judge_part;
 use cert_judge::Judged;
 use mcf_base::{Shelf, Sink};
-use mcf_limits::{MAX_CERT_BYTES, MAX_NET_BYTES};
-use run_base::{Ended, FileKind, Outcome, file_text, net_rows, tell};
+use mcf_limits::MAX_CERT_BYTES;
+use run_base::{Ended, FileKind, Outcome, file_text, net_in, tell};
 use std::alloc::Global;
 
 // What is said of the second file on the network in the first.
@@ -21,8 +21,8 @@ fn judged_files<F: Shelf>(
     ensures { Finds judged_answer (OfCheckThroughput net.now cert.now)
         (F.seen shelf.old) (F.seen shelf.new) result }
 {
-    let net_text = file_text(alloc, shelf, net, MAX_NET_BYTES, FileKind::Network)?;
-    let rows = match net_rows(alloc, &net_text) {
+    let mut net_text = Vec::new(alloc);
+    let rows = match net_in(alloc, shelf, net, &mut net_text) {
         Ok(rows) => rows,
         Err(outcome) => return Err(outcome),
     };

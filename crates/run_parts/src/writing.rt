@@ -13,9 +13,8 @@ use crate::laws::parts_can_be_written;
 use crate::solving::{PartSolving, solve_part_rows};
 use cert_lines::{Form, Names};
 use mcf_base::{Shelf, Sink};
-use mcf_limits::MAX_NET_BYTES;
 use mcf_words::Request;
-use run_base::{Ended, FileKind, Found, Outcome, file_text, net_rows, tell, verdict_status};
+use run_base::{Ended, Found, Outcome, end_of, net_in, tell, verdict_status};
 use run_texts::write_part;
 use sndlib_rows::RawNet;
 use std::alloc::Global;
@@ -29,13 +28,8 @@ fn write_fitting<K: Sink>(rows: &RawNet<'_>, net: &Scaled, p: PartProof, out: &m
     ensures { Writes (K.seen out.old) (K.seen out.new) result (part_answer rows.now net.now p) }
 {
     let status = verdict_status(p.closed);
-    match write_part(&Names::new(rows, net, Form::Second), &p, out) {
-        Ok(()) => Ended {
-            status,
-            found: Found::part_proof(p),
-        },
-        Err(_) => Ended::told(5),
-    }
+    let written = write_part(&Names::new(rows, net, Form::Second), &p, out);
+    end_of(written, status, Found::part_proof(p))
 }
 
 // Writes the certificate of a run on the network of the rows.
@@ -83,11 +77,8 @@ pub fn throughput_of<F: Shelf, K: Sink>(
     ensures { IsTold (OfThroughput net.now request.now (F.seen shelf.old) (F.seen shelf.new))
         (K.seen out.old) (K.seen out.new) result }
 {
-    let text = match file_text(alloc, shelf, net, MAX_NET_BYTES, FileKind::Network) {
-        Ok(text) => text,
-        Err(outcome) => return tell(out, outcome),
-    };
-    match net_rows(alloc, &text) {
+    let mut text = Vec::new(alloc);
+    match net_in(alloc, shelf, net, &mut text) {
         Ok(rows) => solve_and_tell(alloc, &rows, request, out),
         Err(outcome) => tell(out, outcome),
     }

@@ -9,11 +9,9 @@ ghost use Rattle.run_base.specs.Answer.{IsTold, OrWant, Writes, text_answer};
 ghost use Rattle.run_sweeps.specs.Sweep.{OfSweep, OfSwept, swept, worth_without};
 
 use crate::ids::link_ids;
-use cert_judge::{Certified, read_certificate};
 use flow_paths::Proof;
 use mcf_base::{Shelf, Sink};
-use mcf_limits::{MAX_CERT_BYTES, MAX_NET_BYTES};
-use run_base::{Ended, FileKind, Outcome, file_text, net_rows, tell};
+use run_base::{Ended, Found, Outcome, certificate_in, end_of, net_in, tell};
 use sndlib_rows::RawNet;
 use std::alloc::{AllocError, Global};
 use std::thread::Threads;
@@ -42,10 +40,7 @@ fn write_lines<K: Sink>(out: &mut K, ids: &[&[u8]], bounds: &[Bounds]) -> Ended
     ensures { Writes (K.seen out.old) (K.seen out.new) result
         (text_answer (sweep_text (map (λ id. id.now) ids.now) (map evaluation_of bounds.now))) }
 {
-    match write_sweep(out, ids, bounds) {
-        Ok(()) => Ended::told(0),
-        Err(_) => Ended::told(5),
-    }
+    end_of(write_sweep(out, ids, bounds), 0, Found::nothing())
 }
 
 // Writes a line for each link, once all that it takes memory for is done.
@@ -84,14 +79,9 @@ fn sweep_on<F: Shelf, K: Sink, R: Threads + Sync>(
     ensures { IsTold (OfSwept rows.now cert.now (F.seen shelf.old) (F.seen shelf.new))
         (K.seen out.old) (K.seen out.new) result }
 {
-    let text = match file_text(alloc, shelf, cert, MAX_CERT_BYTES, FileKind::Certificate) {
-        Ok(text) => text,
-        Err(outcome) => return tell(out, outcome),
-    };
-    match read_certificate(alloc, rows, &text) {
-        Ok(Certified::Valid(net, proof)) => tell_swept(rt, alloc, rows, &net, &proof, out),
-        Ok(Certified::Said(judged)) => tell(out, Outcome::Judged(judged)),
-        Err(_) => tell(out, Outcome::Memory),
+    match certificate_in(alloc, shelf, rows, cert) {
+        Ok((net, proof)) => tell_swept(rt, alloc, rows, &net, &proof, out),
+        Err(outcome) => tell(out, outcome),
     }
 }
 
@@ -108,11 +98,8 @@ pub fn sweep<F: Shelf, K: Sink, R: Threads + Sync>(
     ensures { IsTold (OfSweep net.now cert.now (F.seen shelf.old) (F.seen shelf.new))
         (K.seen out.old) (K.seen out.new) result }
 {
-    let text = match file_text(alloc, shelf, net, MAX_NET_BYTES, FileKind::Network) {
-        Ok(text) => text,
-        Err(outcome) => return tell(out, outcome),
-    };
-    match net_rows(alloc, &text) {
+    let mut text = Vec::new(alloc);
+    match net_in(alloc, shelf, net, &mut text) {
         Ok(rows) => sweep_on(rt, alloc, shelf, out, &rows, cert),
         Err(outcome) => tell(out, outcome),
     }

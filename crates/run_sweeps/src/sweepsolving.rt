@@ -13,9 +13,8 @@ ghost use Rattle.run_sweeps.specs.SweepSolve.{GivesSolves, OfSweepSolve, OnSweep
 use crate::ids::link_ids;
 use crate::{SweepAsked, Swept, options_of, sweep_solve, swept_status, write_swept};
 use mcf_base::{Gate, Shelf, Sink};
-use mcf_limits::MAX_NET_BYTES;
 use mcf_words::Request;
-use run_base::{Ended, FileKind, Outcome, file_text, net_rows, tell};
+use run_base::{Ended, Found, Outcome, end_of, net_in, tell};
 use sndlib_rows::RawNet;
 use std::alloc::Global;
 use std::thread::Threads;
@@ -76,10 +75,7 @@ fn write_solves<K: Sink>(out: &mut K, ids: &[&[u8]], swept: &[Swept]) -> Ended
     }) }
 {
     let status = swept_status(swept);
-    match write_swept(out, ids, swept) {
-        Ok(()) => Ended::told(status),
-        Err(_) => Ended::told(5),
-    }
+    end_of(write_swept(out, ids, swept), status, Found::nothing())
 }
 
 // Writes a line for each link, once all that it takes memory for is done.
@@ -143,11 +139,8 @@ pub fn sweepsolve<F: Shelf, K: Sink, G: Gate, R: Threads + Sync>(
     ensures { IsTold (OfSweepSolve name.now request.now (F.seen shelf.old) (F.seen shelf.new))
         (K.seen out.old) (K.seen out.new) result }
 {
-    let text = match file_text(alloc, shelf, name, MAX_NET_BYTES, FileKind::Network) {
-        Ok(text) => text,
-        Err(outcome) => return tell(out, outcome),
-    };
-    match net_rows(alloc, &text) {
+    let mut text = Vec::new(alloc);
+    match net_in(alloc, shelf, name, &mut text) {
         Ok(rows) => sweepsolve_on(rt, alloc, &rows, request, out, gate),
         Err(outcome) => tell(out, outcome),
     }

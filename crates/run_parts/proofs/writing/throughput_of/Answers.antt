@@ -1,16 +1,11 @@
-use Rattle.std.proofs.Common.{inl, refl}
-use Rattle.run_base.specs.Answer.{answer_of}
 use Rattle.run_base.specs.Files.{Ends}
-use Rattle.run_base.proofs.Chain.{rows_came}
+use Rattle.run_base.proofs.Chain.{no_net_told, rows_end}
 use Rattle.run_parts.specs.Parts.{SolvesParts}
 use Rattle.run_parts.proofs.writing.throughput_of.Goals as goal
 
-pub returns-in-Err : goal.returns-in-Err
-returns-in-Err g c = (answer_of c.in-Err.outcome, inl c.in-Err.ensures, c.tell.ensures)
+pub returns : goal.returns
+returns g c = no_net_told c.args.net.now (λ rows. Ends (SolvesParts c.args.request.now rows)) _ _ _ _ _ c.in-Err.outcome c.in-Err.ensures.rows c.tell.ensures
 
-pub returns-in-Ok-net_rows : goal.returns-in-Ok-net_rows
-returns-in-Ok-net_rows g c =
-    let told = c.solve_and_tell.ensures in
-    let came = rows_came c.args.net.now (λ rows. Ends (SolvesParts c.args.request.now rows)) _ _ _ _ c.in-Ok-net_rows.rows _ c.in-Ok.ensures.0 c.in-Ok.ensures.1
-    (rw c.deref.ensures.value at c.in-Ok-net_rows.ensures.rows) (refl, told.1) in
-    (told.0, came, told.2)
+pub returns-in-Ok : goal.returns-in-Ok
+returns-in-Ok g c =
+    rows_end c.args.net.now (SolvesParts c.args.request.now) _ _ _ _ _ c.in-Ok.rows c.in-Ok.ensures.rows.0 c.in-Ok.ensures.rows.1 c.solve_and_tell.ensures

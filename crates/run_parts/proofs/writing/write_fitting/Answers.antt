@@ -1,14 +1,10 @@
-use Rattle.std.proofs.Common.{rules, inl, inr}
 use Rattle.cert_lines.specs.Sheet.{sheet_of}
+use Rattle.run_base.proofs.Ending.{ends_as}
+use Rattle.run_parts.specs.Parts.{part_answer}
 use Rattle.run_parts.proofs.Made.{text_wrote}
 use Rattle.run_parts.proofs.writing.write_fitting.Goals as goal
 
-pub returns-in-Ok : goal.returns-in-Ok
-returns-in-Ok g c =
-    let wrote = text_wrote _ _ c.write_part.result _ (sheet_of c.args.rows.now c.args.net.now) c.args.p c.new.ensures c.write_part.ensures in
-    inl (record { ends = search rules; text = search rules; faults = search rules })
-
-pub returns-in-Err : goal.returns-in-Err
-returns-in-Err g c =
-    let wrote = text_wrote _ _ c.write_part.result _ (sheet_of c.args.rows.now c.args.net.now) c.args.p c.new.ensures c.write_part.ensures in
-    inr (record { ends = search rules; text = search rules; failed = search rules; later = search rules })
+pub returns : goal.returns
+returns g c =
+    let wrote = text_wrote _ _ c.write_part-written.result _ (sheet_of c.args.rows.now c.args.net.now) c.args.p c.new.ensures c.write_part-written.ensures in
+    ends_as _ _ _ c.write_part-written.result c.verdict_status-status.result c.part_proof.result (part_answer c.args.rows.now c.args.net.now c.args.p) c.verdict_status-status.ensures c.part_proof.ensures c.end_of.ensures wrote
