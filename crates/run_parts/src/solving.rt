@@ -16,7 +16,7 @@ use unit_scale::{NetOptions, ScaleEnd, Scaled, scale};
 pub enum PartSolving {
     /// The rows are no network under the options.
     Refused(NetRefusal),
-    /// A budget was given, and with it there would be so many commodities times phases.
+    /// A budget was given, and with it commodities times phases would be this number.
     TooMuch(u64),
     /// The network in units, and the certificate of a run on it.
     Done(Scaled, PartProof),

@@ -31,7 +31,7 @@ sweep_work links commodities phases = links * commodities * sweep_phases links c
 abbrev pub IsSweepTooMuch : ℕ → ℕ → Option ℕ → ℕ → Type 0
 IsSweepTooMuch links commodities phases n = (n ≡ sweep_work links commodities phases) × (MAX_WORK < n)
 
--- the options of the solves of so many links of the network
+-- the options of the solves of `links` links of the network
 abbrev pub sweep_options : ℕ → Network → SweepAsked → SweepOptions
 sweep_options links net a =
     record { gap = a.gap; phases = sweep_phases links (length net.commodities) a.phases; step = a.step }

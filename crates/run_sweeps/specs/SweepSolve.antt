@@ -54,7 +54,7 @@ OnSweepSolve request rows answer = OnScaled rows (sweep_asked_of request) (scale
 abbrev pub OfSweepSolve : List ℕ → Request → ShelfView → ShelfView → Answer → Type 0
 OfSweepSolve name request old new answer = OfNet name (λ rows. Ends (OnSweepSolve request rows)) old new answer
 
--- the solves, or the outcome that ends the run: want of memory, or work over its limit
+-- the solves, or the outcome that ends the run: out of memory, or work over its limit
 abbrev pub GivesSolves : NetRows → SweepAsked → ScaledNet → Result (Vec Swept) Outcome → Type 0
 GivesSolves rows asked net (Ok swept) = AreSolves rows asked net swept.items
 GivesSolves rows asked net (Err outcome) =

@@ -24,7 +24,7 @@ pub record IsSwept (mode : LinkMode) (net : Network) (o : SweepOptions) (link : 
   pub solved : IsSolved (closed mode net link) (alone o) solve
   pub kept : IsKeptOf (closed mode net link) solve.proof s
 
--- one for each of so many links, in their order
+-- one for each of `links` links, in their order
 pub record AreSwept (mode : LinkMode) (net : Network) (o : SweepOptions) (links : ℕ) (swept : List Swept) : Type 0 where
   pub count : length swept ≡ links
   pub each : (link : ℕ) (s : Swept) → slice_get swept link ≡ Some s → IsSwept mode net o link s

@@ -55,7 +55,7 @@ fn default_phases(links: u64, commodities: u64) -> u32
     DEFAULT_PHASES.min(MAX_WORK / (links * commodities)).max(1) as u32
 }
 
-/// The options of the solves of so many links of the network, or how many links times commodities times phases there would
+/// The options of the solves of `links` links of the network, or how many links times commodities times phases there would
 /// be, where that is too much, whether phases were asked for or not. Without links there is no solve, and no work.
 pub fn options_of(links: u16, net: &Net, asked: &SweepAsked) -> Result<SweepOptions, u64>
     requires few { links ≤ MAX_LINKS }

@@ -17,11 +17,11 @@ use std::alloc::{AllocError, Global};
 use std::thread::Threads;
 use unit_scale::LinkMode;
 
-/// For each of so many links, in their order, what is kept of a solve of the network with that link's cells at capacity 0.
+/// For each of `links` links, in their order, what is kept of a solve of the network with that link's cells at capacity 0.
 /// Each solve has one worker, and starts no thread of its own. Links are handed out one at a time to as many threads as there
-/// are processors, at least two and at most 16, its caller's among them, and it may wait for its own threads. Certificates are
-/// given up once their values are taken. A link for which memory is lacking is tried once more when all others are done; `Err` is
-/// for want of memory then. The gate is passed after each claim of each solve.
+/// are processors, at least two and at most 16, the caller's among them, and the call waits for them. Certificates are let go of
+/// once their values are taken. A link for which memory ran out is tried once more when all others are done; `Err`: memory ran
+/// out there too. The gate is passed after each claim of each solve.
 pub fn sweep_solve<G: Gate, R: Threads + Sync>(
     rt: &R,
     alloc: Global,
