@@ -51,6 +51,17 @@ def test_archive_has_what_a_receiver_needs(root: Path, tmp_path: Path) -> None:
     assert here == {name for name in package if not name.startswith(("build/", "release/")) and name != "cli/release.py"} | {"COMMIT"}
 
 
+def test_archive_has_the_program_with_wide_limits_where_it_is_given(root: Path, tmp_path: Path) -> None:
+    top = unpacked(archive(Release(root, STANDS_IN, 0, Path("/bin/false")))[1], tmp_path)
+    assert (top / "program/mcf").read_bytes() == STANDS_IN.read_bytes() and (top / "program/mcf-wide").read_bytes() == Path("/bin/false").read_bytes()
+    for name, status in (("mcf", 0), ("mcf-wide", 1)):
+        said = subprocess.run([str(top / name), "--version"], capture_output=True, text=True, check=True).stdout
+        assert said.startswith(f"{name} {version_of(root)} (")
+        assert subprocess.run([str(top / name), "solve", "net"], check=False, capture_output=True).returncode == status
+    helped = subprocess.run([str(top / "mcf-wide"), "help", "gen"], capture_output=True, text=True, check=True).stdout
+    assert helped.startswith("usage: mcf-wide gen ") and "NODES 2 to 1000," in helped
+
+
 def test_checksums_are_of_every_other_file(root: Path, tmp_path: Path) -> None:
     top = unpacked(archive(Release(root, STANDS_IN, 0))[1], tmp_path)
     sums = {line.split("  ", 1)[1]: line.split("  ", 1)[0] for line in (top / "SHA256SUMS").read_text().splitlines()}

@@ -61,10 +61,10 @@ def release_of(program: Path | None, wide: Path | None) -> Release:
     for file in (found, wide):
         if file and not (file.is_file() and is_program(file)):
             raise TextError(f"{file} is no program for Linux on x86-64").at(str(file), kind="program")
-    if wide is None:
-        jsons.note(f"without {WIDE_NAME}, which was not built of these sources: ./{WIDE_NAME} builds it, or --wide names one", "tools/release")
     release = Release(ROOT, found, commit_seconds(ROOT), wide)
     try_archive(*pack(release), version_of(ROOT))
+    if wide is None:
+        jsons.note(f"without {WIDE_NAME}, which was not built of these sources: ./{WIDE_NAME} builds it, or --wide names one", "tools/release")
     return release
 
 
