@@ -22,6 +22,12 @@ from mcf.release.staged import Release
 from mcf.version import commit_of
 
 STANDS_IN = Path("/bin/true")
+WITHOUT = "tools/release: without mcf-wide, which was not built of these sources: ./mcf-wide builds it, or --wide names one"
+
+
+def said_without(root: Path) -> str:
+    """What is said where the program with wide limits was not built of these sources."""
+    return "" if built_wide_program(root) else f"{WITHOUT}\n"
 
 
 def unpacked(data: bytes, folder: Path) -> Path:
@@ -165,7 +171,8 @@ main()
     ran = subprocess.run(words, capture_output=True, text=True, check=False)
     version = version_of(root)
     assert (ran.returncode, ran.stdout) == (1, f"{tmp_path}/mcf-{version}-x86_64-linux.tar.gz\n")
-    assert ran.stderr == "tools/release: no wheel: Debian's packages are missing: python3-hatchling; tools/setup --tests installs them\n"
+    missing = "tools/release: no wheel: Debian's packages are missing: python3-hatchling; tools/setup --tests installs them\n"
+    assert ran.stderr == said_without(root) + missing
 
 
 @pytest.mark.parametrize("words", [["--mcf", "/no/where"], ["--mcf", "/etc/passwd"]])
@@ -190,8 +197,7 @@ def require_tools_work(top: Path, room: Path) -> None:
 def test_release_of_the_program_works_where_it_is_unpacked(program: Program, root: Path, tmp_path: Path) -> None:
     to = tmp_path / "dist"
     ran = subprocess.run([str(root / "tools/release"), "archive", "--mcf", program.path, "--to", str(to)], capture_output=True, text=True)
-    without = "tools/release: without mcf-wide, which was not built of these sources: ./mcf-wide builds it, or --wide names one\n"
-    assert (ran.returncode, ran.stderr) == (0, "" if built_wide_program(root) else without)
+    assert (ran.returncode, ran.stderr) == (0, said_without(root))
     file = Path(ran.stdout.rstrip("\n"))
     assert subprocess.run(["sha256sum", "--quiet", "-c", f"{file.name}.sha256"], cwd=to).returncode == 0
     (tmp_path / "a folder").mkdir()
