@@ -14,8 +14,9 @@ import pytest
 from mcf import Program
 from mcf.hints.hint import USAGE, hint
 from mcf.hints.netfile import kind_of
-from mcf.hints.table import TABLE
+from mcf.hints.table import table
 from mcf.hints.words import COMMANDS, ONE_WORKER_OPTIONS, OPTIONS, Command, Misfit, read, shown
+from mcf.limits import NARROW, WIDE, Limits
 
 HEADER = b"?SNDlib native format; type: network; version: 1.0\n"
 NET = HEADER + b"""NODES (
@@ -385,25 +386,26 @@ def test_line_has_its_hint(tmp_path: Path, monkeypatch: pytest.MonkeyPatch, word
 
 
 def test_every_row_of_the_table_is_reached() -> None:
-    for row in TABLE:
+    for row in table(NARROW):
         lines = {line for _, _, line, _ in LINES} | {"verdict open", "some link open", "some matrix open", "best open", "total open", "status 1",
                                                  "status 3"}
         assert any(row.line.fullmatch(line) for line in lines), row.line.pattern
 
 
-def test_every_refusal_and_condition_of_the_formats_has_a_row(root: Path) -> None:
+@pytest.mark.parametrize("limits", (NARROW, WIDE))
+def test_every_refusal_and_condition_of_the_formats_has_a_row(root: Path, limits: Limits) -> None:
     text = (root / "docs/judge/formats.md").read_text()
     kinds = re.findall(r"^\| `([NKSCM][0-9]+)` \|", text, re.M)
     assert len(kinds) == len(set(kinds)) == 41 and {kind[0] for kind in kinds} == set("NKSCM")
     of = {"N": "refused net {} line 1", "K": "refused cert {} line 1", "S": "refused script {} line 1", "M": "refused list {} line 1", "C": "invalid {}"}
     for kind in set(kinds) - {"N1"}:
         line = of[kind[0]].format(kind) if kind != "K6" else "refused cert K6 line 5"
-        assert any(row.line.fullmatch(line) for row in TABLE), kind
+        assert any(row.line.fullmatch(line) for row in table(limits)), kind
 
 
 def test_parts_of_the_guide_are_there(root: Path) -> None:
     parts = {int(number) for number in re.findall(r"^## ([0-9]+)\. ", (root / "docs/planner/guide.md").read_text(), re.M)}
-    assert {row.part for row in TABLE} | {1, 10} <= parts
+    assert {row.part for row in table(NARROW)} | {1, 10} <= parts
 
 
 def test_a_pipe_is_not_read_again(tmp_path: Path) -> None:
