@@ -11,7 +11,7 @@ import subprocess
 import sysconfig
 import tempfile
 from collections.abc import Mapping, Sequence
-from dataclasses import dataclass
+from dataclasses import dataclass, field
 from functools import cached_property, lru_cache
 from pathlib import Path
 from typing import TypeVar
@@ -41,7 +41,7 @@ class Answer:
 
     status: int
     text: str
-    program: str = "mcf"
+    program: str = field(default="mcf", repr=False, compare=False)
 
     @property
     def line(self) -> str:
