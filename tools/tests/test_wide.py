@@ -88,7 +88,7 @@ def test_more_demands_than_mcf_takes(program: Program, wide: Program, tmp_path: 
 def test_without_mcf_wide_the_refusal_stands_and_names_it(program: Program, large: Path) -> None:
     answer = program.run("solve", str(large))
     assert (answer.status, answer.line, answer.program) == (3, f"refused net N4 line {large.read_text().splitlines().index('  N512') + 1}", program.path)
-    with pytest.raises(mcf.TextError, match=f"more than {NARROW.nodes} nodes.*mcf-wide takes 1,000 nodes and 1,048,576 demands"):
+    with pytest.raises(mcf.TextError, match=f"more than {NARROW.nodes} nodes.*mcf-wide takes 1,000 nodes, 4,096 links too, and 1,048,576 demands"):
         program.solve(large)
 
 

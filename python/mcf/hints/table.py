@@ -176,7 +176,7 @@ def table(limits: Limits) -> tuple[Row, ...]:
 def _texts_beyond(limits: Limits) -> tuple[Row, ...]:
     """The rows on texts that are beyond the program's limits; of `mcf` they name those of the other program."""
     is_wide = limits == WIDE
-    counts = "" if is_wide else f"; {WIDE_NAME} takes {WIDE.nodes:,} nodes and {WIDE.demands:,} demands"
+    counts = "" if is_wide else f"; {WIDE_NAME} takes {WIDE.nodes:,} nodes, {MAX_LINKS:,} links too, and {WIDE.demands:,} demands"
     size = "" if is_wide else f", or take {WIDE_NAME}, which reads {WIDE.net_bytes >> 20} MiB"
     longer = "" if is_wide else f"; {WIDE_NAME} reads {WIDE.cert_bytes >> 30} GiB"
     return (
