@@ -11,19 +11,19 @@ pub struct PartDual {
     pub dual: Dual,
 }
 
-/// A routing and a bound on the total, and whether they lie within the gap, which is in millionths.
+/// What a certificate of a total says: a routing and a bound, and whether they lie within the gap, which is in millionths.
 #[derive(Drop)]
 pub struct PartProof {
-    /// Whether the upper total is at most the lower one times 1 + gap.
+    /// Whether it says `closed`. In a valid certificate: whether the upper total is at most the lower one times 1 + gap.
     pub closed: bool,
     /// The gap, in millionths.
     pub gap: u64,
     /// The routing.
     pub routing: Routing,
-    /// The total that it carries.
+    /// The lower total. In a valid certificate the routing carries this total.
     pub lower: Printed,
-    /// The total that no routing exceeds.
+    /// The upper total. In a valid certificate no routing carries a larger total.
     pub upper: Printed,
-    /// What shows that.
+    /// The threshold, the lengths and the potentials that show the upper total.
     pub bound: PartDual,
 }
