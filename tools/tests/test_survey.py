@@ -5,6 +5,7 @@ from __future__ import annotations
 import csv
 import dataclasses
 import io
+import json
 import subprocess
 from fractions import Fraction
 from pathlib import Path
@@ -205,6 +206,19 @@ def test_exact_surveys_are_certified(program: Program):
     for row in table(out):
         assert Fraction(row["lower"]) <= CLOSED[row["link"]] <= Fraction(row["upper"])
         assert Fraction(row["upper"]) - Fraction(row["lower"]) <= Fraction(3, 10**6)
+
+
+def test_a_link_whose_capacity_cannot_be_doubled_is_named(program, tmp_path):
+    """Twice 9,000,000.000001 is over the greatest capacity in millionths: the other links are doubled, and this one is named."""
+    net, cert = tmp_path / "large.net", tmp_path / "large.cert"
+    net.write_text(TRIANGLE.replace("AB ( A B ) 10 ", "AB ( A B ) 9000000.000001 "), "ascii")
+    cert.write_text(program.solve(net), "ascii")
+    out, _ = run(net, cert, "--double", "--html", tmp_path / "page.html", "--csv", tmp_path / "rows.csv", program=program, status=1)
+    assert out.endswith("AB (A – B) is not doubled: a capacity is at most 17592186044416 units of 0.000001.\n")
+    assert {row["link"] for row in table((tmp_path / "rows.csv").read_text("ascii"))} == {"AC", "BC"}
+    assert "AB is not doubled" in (tmp_path / "page.html").read_text("utf-8")
+    answer = json.loads(run(net, cert, "--double", "--json", program=program, status=1)[0])
+    assert answer["surveys"][0]["left"] == ["AB"]
 
 
 def test_a_closed_and_a_doubled_link_in_a_script_and_in_a_network():

@@ -44,7 +44,8 @@ columns of --csv: change; link, source, target, capacity; lower and upper fracti
 kept_lower and kept_upper, what the certificate's own paths and bound are still worth; fits: yes, no or open
 rows are by their lower and then by their upper fraction: the least first, and of doublings the greatest
 
-status: 0 all demands fit after each change; 1 after some they do not, or it is not decided; 2 no answer; 130 interrupted
+status: 0 all demands fit after each change; 1 after some they do not, or it is not decided, as of a link that can't be doubled;
+2 no answer; 130 interrupted
 """
 
 
@@ -164,6 +165,8 @@ def surveys_of(words: argparse.Namespace, kinds: list[str], program: Program, ne
             jsons.say(text[0].upper() + text[1:])
     jsons.put(judged=judgement.line, base=base, outputs=[*filter(None, (words.csv, words.html))],
               surveys=lambda: [survey_values(one) for one in surveys], growths=lambda: [growth_values(*one) for one in alone])
+    if any(one.left for one in surveys):
+        return 1
     # (a network without links has no changes; then it counts whether all demands fit as it is)
     return status([case.range for one in surveys for case in one.cases] + [bounds for _, bounds in alone] or [base])
 

@@ -21,6 +21,7 @@ from mcf.network import Network
 
 from ..children import end_all, run
 from ..judged import Judged, judge
+from ..limits import MAX_UNITS
 from ..ranges import Range, in_order
 from ..report.figures import Figures
 
@@ -67,13 +68,14 @@ class Settings:
 
 @dataclass(frozen=True)
 class Survey:
-    """All cases of a kind, in the order in which they matter."""
+    """All cases of a kind, in the order in which they matter; `left` are links whose capacity cannot be doubled within the limits."""
 
     figures: Figures
     kind: str
     base: Range
     cases: tuple[Case, ...]
     settings: Settings
+    left: tuple[Link, ...] = ()
 
 
 @dataclass(frozen=True)
@@ -103,18 +105,24 @@ class Ground:
         """A link's capacity, modules included."""
         return link.installed(self.figures.scaled.modules)
 
+    def may_have(self, capacity: Fraction) -> bool:
+        """Whether a capacity is within the limits of the program, in the network's unit."""
+        return capacity * 10**self.figures.scaled.decimals <= MAX_UNITS
+
 
 def survey(ground: Ground, kind: str, settings: Settings, base: Range) -> Survey:
     """The cases of a kind, `failure` or `double`: failures by what is carried at least, doublings likewise and the greatest first."""
     factor = {"failure": 0, "double": 2}[kind]
-    kept = _kept(ground, kind, factor)
-    routed = list(_routed(ground, factor, kept, settings)) if settings.solves else kept
+    links = tuple(link for link in ground.links if ground.may_have(ground.installed(link) * factor))
+    kept = _kept(ground, kind, links, factor)
+    routed = list(_routed(ground, links, factor, kept, settings)) if settings.solves else kept
     growth = settings.growth
     cases = [
         Case(kind, link, ground.installed(link), old.divided(growth), new.divided(growth))
-        for link, old, new in zip(ground.links, kept, routed)
+        for link, old, new in zip(links, kept, routed)
     ]
-    return Survey(ground.figures, kind, base.divided(growth), in_order(cases, greatest_first=kind == "double"), settings)
+    left = tuple(link for link in ground.links if not ground.may_have(ground.installed(link) * factor))
+    return Survey(ground.figures, kind, base.divided(growth), in_order(cases, greatest_first=kind == "double"), settings, left)
 
 
 def based(ground: Ground, settings: Settings) -> Range:
@@ -132,7 +140,7 @@ def _gap(ground: Ground, settings: Settings) -> Fraction:
     return Fraction(getattr(ground.judgement.content, "gap"), 10**6) if settings.gap is None else settings.gap
 
 
-def _kept(ground: Ground, kind: str, factor: int) -> list[Range]:
+def _kept(ground: Ground, kind: str, links: tuple[Link, ...], factor: int) -> list[Range]:
     """What the certificate is still worth in each case: by `sweep` where the program has it, else by `whatif`.
 
     Both judge the certificate themselves, and each of their lines is proved to hold on the changed network.
@@ -141,7 +149,6 @@ def _kept(ground: Ground, kind: str, factor: int) -> list[Range]:
         swept = _swept(ground, (0,), "sweep", ground.net, ground.certificate)
         if swept:
             return swept
-    links = ground.links
     parts = [links[at : at + AT_ONCE] for at in range(0, len(links), AT_ONCE)]
     return [bounds for part in parts for bounds in _shown(ground, part, factor)]
 
@@ -186,7 +193,7 @@ def _range(words: Iterable[str]) -> Range:
     return Range(Fraction(a, b), Fraction(c, d))
 
 
-def _routed(ground: Ground, factor: int, kept: list[Range], settings: Settings) -> Iterator[Range]:
+def _routed(ground: Ground, links: tuple[Link, ...], factor: int, kept: list[Range], settings: Settings) -> Iterator[Range]:
     """The bounds of each case routed anew; where the old paths are as good already, nothing is solved."""
     gap = _gap(ground, settings)
     if factor == 0 and settings.solver == "solve":
@@ -195,8 +202,8 @@ def _routed(ground: Ground, factor: int, kept: list[Range], settings: Settings) 
     tasks: list[Future[Range] | None] = []
     with ThreadPoolExecutor(settings.jobs) as pool:
         try:
-            for at, old in enumerate(kept):
-                tasks.append(None if old.within(gap) else pool.submit(_solved, ground, at, factor, settings))
+            for link, old in zip(links, kept):
+                tasks.append(None if old.within(gap) else pool.submit(_solved, ground, link, factor, settings))
             for task, old in tqdm(zip(tasks, kept), total=len(tasks), unit="link", disable=True if settings.quiet else None):
                 yield task.result().both(old) if task else old
         except BaseException:
@@ -212,9 +219,9 @@ def _end(pool: ThreadPoolExecutor, tasks: list[Future[Range] | None]) -> None:
         time.sleep(0.05)
 
 
-def _solved(ground: Ground, at: int, factor: int, settings: Settings) -> Range:
+def _solved(ground: Ground, link: Link, factor: int, settings: Settings) -> Range:
     """The bounds of the network with one link changed."""
-    network = changed(ground.figures.scaled.network, at, ground.installed(ground.links[at]) * factor)
+    network = changed(ground.figures.scaled.network, ground.links.index(link), ground.installed(link) * factor)
     return _judged(ground, network, settings)
 
 

@@ -5,7 +5,7 @@ from __future__ import annotations
 from dataclasses import dataclass
 from fractions import Fraction
 
-from mcf import ScaledNetwork
+from mcf import Link, ScaledNetwork
 
 from ..ranges import Answer, Range, fits, least_gain, least_loss
 from ..report import shown
@@ -78,11 +78,14 @@ class Part:
         return drawn(
             figures,
             layout(figures.scaled),
-            lambda row, path: self._line(by_link[links[figures.scaled.cells[row.cell].link].id], path),
+            lambda row, path: self._line(links[figures.scaled.cells[row.cell].link], by_link, path),
         )
 
-    def _line(self, case: Case, path: str) -> Line:
-        """The line of a link."""
+    def _line(self, link: Link, by_link: dict[str, Case], path: str) -> Line:
+        """The line of a link; one that is not doubled is as thin as one that gains nothing."""
+        case = by_link.get(link.id)
+        if case is None:
+            return Line(path, "0", "0", 1.0, f"{shown.name(link.id)} is not doubled")
         change = self.change(case)
         key = CLOSED if case.capacity == 0 else str(sum(change > step for step in STEPS))
         thin = 2.5 if len(self.survey.cases) <= 200 else 1.0

@@ -19,7 +19,7 @@ def survey_values(survey: Survey) -> dict[str, object]:
         "kind": survey.kind, "solver": survey.settings.solver, "growth": survey.settings.growth, "base": survey.base,
         "sentence": sentence(survey),
         "extreme": found and {"links": _links(found.cases), "sure": _links(found.sure), "alone": found.alone, "bounds": found.range},
-        "cases": [_case(case, survey.base) for case in survey.cases]}
+        "cases": [_case(case, survey.base) for case in survey.cases], "left": [name_of(link.id) for link in survey.left]}
 
 
 def _links(cases: Sequence[Case]) -> list[str]:

@@ -5,8 +5,9 @@ from __future__ import annotations
 from collections.abc import Sequence
 from fractions import Fraction
 
-from mcf import TextError, decimal_of, fraction_of, rounded_down, rounded_up
+from mcf import Link, TextError, decimal_of, fraction_of, rounded_down, rounded_up
 
+from ..limits import MAX_UNITS
 from ..names import cell_of
 from ..ranges import Answer, Extreme, Range, best, fits, gains, most_gain, worst
 from ..report.extremes import few, fraction_words, worst_words
@@ -24,10 +25,20 @@ def grown(base: Range, growths: list[Fraction]) -> list[tuple[Fraction, Range]]:
 
 def sentence(survey: Survey) -> str:
     """What the survey found."""
-    if not survey.cases:
+    if not survey.cases and not survey.left:
         return "The network has no links."
+    if not survey.cases:
+        return left_sentence(survey)
     front = f"With all demands times {_plain(survey.settings.growth)}: " if survey.settings.growth != 1 else ""
-    return front + (_failures(survey) if survey.kind == "failure" else _doublings(survey))
+    found = front + (_failures(survey) if survey.kind == "failure" else _doublings(survey))
+    return f"{found} {left_sentence(survey)}" if survey.left else found
+
+
+def left_sentence(survey: Survey) -> str:
+    """Which links are not doubled."""
+    unit = _plain(Fraction(1, 10**survey.figures.scaled.decimals))
+    are = "is" if len(survey.left) == 1 else "are"
+    return f"{_few(survey.left)} {are} not doubled: a capacity is at most {MAX_UNITS} units of {unit}."
 
 
 def _failures(survey: Survey) -> str:
@@ -77,12 +88,12 @@ def _best(found: Extreme[Case]) -> str:
 
 def _titles(cases: Sequence[Case]) -> str:
     """The links of cases, the first few of many."""
-    return few([_title(case) for case in cases])
+    return _few([case.link for case in cases])
 
 
-def _title(case: Case) -> str:
-    """A link with its ends."""
-    return f"{name(case.link.id)} ({name(case.link.source)} – {name(case.link.target)})"
+def _few(links: Sequence[Link]) -> str:
+    """Links with their ends, the first few of many."""
+    return few([f"{name(link.id)} ({name(link.source)} – {name(link.target)})" for link in links])
 
 
 def growth_of(word: str) -> Fraction:
