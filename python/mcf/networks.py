@@ -245,12 +245,13 @@ class Network:
         """Which fraction of every demand can be carried at once: a certificate, which the proved check called valid.
 
         gap: by what part upper may be above lower (0.05); at most six decimals. phases: how often each demand is routed at most, 1 to
-        65,536 (1,000, fewer for many demands). step: 1 to 1,048,576 (8,192). workers: 1 to 16 (1, and 4 from 4,000 demands on); with
-        several, paths depend on the schedule. links: `undirected`, `directed` or `bidirected` (the network's `mode`). modules: `largest`,
-        `none` or `sum` (largest). timeout: in seconds. Whether the gap was met is `.closed`; both bounds hold in any case.
+        65,536 (1,000, fewer for many demands). step: 1 to 1,048,576 (8,192; of `mcf-wide` 524,288). workers: 1 to 16 (1, and 4 from 4,000
+        demands on); with several, paths depend on the schedule. links: `undirected`, `directed` or `bidirected` (the network's `mode`).
+        modules: `largest`, `none` or `sum` (largest). timeout: in seconds, for each run of a program: the solver's, and the check's.
+        Whether the gap was met is `.closed`; both bounds hold in any case.
 
-        Refused where the network has a fault (more than 512 nodes, 4,096 links or 32,768 demands; no demand), Usage where an option is
-        out of its range, and the other errors of `mcf.McfError`.
+        Refused where the network has a fault (no demand; more than 512 nodes, 4,096 links or 32,768 demands, or than `mcf-wide` takes
+        where it is there), Usage where an option is out of its range, and the other errors of `mcf.McfError`.
         """
         options = dict(gap=gap, phases=phases, step=step, workers=workers, links=links, modules=modules)
         return asking.solved(self, Certificate, "solve", options, timeout)
