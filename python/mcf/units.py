@@ -17,6 +17,7 @@ BYTE_WORDS = ("byte", "bytes", "byte/s", "bytes/s", "bytepersec", "bytespersec")
 CARRIERS = {"OC": 51_840_000, "STM": 155_520_000}
 KNOWN = "known are bit/s, b/s, bps and bit, with k, M, G or T in front or these alone, OC-n and STM-n"
 
+_HEAD = re.compile(r"(.*?)[ _]*(?:\(([^()]*)\)|\[([^][]*)\]|(?:^|[ _])([A-Za-z/]+))")
 _CARRIER = re.compile(r"(OC|STM)-?([1-9][0-9]{0,3})c?", re.IGNORECASE)
 
 
@@ -37,6 +38,18 @@ def unit_of(word: str) -> Rate | None:
         if tail in BYTES or tail.lower() in BYTE_WORDS:
             return Rate(8 * size, True)
     return None
+
+
+def of_head(head: str) -> tuple[str, str]:
+    """The name and the unit of a column's head, as of `capacity (Gbit/s)`, `traffic [Mbps]` or `load_gbit`; nothing where it has no unit.
+
+    A unit of one or two letters is none here, since `rate_b` may mean anything.
+    """
+    fitting = _HEAD.fullmatch(head.strip())
+    unit = next(filter(None, fitting.groups()[1:]), "").strip() if fitting else ""
+    if len(unit) < 3 or unit_of(unit) is None:
+        return head, ""
+    return fitting[1] if fitting else head, unit
 
 
 def carrier_of(word: str) -> Rate | None:

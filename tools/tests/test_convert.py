@@ -143,6 +143,22 @@ def test_one_missing_capacity_is_told_alone(tmp_path: Path):
     assert line == "convert: link B-C has no capacity: --capacity-default X gives it X"
 
 
+def test_the_head_of_a_column_has_the_unit_of_its_numbers(tmp_path: Path):
+    links, demands = tmp_path / "l.csv", tmp_path / "d.csv"
+    links.write_text("source,target,capacity (Gbit/s)\nA,B,10\nB,C,2500M\n")
+    demands.write_text("source,target,traffic_mbps\nA,B,250\n")
+    for asked, numbers in ((("--unit", "Mbit"), ("10000", "2500", "250")), ((), ("10", "2.5", "0.25"))):
+        text, said = convert(links, demands, "-", "--to", "net", *asked)
+        found = [row.split()[at] for section, at in (("LINKS", 5), ("DEMANDS", 6)) for row in rows(text, section)]
+        assert tuple(found) == numbers
+        assert f"read: {demands}: numbers of column 'traffic_mbps' in mbps, as its head says" in said
+    assert "--from-unit another one" in refusal(links, demands, "-", "--to", "net", "--from-unit", "Mbit")
+    demands.write_text("source,target,amount\nA,B,250\n")
+    assert "d.csv does not say its unit" in refusal(links, demands, "-", "--to", "net")
+    links.write_text("source,target,capacity [MB/s]\nA,B,10\n")
+    assert "--bytes reads each of them as eight bits" in refusal(links, "-", "--to", "net")
+
+
 def test_repetita_is_one_way_and_names_nodes_by_number():
     text, said = convert("small.graph", "small.0000.demands", "-", "--to", "net", "--merge", "--unit", "Mbit")
     assert rows(text, "NODES")[2] == "2_Washington_DC ( -77.03637 38.89511 )"
@@ -268,7 +284,7 @@ def test_csv_and_back_keeps_every_row(tmp_path: Path, name: str):
     there, _ = convert(EXAMPLES / f"{name}.net", "-", "--to", "net")
     back, said = convert(*parts, "-", "--to", "net")
     assert [rows(back, s) for s in ("LINKS", "DEMANDS")] == [rows(there, s) for s in ("LINKS", "DEMANDS")]
-    assert not said
+    assert said == ["note: no file says its unit: all numbers are taken to be in the same one"]
     if name not in ("one-link",):
         assert rows(back, "NODES") == rows(there, "NODES")
 
@@ -370,9 +386,10 @@ def test_columns_are_named_for_the_tables_that_have_them(tmp_path: Path):
     (tmp_path / "square.csv").write_text("-,A,B,C\nA,0,7,0\nB,0,0,0\nC,0,0,0\n")
     for words in (["links.csv", "demands.csv"], ["--net", "links.csv", "demands.csv", "--merge"]):
         files = [tmp_path / word if word.endswith(".csv") else word for word in words]
-        text, said = convert(*files, "-", "--to", "demands", "--columns", "amount=Mbps")
+        text, said = convert(*files, "-", "--to", "demands", "--columns", "amount=Mbps", "--from-unit", "Mbit")
         assert [row.split(",")[1:5] for row in text.splitlines()[1:]] == [["d1", "A", "C", "2"], ["d2", "B", "C", "1.5"]]
-        assert not [line for line in said if "column" in line]
+        assert [line for line in said if "column" in line] == [
+            f"read: {tmp_path / 'demands.csv'}: numbers of column 'Mbps' in Mbps, as its head says"]
     # (a square has no columns to be named, and is read beside a table whose columns are)
     text, _ = convert(tmp_path / "links.csv", tmp_path / "square.csv", "-", "--to", "net", "--columns", "capacity=capacity")
     assert rows(text, "DEMANDS") == ["A-B ( A B ) 1 7 UNLIMITED"]
@@ -419,7 +436,8 @@ def test_a_column_of_demands_stays_the_name_beside_amounts(tmp_path: Path):
     (tmp_path / "links.csv").write_text(LINKS_CSV)
     (tmp_path / "d.csv").write_text("demand,source,target,value\n7,A,C,2\n")
     written, said = convert(tmp_path / "links.csv", tmp_path / "d.csv", "-", "--to", "net")
-    assert rows(written, "DEMANDS") == ["7 ( A C ) 1 2 UNLIMITED"] and not said
+    assert rows(written, "DEMANDS") == ["7 ( A C ) 1 2 UNLIMITED"]
+    assert said == ["note: no file says its unit: all numbers are taken to be in the same one"]
 
 
 @pytest.mark.parametrize(

@@ -417,7 +417,7 @@ def test_a_name_that_may_be_of_two_nodes_is_refused(tmp_path: Path) -> None:
     edges = '<edge source="a" target="b"><data key="c">1</data></edge>'
     text = graph(edges).replace('<node id="a"/>', '<node id="a"><data key="l">b</data></node>').replace('<key id="x"', '<key id="l" for="node" attr.name="label"/><key id="x"')
     room = made(tmp_path, g_graphml=text, d_csv="source,target,amount\na,b,1\n")
-    assert converted(room, "g.graphml", "d.csv").why == "d.csv line 2: demand '': 'b' is no node, but the name of several: b, b_2"
+    assert converted(room, "g.graphml", "d.csv").why == "d.csv line 2: a demand: 'b' is no node, but the name of several: b, b_2"
 
 
 def test_names_that_become_words_of_nodes_are_said(tmp_path: Path) -> None:

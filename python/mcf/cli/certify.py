@@ -38,9 +38,10 @@ from typing import TYPE_CHECKING, NoReturn
 from mcf import LINK_MODES, MODULES, Program, TextError, find_program, jsons, true_gap
 from mcf.arguments import Arguments
 from mcf.asked import millionths, seconds
-from mcf.inputs import as_files
+from mcf.inputs import STANDARD_INPUT, as_files
+from mcf.linkmode import link_mode
 from mcf.needs import needed
-from mcf.output import main_of, require_output, write, writing
+from mcf.output import contents, main_of, require_output, write, writing
 
 if TYPE_CHECKING:
     from mcf.lp.run import Request, Result
@@ -54,7 +55,7 @@ def options() -> Arguments:
     parser = Arguments("certify", __doc__)
     parser.add_argument("net", metavar="NET", help="a network file")
     parser.add_argument("--kind", choices=COMMANDS, default="solve", help="the command whose kind of certificate is made (solve)")
-    parser.add_argument("--links", choices=LINK_MODES, help="how links are read (undirected)")
+    parser.add_argument("--links", choices=LINK_MODES, help="how links are read (as that of --from, or as the file says, else undirected)")
     parser.add_argument("--modules", choices=MODULES, help="which modules count (largest)")
     parser.add_argument("--form", choices=("trees", "paths"), help="the columns of the linear program (whichever has fewer rows by far)")
     parser.add_argument("--gap", type=millionths, metavar="G", help="the gap that is asked for (0.000001)")
@@ -77,13 +78,24 @@ def certified() -> int:
     require_output(output, [given.net, *filter(None, [given.start])])
     if given.form == "trees" and (given.start or given.kind != "solve"):
         raise TextError("--form trees is for --kind solve alone, and begins from no paths")
+    name = STANDARD_INPUT if given.net == "-" else given.net
     with as_files(given.net, *filter(None, [given.start])) as files:
         given.net, given.start = files[0], files[1] if given.start else None
+        if not given.links and not given.start:
+            given.links = _links(name, given.net)
         result = _result(given, output)
     jsons.put(kind=given.kind, output=output, judged=result.line, closed=result.closed, bounds=result.judged.range,
               gap=lambda: true_gap(*astuple(result.judged.range)), wanted=Fraction(result.wanted, 10**6), trouble=result.trouble,
               left=None if result.closed else result.left)
     return 0 if result.closed else 1
+
+
+def _links(name: str, net: str) -> str:
+    """How links are read where nothing was asked: as the file says, which is told."""
+    read = link_mode(name, contents(net))
+    if read.said:
+        jsons.note(read.said, "certify")
+    return read.mode
 
 
 def _result(given: argparse.Namespace, output: str) -> Result:

@@ -24,9 +24,10 @@ from typing import NoReturn
 from mcf import LINK_MODES, MODULES, find_program, jsons
 from mcf.arguments import Arguments
 from mcf.asked import seconds
-from mcf.inputs import as_files
+from mcf.inputs import STANDARD_INPUT, as_files
+from mcf.linkmode import LinkMode, link_mode
 from mcf.needs import needed
-from mcf.output import main_of, require_output, write
+from mcf.output import contents, main_of, require_output, write
 from mcf.ranges import shortfall
 from mcf.route.lengths import COSTS, LENGTHS, METHODS
 
@@ -39,7 +40,7 @@ def options() -> Arguments:
     parser.add_argument("--lengths", choices=LENGTHS, default="hops", help="the lengths for ecmp and k-paths (hops)")
     parser.add_argument("--cost", choices=COSTS, default="routing", help="which cost of a link counts, for lengths by cost (routing)")
     parser.add_argument("--paths", type=int, default=4, metavar="K", help="how many paths of each pair, for k-paths (4)")
-    parser.add_argument("--links", choices=LINK_MODES, default="undirected", help="how links are read (undirected)")
+    parser.add_argument("--links", choices=LINK_MODES, help="how links are read (as the file says, else undirected)")
     parser.add_argument("--modules", choices=MODULES, default="largest", help="which modules count (largest)")
     parser.add_argument("--seconds", type=seconds, default=300.0, metavar="N", help="the time for the split, and again for the best (300)")
     parser.add_argument("--no-best", action="store_true", help="do not look for the best routing, to say how far below it this one is")
@@ -69,8 +70,12 @@ def routed() -> int:
     require_output(output, [given.net])
     with needed():
         from mcf.route.run import Question, route
+    name = STANDARD_INPUT if given.net == "-" else given.net
     with as_files(given.net) as (net,):
-        question = Question(net, given.by, given.links, given.modules, given.lengths, given.cost, given.paths, given.seconds, not given.no_best)
+        read = LinkMode(given.links) if given.links else link_mode(name, contents(net))
+        if read.said:
+            jsons.note(read.said, "route")
+        question = Question(net, given.by, read.mode, given.modules, given.lengths, given.cost, given.paths, given.seconds, not given.no_best)
         found = route(find_program(given.mcf), question)
     write(output, found.text.encode("latin-1"))
     for note in [found.line, *found.notes]:

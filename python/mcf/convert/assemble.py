@@ -156,7 +156,7 @@ def _demands(source: Source, matrix: Matrix, ends: Ends | dict[str, str], notes:
     words = Words("demand", notes, source.native)
     done = []
     for demand in matrix.demands:
-        what = f"demand {told(demand.name)}"
+        what = f"demand {told(demand.name)}" if demand.name else "a demand"
         what = Spot(source.path, demand.line, what) if demand.line else f"{source.path}: {what}"
         pair = demand.source, demand.target
         found = [ends[end] if isinstance(ends, dict) else ends.word(end, source.by_number, what) for end in pair]

@@ -103,10 +103,25 @@ def read_network(path: str, data: bytes, notes: Notes) -> Source:
     next(rows, None)
     unit = unit_of(source.meta.get("unit", ""))
     source.bits = Fraction(unit.bits) if unit and not unit.is_of_bytes else None
-    source.links_mode = source.meta.get("links") if source.meta.get("links") in LINK_MODES else None
+    source.links_mode = _links_said(source)
     source.mentioned = text.comments[0] if text.comments else None
     source.matrices = [Matrix("", demands)] if demands else []
     return source
+
+
+def links_of(path: str, data: bytes) -> str | None:
+    """How links are meant, as the section META says that stands before the nodes; nothing behind that is read."""
+    if not data.startswith(NATIVE):
+        raise refused(Spot(path, 1), f"{NATIVE.decode()} is due")
+    source = Source(path, "native", native=True)
+    next(_sections(tokens(path, data.partition(b"\n")[2], 2), source, Notes(quiet=True)), None)
+    return _links_said(source)
+
+
+def _links_said(source: Source) -> str | None:
+    """How links are meant, where META has a word for it that is known."""
+    said = source.meta.get("links")
+    return said if said in LINK_MODES else None
 
 
 def _sections(text: Tokens, source: Source, notes: Notes) -> Iterator[str]:

@@ -11,10 +11,11 @@ from fractions import Fraction
 from typing import TYPE_CHECKING
 
 from ..names import cell_of, text_of
+from ..units import of_head, unit_of
 from .files import stem
 from .model import Demand, Link, Matrix, Network, Node, Notes, Refused, Source, Spot, refused
 from .native import require_longest
-from .numbers import Form, is_rate, number, plain, rate
+from .numbers import Form, Unit, is_rate, number, plain, rate
 from .words import BLANKS, told
 
 if TYPE_CHECKING:
@@ -40,6 +41,8 @@ ROLES = {
 LINK_ROLES = ("id", "source", "target", "capacity", "capacity_cost", "routing_cost", "setup_cost", "modules")
 DEMAND_ROLES = ("matrix", "id", "source", "target", "amount", "unit", "longest")
 NODE_ROLES = ("node", "x", "y")
+# the columns whose heads may have a unit
+RATES = ("capacity", "amount")
 
 
 @dataclass
@@ -173,7 +176,7 @@ def read(path: str, text: str, notes: Notes, form: Form) -> Source:
     double = next((head[at] for at in table.place.values() if head.count(head[at]) > 1), None)
     if double is not None:
         raise refused(Spot(path, line), f"two columns are named {told(double)}")
-    return replace(_read_by_columns(head, table, notes), columns=tuple(head))
+    return replace(_read_by_columns(head, _with_unit(head, table, notes), notes), columns=tuple(head))
 
 
 def _read_by_columns(head: list[str], table: Table, notes: Notes) -> Source:
@@ -198,18 +201,41 @@ def _kind(place: dict[str, int]) -> str:
 
 def _places(head: list[str], columns: dict[str, str]) -> dict[str, int]:
     """The column of each role: the one that was named, or else one of a known name."""
-    lower = [word.lower().replace(" ", "_").replace("-", "_") for word in head]
+    lower = [_lower(word) for word in head]
+    bare = [_lower(of_head(word)[0]) for word in head]
     place: dict[str, int] = {}
     for role, names in ROLES.items():
         if role in columns:
             place[role] = head.index(columns[role])
             continue
         named = {head.index(name) for name in columns.values()}
-        found = [lower.index(name) for name in names if name in lower and lower.index(name) not in named]
+        known = bare if role in RATES else lower
+        found = [known.index(name) for name in names if name in known and known.index(name) not in named]
         found = [at for at in found if at not in place.values()]
         if found:
             place[role] = found[0]
     return place
+
+
+def _lower(word: str) -> str:
+    """A column's name as it is compared."""
+    return word.lower().replace(" ", "_").replace("-", "_")
+
+
+def _with_unit(head: list[str], table: Table, notes: Notes) -> Table:
+    """The table with its plain numbers in the unit that the head of their column has, if it has one."""
+    named = next((head[table.place[role]] for role in RATES if role in table.place), "")
+    word = of_head(named)[1]
+    unit = unit_of(word)
+    if unit is None:
+        return table
+    asked = table.form.unit
+    if unit.is_of_bytes and not asked.bytes:
+        raise Refused(f"{table.path}: column {told(named)} is of bytes: --bytes reads each of them as eight bits").at(table.path)
+    if asked.told and asked.bits != unit.bits:
+        raise Refused(f"{table.path}: column {told(named)} says its unit, and --from-unit another one").at(table.path)
+    notes.say("read", f"{table.path}: numbers of column {told(named)} in {word}, as its head says")
+    return replace(table, form=replace(table.form, unit=Unit(Fraction(unit.bits), True, asked.bytes)))
 
 
 def _is_demand_the_id(head: list[str], place: dict[str, int]) -> bool:

@@ -167,6 +167,8 @@ def in_one_unit(sources: list[Source], task: Task, notes: Notes) -> list[Source]
     asked = Fraction(UNITS[task.unit]) if task.unit else None
     wanted = asked or own or next((s.bits for s in numbers if s.bits), None)
     if wanted is None:
+        if len(numbers) > 1 and any(s.kind in ("links", "demands") for s in numbers):
+            notes.say("note", "no file says its unit: all numbers are taken to be in the same one")
         return sources
     for source in numbers if not task.unit else ():
         if source.bits not in (None, wanted):
@@ -193,6 +195,8 @@ def _tell(network: Network, kind: str, notes: Notes) -> None:
         notes.say("dropped", f"{len(network.nodes)} nodes and {len(network.links)} links: a list has demands alone")
     if kind == "net" and network.one_way:
         notes.say("note", "links are one way: solve with --links directed")
+    if kind == "net" and network.links_mode == "bidirected":
+        notes.say("note", "links have their whole capacity each way: solve with --links bidirected")
     if kind == "net" and not any(d.amount for m in network.matrices for d in m.demands):
         notes.say("note", "no demands: give a file of demands behind the network's, or have them made up by --gravity X")
 

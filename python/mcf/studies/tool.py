@@ -12,6 +12,7 @@ from ..convert import native
 from ..convert.model import Notes
 from ..convert.numbers import UNITS, Unit
 from ..errors import McfError, TextError
+from ..linkmode import link_mode
 from ..networks import Network
 from ..networks import read as read_file
 from . import answers
@@ -81,12 +82,9 @@ def planned(words: Words, network: Network, store: Store) -> Plan:
 
 def _tell_links(path: str, network: Network) -> None:
     """Says how links are read, where the file says another way than the usual one, or a comment of it mentions one."""
-    source = native.read_network("the network", network.data, Notes(quiet=True))
-    if source.links_mode not in (None, "undirected"):
-        say(f"links are read as {network.mode}, as {path} says")
-    elif source.links_mode is None and source.mentioned and source.mentioned[1] != network.mode:
-        line, word = source.mentioned
-        say(f"links are read as {network.mode}; a comment in line {line} of {path} says {word}: --links {word} reads them so")
+    said = link_mode(path, network.data).said
+    if said:
+        say(said)
 
 
 def _matrices(words: Words, network: Network, store: Store) -> list[Matrix]:

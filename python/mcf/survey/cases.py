@@ -107,7 +107,7 @@ class Ground:
 
     def may_have(self, capacity: Fraction) -> bool:
         """Whether a capacity is within the limits of the program, in the network's unit."""
-        return capacity * 10**self.figures.scaled.decimals <= MAX_UNITS
+        return capacity <= self.figures.scaled.in_file_unit(MAX_UNITS)
 
 
 def survey(ground: Ground, kind: str, settings: Settings, base: Range) -> Survey:

@@ -1,0 +1,46 @@
+"""How a network file means its links, where it says so: the one place for the tools that take `--links`."""
+
+from __future__ import annotations
+
+import re
+from dataclasses import dataclass
+
+from .convert import native
+from .convert.model import Refused
+
+_COMMENT = re.compile(rb"^[ \t]*#[^\n]*", re.MULTILINE)
+_USUAL = "undirected"
+
+
+@dataclass(frozen=True)
+class LinkMode:
+    """How links are read, and the sentence that says so, where the file says, or mentions, another way than the usual one."""
+
+    mode: str
+    said: str | None = None
+
+
+def link_mode(name: str, data: bytes) -> LinkMode:
+    """How the links of a file are read where no option says it: as its section META does, which stands before the nodes, else undirected.
+
+    A text that is no network file is left to whoever reads it whole.
+    """
+    try:
+        said = native.links_of(name, data)
+    except Refused:
+        return LinkMode(_USUAL)
+    if said not in (None, _USUAL):
+        return LinkMode(said or _USUAL, f"links are read as {said}, as {name} says")
+    line, word = (0, _USUAL) if said else _mentioned(data)
+    if word == _USUAL:
+        return LinkMode(_USUAL)
+    return LinkMode(_USUAL, f"links are read as {_USUAL}; a comment in line {line} of {name} says {word}: --links {word} reads them so")
+
+
+def _mentioned(data: bytes) -> tuple[int, str]:
+    """The line of the first comment that has a word for how links are meant, and that word."""
+    for comment in _COMMENT.finditer(data):
+        found = native.MODE.search(comment[0])
+        if found:
+            return data.count(b"\n", 0, comment.start()) + 1, found[0].decode().lower()
+    return 0, _USUAL

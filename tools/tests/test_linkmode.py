@@ -1,0 +1,55 @@
+"""How links are read where no option says it: as the file says, and said before anything else, by each tool that takes `--links`."""
+
+from __future__ import annotations
+
+import subprocess
+from pathlib import Path
+
+import pytest
+
+from mcf import Program
+from mcf.linkmode import LinkMode, link_mode
+
+HEAD = "?SNDlib native format; type: network; version: 1.0\n"
+BOTH_WAYS = (
+    "NODES (\n  A\n  B\n)\nLINKS (\n  L ( A B ) 10 1 1 1 ( )\n)\n"
+    "DEMANDS (\n  there ( A B ) 1 5 UNLIMITED\n  back ( B A ) 1 5 UNLIMITED\n)\n"
+)
+
+
+def meta(word: str) -> str:
+    """A network whose section META has a word for its links."""
+    return f"{HEAD}META (\n  links = {word}\n)\n{BOTH_WAYS}"
+
+
+@pytest.mark.parametrize(("text", "mode", "said"), [
+    (meta("bidirected"), "bidirected", "links are read as bidirected, as a.net says"),
+    (meta("undirected"), "undirected", None),
+    (meta("odd"), "undirected", None),
+    (HEAD + BOTH_WAYS, "undirected", None),
+    (HEAD + "# all links are Directed\n" + BOTH_WAYS, "undirected",
+     "links are read as undirected; a comment in line 2 of a.net says directed: --links directed reads them so"),
+    (meta("undirected") + "# directed\n", "undirected", None),
+    (HEAD + BOTH_WAYS.replace("  A\n", "  A#directed\n"), "undirected", None),
+    ("no network", "undirected", None),
+    (HEAD + "META ( links", "undirected", None),
+])
+def test_what_a_file_says(text: str, mode: str, said: str | None) -> None:
+    assert link_mode("a.net", text.encode("ascii")) == LinkMode(mode, said)
+
+
+@pytest.mark.parametrize("words", [("route", "--no-best"), ("certify",), ("study", "--store", "STORE")])
+def test_tools_read_links_as_the_file_says(program: Program, root: Path, tmp_path: Path, words: tuple[str, ...]) -> None:
+    """Both demands of 5 fit through a link of 10 twice over where each way has its whole capacity, and once where both share it."""
+    net = tmp_path / "a.net"
+    net.write_text(meta("bidirected"), "ascii")
+    tool, *more = (word.replace("STORE", str(tmp_path / "study.db")) for word in words)
+    for asked, fits, told in (((), "2", True), (("--links", "undirected"), "1", False)):
+        done = subprocess.run([root / "tools" / tool, net, *more, *asked, "--mcf", program.path, *([] if tool == "study" else ["--output", tmp_path / "out"])],
+                              capture_output=True, text=True, check=False)
+        assert done.returncode == 0, done.stderr
+        assert (f"links are read as bidirected, as {net} says" in done.stderr) == told
+        if tool != "study":
+            assert f"\nlinks {'bidirected' if told else 'undirected'}\n" in (tmp_path / "out").read_text("ascii")
+            assert done.stderr.splitlines()[0].endswith("says") == told
+        assert f"{fits}.000000" in done.stderr + done.stdout or f"{fits}00" in done.stdout
