@@ -35,7 +35,8 @@ def room(program: Program, root: Path, tmp_path: Path) -> Path:
 
 def pages(root: Path) -> list[Path]:
     """All documents."""
-    return [root / "README.md", *sorted((root / "docs").rglob("*.md"))]
+    return [root / "README.md", root / "CONTRIBUTING.md", *(root / name / "README.md" for name in ("bench", "bench/yardsticks", "cases", "examples")),
+            *sorted((root / "docs").rglob("*.md"))]
 
 
 COMMANDS = ("batch", "check", "checkhops", "checkthroughput", "gen", "hops", "print", "solve", "sweep", "sweepsolve", "throughput", "tighten",
