@@ -51,8 +51,8 @@ def twice(root: Path, net: Path, cert: Path) -> str:
 
 
 def alike(first: str, second: str) -> bool:
-    """Whether two lines say the same; the kind of a refusal need not agree."""
-    return first == second or first.split(" ")[0] == second.split(" ")[0] == "refused"
+    """Whether two lines say the same; of a refusal the file has to agree, and the kind need not."""
+    return first == second or first.split(" ")[0] == "refused" and first.split()[:2] == second.split()[:2]
 
 
 @pytest.fixture(scope="module")
@@ -140,6 +140,26 @@ def test_networks_are_read_alike(program: Program, root: Path, tmp_path: Path, o
         save_text(net, NET.replace(old, new, 1))
         first, second = judged(program, root, tmp_path, net, text)
         assert alike(first, second), f"mcf says {first.strip()}, check_twice {second.strip()}"
+
+
+@pytest.mark.parametrize("changed", ["0.0000001 3 2", "17592186044417 3 2", "0.5 3 65"])
+@pytest.mark.parametrize("old,new,file", [
+    ("mcf-", "mcf", "cert"), ("verdict ", "verdict un", "cert"), ("links ", "links un", "cert"), ("modules ", "modules  ", "cert"),
+    ("modules largest\n", "modules largest", "cert"), ("\nnet ", "\nnets ", "net"), ("phases ", "phases x", "net"), ("\nend\n", "\nend", "net"),
+    ("\nlower ", "\nlower 9", "net"), ("path D2 ", "path D3 ", "net"), ("path D2 ", "path  D2 ", "net"),
+])
+@pytest.mark.parametrize("command", ["solve", "hops", "throughput"])
+def test_a_refused_network_goes_before_all_behind_the_options(program: Program, root: Path, tmp_path: Path, command: str, old: str, new: str,
+                                                               file: str, changed: str) -> None:
+    net = tmp_path / "net"
+    save_text(net, NET)
+    text = program.solve(net, "--phases", "2", command=command)
+    nodes = "".join(f"  N{at}\n" for at in range(80))
+    save_text(net, NET.replace("  C ( )\n", f"  C ( )\n{nodes}").replace("0.5 3 2", changed, 1))
+    assert old in text
+    first, second = judged(program, root, tmp_path, net, text.replace(old, new, 1))
+    due = "cert" if "65" in changed and command != "hops" else file
+    assert first.startswith(f"refused {due} ") and second == f"refused {due}\n"
 
 
 @pytest.mark.parametrize("nodes,links,demands", [(512, 512, 10), (513, 513, 1), (2, 4096, 1), (2, 4097, 1), (2, 2, 32768), (2, 2, 32769)])
