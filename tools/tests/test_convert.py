@@ -155,8 +155,36 @@ def test_the_head_of_a_column_has_the_unit_of_its_numbers(tmp_path: Path):
     assert "--from-unit another one" in refusal(links, demands, "-", "--to", "net", "--from-unit", "Mbit")
     demands.write_text("source,target,amount\nA,B,250\n")
     assert "d.csv does not say its unit" in refusal(links, demands, "-", "--to", "net")
+    # (the unit of a file that says none is no other one of a file whose head says it)
+    text, _ = convert(links, demands, "-", "--to", "net", "--from-unit", "Mbit")
+    assert [row.split()[at] for section, at in (("LINKS", 5), ("DEMANDS", 6)) for row in rows(text, section)] == ["10", "2.5", "0.25"]
     links.write_text("source,target,capacity [MB/s]\nA,B,10\n")
     assert "--bytes reads each of them as eight bits" in refusal(links, "-", "--to", "net")
+
+
+def test_the_head_of_a_column_that_is_not_read_says_no_unit(tmp_path: Path):
+    table = tmp_path / "modules.csv"
+    table.write_text("source,target,modules,traffic (Mbit/s)\nA,B,1 5 4 7,3\n")
+    text, said = convert(table, "-", "--to", "net", "--unit", "Mbit", "--from-unit", "Gbit")
+    assert rows(text, "LINKS") == ["A-B ( A B ) 0 0 0 0 ( 1000 5 4000 7 )"]
+    assert not [line for line in said if line.startswith("read:")]
+
+
+def test_the_corner_of_a_square_has_the_unit_of_its_numbers(tmp_path: Path):
+    links, square = tmp_path / "links.csv", tmp_path / "square.csv"
+    links.write_text("source,target,capacity (Gbit/s)\nA,B,10\n")
+    square.write_text("Mbit/s,A,B\nA,0,250\nB,1.5G,0\n")
+    text, said = convert(links, square, "-", "--to", "net")
+    assert [row.split()[6] for row in rows(text, "DEMANDS")] == ["0.25", "1.5"]
+    assert f"read: {square}: numbers of column 'Mbit/s' in Mbit/s, as its head says" in said
+
+
+def test_a_unit_that_is_not_known_is_named_where_no_other_is(tmp_path: Path):
+    net, demands = tmp_path / "a.net", tmp_path / "d.csv"
+    net.write_text((EXAMPLES / "one-link.net").read_text().replace("NODES (", "META (\n  unit = FURLONG\n)\nNODES (", 1))
+    demands.write_text("source,target,amount\nA,B,2\n")
+    _, said = convert(net, demands, "-", "--to", "net")
+    assert f"note: no file says a unit that is known ({net} has FURLONG): all numbers are taken to be in the same one" in said
 
 
 def test_repetita_is_one_way_and_names_nodes_by_number():

@@ -90,7 +90,7 @@ class Matrix:
 class Source:
     """What one file has.
 
-    `bits` is the unit of its numbers in bits per second, where the file says it; `links_mode` how its links are meant, where it says that,
+    `bits` is the unit of its numbers in bits per second, where the file says it, and `said` the head of a column that does; `links_mode` how its links are meant, where it says that,
     and `mentioned` the line of a comment that has a word for it.
     """
 
@@ -101,6 +101,7 @@ class Source:
     matrices: list[Matrix] = field(default_factory=list)
     meta: dict[str, str] = field(default_factory=dict)
     bits: Fraction | None = None
+    said: str = ""
     links_mode: str | None = None
     mentioned: tuple[int, str] | None = None
     by_number: bool = False

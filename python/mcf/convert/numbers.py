@@ -59,13 +59,14 @@ class Unit:
 
 @dataclass(frozen=True)
 class Form:
-    """How the numbers of files that leave it open are to be read."""
+    """How the numbers of files that leave it open are to be read; `said` is the head of a column that says their unit."""
 
     unit: Unit = Unit()
     columns: dict[str, str] = field(default_factory=dict)
     comma: bool = False
     capacity: str | None = None
     missing: str | None = None
+    said: str = ""
 
 
 def rate(word: str, what: str, unit: Unit, comma: bool = False) -> Fraction:

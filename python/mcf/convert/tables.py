@@ -41,8 +41,8 @@ ROLES = {
 LINK_ROLES = ("id", "source", "target", "capacity", "capacity_cost", "routing_cost", "setup_cost", "modules")
 DEMAND_ROLES = ("matrix", "id", "source", "target", "amount", "unit", "longest")
 NODE_ROLES = ("node", "x", "y")
-# the columns whose heads may have a unit
-RATES = ("capacity", "amount")
+# the columns whose heads may have a unit, by what a table has
+RATES = {"links": "capacity", "demands": "amount"}
 
 
 @dataclass
@@ -169,14 +169,17 @@ def read(path: str, text: str, notes: Notes, form: Form) -> Source:
         if _kind(table.place):
             what = f"this may be a square of nodes or a table of {_kind(table.place)} (--columns makes it a table)"
             raise refused(Spot(path, line), what)
-        return _square(path, line, head, rows[1:], form)
+        form = _form_of(path, head[0], form, notes)
+        return replace(_square(path, line, head, rows[1:], form), said=form.said)
     if "id" not in named and _is_demand_the_id(head, table.place):
         table.place = _places(head, named | {"amount": head[table.place["id"]]})
         _tell_amounts(head, table, notes)
     double = next((head[at] for at in table.place.values() if head.count(head[at]) > 1), None)
     if double is not None:
         raise refused(Spot(path, line), f"two columns are named {told(double)}")
-    return replace(_read_by_columns(head, _with_unit(head, table, notes), notes), columns=tuple(head))
+    column = table.place.get(RATES.get(_kind(table.place), ""))
+    table.form = form if column is None else _form_of(path, head[column], form, notes)
+    return replace(_read_by_columns(head, table, notes), columns=tuple(head), said=table.form.said)
 
 
 def _read_by_columns(head: list[str], table: Table, notes: Notes) -> Source:
@@ -209,7 +212,7 @@ def _places(head: list[str], columns: dict[str, str]) -> dict[str, int]:
             place[role] = head.index(columns[role])
             continue
         named = {head.index(name) for name in columns.values()}
-        known = bare if role in RATES else lower
+        known = bare if role in RATES.values() else lower
         found = [known.index(name) for name in names if name in known and known.index(name) not in named]
         found = [at for at in found if at not in place.values()]
         if found:
@@ -222,20 +225,16 @@ def _lower(word: str) -> str:
     return word.lower().replace(" ", "_").replace("-", "_")
 
 
-def _with_unit(head: list[str], table: Table, notes: Notes) -> Table:
-    """The table with its plain numbers in the unit that the head of their column has, if it has one."""
-    named = next((head[table.place[role]] for role in RATES if role in table.place), "")
-    word = of_head(named)[1]
+def _form_of(path: str, head: str, form: Form, notes: Notes) -> Form:
+    """How numbers are read whose column, or square, has that head: plain ones in the unit that it says, if it says one."""
+    word = of_head(head)[1]
     unit = unit_of(word)
     if unit is None:
-        return table
-    asked = table.form.unit
-    if unit.is_of_bytes and not asked.bytes:
-        raise Refused(f"{table.path}: column {told(named)} is of bytes: --bytes reads each of them as eight bits").at(table.path)
-    if asked.told and asked.bits != unit.bits:
-        raise Refused(f"{table.path}: column {told(named)} says its unit, and --from-unit another one").at(table.path)
-    notes.say("read", f"{table.path}: numbers of column {told(named)} in {word}, as its head says")
-    return replace(table, form=replace(table.form, unit=Unit(Fraction(unit.bits), True, asked.bytes)))
+        return form
+    if unit.is_of_bytes and not form.unit.bytes:
+        raise Refused(f"{path}: column {told(head)} is of bytes: --bytes reads each of them as eight bits").at(path)
+    notes.say("read", f"{path}: numbers of column {told(head)} in {word}, as its head says")
+    return replace(form, unit=Unit(Fraction(unit.bits), True, form.unit.bytes), said=head)
 
 
 def _is_demand_the_id(head: list[str], place: dict[str, int]) -> bool:

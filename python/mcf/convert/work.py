@@ -15,6 +15,7 @@ from .edits import TIMES_DEMAND, Edit, edited
 from .gravity import with_gravity
 from .model import Network, Notes, Refused, Source
 from .numbers import UNITS, Form, Unit
+from .words import told
 
 FORMATS = ("native", "list", "xml", "graphml", "graph", "demands", "csv")
 TARGETS = ("net", "list", "graphml", "links", "nodes", "demands")
@@ -161,6 +162,8 @@ def in_one_unit(sources: list[Source], task: Task, notes: Notes) -> list[Source]
     """All numbers in the unit that is asked for, or else in that of the links, or of the first file that says one."""
     given = Fraction(UNITS[task.from_unit]) if task.from_unit else None
     linked = next((s for s in sources if s.links), None)
+    if given:
+        _require_unsaid([s for s in sources if s.links or s.matrices], given)
     sources = [replace(s, bits=given) if s.bits is None and given and not _is_of(s, linked) else s for s in sources]
     numbers = [s for s in sources if s.links or s.matrices]
     own = next((s.bits for s in numbers if s.links), None)
@@ -168,12 +171,20 @@ def in_one_unit(sources: list[Source], task: Task, notes: Notes) -> list[Source]
     wanted = asked or own or next((s.bits for s in numbers if s.bits), None)
     if wanted is None:
         if len(numbers) > 1 and any(s.kind in ("links", "demands") for s in numbers):
-            notes.say("note", "no file says its unit: all numbers are taken to be in the same one")
+            odd = next((f"a unit that is known ({s.path} has {s.meta['unit']})" for s in numbers if s.meta.get("unit")), "its unit")
+            notes.say("note", f"no file says {odd}: all numbers are taken to be in the same one")
         return sources
     for source in numbers if not task.unit else ():
         if source.bits not in (None, wanted):
             notes.say("note", f"{source.path}: its numbers are written in the unit of {'the links' if own else 'the first file that says one'}")
     return [_in_unit(s, wanted, own, linked, notes) if s in numbers else s for s in sources]
+
+
+def _require_unsaid(sources: list[Source], given: Fraction) -> None:
+    """Refuses a unit for files that say none, where the columns of all of them do, and one another unit."""
+    other = next((source for source in sources if source.bits != given), None)
+    if other is not None and all(source.said for source in sources):
+        raise Refused(f"{other.path}: column {told(other.said)} says its unit, and --from-unit another one").at(other.path)
 
 
 def _is_of(source: Source, linked: Source | None) -> bool:
