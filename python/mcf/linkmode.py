@@ -21,7 +21,7 @@ class LinkMode:
 
 
 def link_mode(name: str, data: bytes) -> LinkMode:
-    """How the links of a file are read where no option says it: as its section META does, which stands before the nodes, else undirected.
+    """How the links of a file are read where no option says it: as its section META does, else undirected.
 
     A text that is no network file is left to whoever reads it whole.
     """

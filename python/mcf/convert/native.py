@@ -110,11 +110,16 @@ def read_network(path: str, data: bytes, notes: Notes) -> Source:
 
 
 def links_of(path: str, data: bytes) -> str | None:
-    """How links are meant, as the section META says that stands before the nodes; nothing behind that is read."""
+    """How links are meant, as the section META says; what stands behind the first section of rows is read only where META may stand there."""
     if not data.startswith(NATIVE):
         raise refused(Spot(path, 1), f"{NATIVE.decode()} is due")
     source = Source(path, "native", native=True)
-    next(_sections(tokens(path, data.partition(b"\n")[2], 2), source, Notes(quiet=True)), None)
+    text = tokens(path, data.partition(b"\n")[2], 2)
+    behind = b"META" in data.partition(SECTIONS[0].encode())[2]
+    for _ in _sections(text, source, Notes(quiet=True)):
+        if not behind:
+            break
+        _skipped(text)
     return _links_said(source)
 
 
