@@ -58,6 +58,15 @@ def words() -> argparse.Namespace:
     return given
 
 
+def unused(given: argparse.Namespace) -> list[str]:
+    """The options that are given, and have no part in the routing that is asked for."""
+    used = {"cost": {"cost"}, "ecmp": {"lengths"}, "k-paths": {"lengths", "paths", "seconds"}}.get(given.by, set())
+    used |= {"cost"} if "lengths" in used and given.lengths == "cost" else set()
+    used |= set() if given.no_best else {"seconds"}
+    default = options().get_default
+    return [name for name in ("lengths", "cost", "paths", "seconds") if name not in used and getattr(given, name) != default(name)]
+
+
 def main() -> NoReturn:
     """One run, which ends the process."""
     main_of(routed, "route")
@@ -68,6 +77,8 @@ def routed() -> int:
     given = words()
     output = given.output or "-"
     require_output(output, [given.net])
+    for option in unused(given):
+        jsons.note(f"--{option} means nothing for --by {given.by}{' --no-best' if option == 'seconds' else ''}", "route")
     with needed():
         from mcf.route.run import Question, route
     name = STANDARD_INPUT if given.net == "-" else given.net
