@@ -155,6 +155,10 @@ def test_the_head_of_a_column_has_the_unit_of_its_numbers(tmp_path: Path):
     assert "--from-unit another one" in refusal(links, demands, "-", "--to", "net", "--from-unit", "Mbit")
     demands.write_text("source,target,amount\nA,B,250\n")
     assert "d.csv does not say its unit" in refusal(links, demands, "-", "--to", "net")
+    links.write_text("source,target,capacity (Gbit/s)\nA,B,10\nB,C,2500M\nA,C,\n")
+    text, said = convert(links, "-", "--to", "links", "--unit", "Mbit", "--capacity-default", "3")
+    assert text.splitlines()[-1].split(",")[3] == "3000" and f"added: {links} line 4: no capacity, which becomes 3 Gbit/s" in said
+    links.write_text("source,target,capacity (Gbit/s)\nA,B,10\nB,C,2500M\n")
     # (the unit of a file that says none is no other one of a file whose head says it)
     text, _ = convert(links, demands, "-", "--to", "net", "--from-unit", "Mbit")
     assert [row.split()[at] for section, at in (("LINKS", 5), ("DEMANDS", 6)) for row in rows(text, section)] == ["10", "2.5", "0.25"]

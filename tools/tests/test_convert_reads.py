@@ -555,3 +555,5 @@ def test_changes_of_what_is_not_written_are_refused(tmp_path: Path) -> None:
     room = made(tmp_path, a_net=NET)
     assert converted(room, "a.net", "--close", "L1", to="list").why == "--close 'L1' changes links, and what is written has none"
     assert converted(room, "a.net", "--times-demand", "D1", "2", to="graphml").why == "--times-demand 'D1' changes demands, and what is written has none"
+    assert converted(room, "a.net", "--scale", "2", to="links").why == "--scale changes demands, and what is written has none"
+    assert converted(room, "a.net", "--capacity", "bw", to="net").why.startswith("--capacity names an attribute of GraphML, and no file is one")

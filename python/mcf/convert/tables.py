@@ -15,7 +15,7 @@ from ..units import of_head, unit_of
 from .files import stem
 from .model import Demand, Link, Matrix, Network, Node, Notes, Refused, Source, Spot, refused
 from .native import require_longest
-from .numbers import Form, Unit, is_rate, number, plain, rate
+from .numbers import NUMBER, Form, Unit, is_rate, number, plain, rate
 from .words import BLANKS, told
 
 if TYPE_CHECKING:
@@ -288,10 +288,12 @@ def _capacity(table: Table, at: int, row: list[str], notes: Notes) -> Fraction |
         return rate(word, Spot(table.path, at, "capacity"), table.form.unit, table.form.comma)
     if table.word(row, "modules"):
         return Fraction(0)
-    if not table.form.missing:
+    missing = table.form.missing
+    if not missing:
         return None
-    notes.say("added", f"{table.path} line {at}: no capacity, which becomes {table.form.missing}")
-    return rate(table.form.missing, Spot(table.path, at, "capacity"), table.form.unit, table.form.comma)
+    unit = f" {of_head(table.form.said)[1]}" if table.form.said and NUMBER.fullmatch(missing) else ""
+    notes.say("added", f"{table.path} line {at}: no capacity, which becomes {missing}{unit}")
+    return rate(missing, Spot(table.path, at, "capacity"), table.form.unit, table.form.comma)
 
 
 def _modules(table: Table, at: int, row: list[str]) -> tuple[tuple[Fraction, str], ...]:

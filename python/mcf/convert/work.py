@@ -109,6 +109,8 @@ def _read_all(task: Task, notes: Notes) -> list[Source]:
         _tell_links(sources, task, notes)
     finally:
         notes.take(later)
+    if task.capacity and not any(source.kind == "graphml" for source in sources):
+        raise Refused("--capacity names an attribute of GraphML, and no file is one (--columns capacity=NAME names a column)")
     tables.require_columns({file and files.label(file): named for file, named in task.columns.items()}, sources)
     return sources
 
@@ -128,6 +130,8 @@ def _require_use(task: Task, kind: str) -> None:
         part = "demands" if edit.option == TIMES_DEMAND else "links"
         if kind not in written[part]:
             raise Refused(f"{edit} changes {part}, and what is written has none")
+    if task.scale != 1 and kind not in written["demands"]:
+        raise Refused("--scale changes demands, and what is written has none")
     if task.fibres and not any(edit.option != TIMES_DEMAND for edit in task.edits):
         raise Refused("--fibres says how links change, and no change of a link is asked for")
 
