@@ -191,6 +191,17 @@ def test_a_certificate_of_a_total() -> None:
     assert "<th>Carried</th>" in text and "all demands carried once" not in text and 'type="radio"' not in text
 
 
+def test_a_total_of_nothing_and_a_small_one() -> None:
+    net = f"{HEAD}NODES (\n  A\n  B\n)\nLINKS (\n  L ( A B ) 0 0 0 0 ( )\n)\nDEMANDS (\n  D ( A B ) 1 0.0004 UNLIMITED\n)\n"
+    head = ("mcf-throughput 1\nverdict closed\nlinks directed\nmodules largest\nnet nodes 2 cells 1 commodities 1 decimals 4 skipped 0 left 0 hops 0\n"
+            "gap 0.050000\n")
+    cut = f"{head}phases 0\nscale 0 1\nlower 0/1 0.000000\nupper 0/1 0.000000\nthreshold 1\nlength +L 1\npotential A 0 1\nend\n"
+    assert "No routing carries more than<b>0 Gbit/s</b>" in page_of(figures(net, cut))
+    full = f"{head}phases 1\nscale 3 4\nlower 3/1 3.000000\nupper 3/1 3.000000\nthreshold 1\npath D 4 +L\nlength +L 1\npotential A 0 1\nend\n"
+    found = figures(net.replace(" 0 0 0 0 ", " 0.0003 0 0 0 "), full)
+    assert sentences.verdict(found).startswith("Not every demand fits: these paths carry 0.0003 of 0.0004 in all (75.0 %), ")
+
+
 @pytest.mark.parametrize(
     ("low", "high", "sentence"),
     [
@@ -453,6 +464,7 @@ def test_what_batch_wrote_in_a_table_and_by_name(tmp_path: Path, program: Progra
         ([*TRIANGLE, "--rows", "-1"], "--rows is at least 0"),
         ([*TRIANGLE, "--html", "a", "--html", "b"], "--html is given twice"),
         ([*TRIANGLE, "--matrix", "m"], "--matrix names a matrix of what batch wrote"),
+        ([*TRIANGLE, "--list", TRIANGLE[1]], "--list is for what batch wrote, and "),
         ([EXAMPLES / "in-a-row.net", EXAMPLES / "in-a-row.throughput", TRIANGLE[1], "--net2", TRIANGLE[0]], "of a total alone"),
     ],
 )  # fmt: skip

@@ -196,6 +196,13 @@ def test_a_routing_and_an_invalid_certificate_are_told(program: Program, tmp_pat
     assert "mcf check says: invalid C2: " in said and said.count("\n") == 1
 
 
+@pytest.mark.parametrize("words", [("--quick", "--gap", "0.1"), ("--quick", "--phases", "3"), ("--quick", "--step", "9"),
+                                   ("--list", EXAMPLES / "triangle.script")])  # fmt: skip
+def test_options_that_would_mean_nothing_are_refused(program: Program, words: tuple[str | Path, ...]):
+    out, said = run(EXAMPLES / "triangle.net", EXAMPLES / "triangle.cert", "--failures", *words, program=program, status=2)
+    assert not out and said.count("\n") == 1 and said.startswith(("survey: --gap, --phases and --step are for ", "survey: --list is for "))
+
+
 def test_exact_surveys_are_certified(program: Program):
     pytest.importorskip("scipy")
     if not list(Path("/usr/lib").glob("*/libClp.so*")):
@@ -214,6 +221,7 @@ def test_a_link_whose_capacity_cannot_be_doubled_is_named(program, tmp_path):
     net.write_text(TRIANGLE.replace("AB ( A B ) 10 ", "AB ( A B ) 9000000.000001 "), "ascii")
     cert.write_text(program.solve(net), "ascii")
     out, _ = run(net, cert, "--double", "--html", tmp_path / "page.html", "--csv", tmp_path / "rows.csv", program=program, status=1)
+    assert out.startswith("Of the links that can be doubled, ")
     assert out.endswith("AB (A – B) is not doubled: a capacity is at most 17592186044416 units of 0.000001.\n")
     assert {row["link"] for row in table((tmp_path / "rows.csv").read_text("ascii"))} == {"AC", "BC"}
     assert "AB is not doubled" in (tmp_path / "page.html").read_text("utf-8")

@@ -11,7 +11,6 @@ from typing import TYPE_CHECKING, NoReturn
 from mcf import TextError, find_program, fraction_of, jsons
 from mcf.arguments import Arguments
 from mcf.inputs import STANDARD_INPUT, texts_as_files
-from mcf.matrices import is_batch
 from mcf.needs import needed
 from mcf.output import main_of, require_outputs, write
 from mcf.ranges import status
@@ -105,6 +104,8 @@ def surveyed() -> int:
         parser.error("one growth at a time with --failures or --double")
     if words.quick and words.exact:
         parser.error("--quick does not solve, so it is not exact")
+    if words.quick and (words.gap or words.phases or words.step):
+        parser.error("--gap, --phases and --step are for solves, and --quick does not solve")
     if words.exact and (words.phases or words.step):
         parser.error("--phases and --step are for `mcf solve`, which --exact does not ask")
     if words.jobs < 1:
@@ -119,12 +120,11 @@ def surveyed() -> int:
 def run(words: argparse.Namespace, kinds: list[str]) -> int:
     """Makes the surveys of a network and its certificate, or of a matrix and the one that batch wrote for it."""
     with needed():
-        from mcf.report.work import Reader, answered, listed_in
+        from mcf.report.work import Reader, answered, listed_in, require_batch
     program = find_program(words.mcf)
     reader = Reader(program)
     given = reader.source(words.net), reader.source(words.certificate)
-    if words.matrix is not None and not is_batch(given[1].text):
-        raise TextError(f"--matrix names a matrix of what batch wrote, and {given[1].name} is a single answer")
+    require_batch(given[1], words)
     listed = listed_in(reader.source(words.list)) if words.list else None
     texts = [(one.name, one.text.encode("latin-1")) for one in answered(given, listed, words.matrix)]
     with texts_as_files(*texts) as (net, certificate):

@@ -76,7 +76,7 @@ class Side:
         """The figures at the top."""
         low, high = self.figures.lower, self.figures.upper
         if self.figures.is_total:
-            return self._total_cards(low, high or self.figures.total)
+            return self._total_cards(low, self.figures.total if high is None else high)
         cards = [("Carried of every demand", shown.percent_down(low) if low else "0.0 %")]
         if high is not None:
             within = " within the hop limits" if self.figures.keeps_limits else ""

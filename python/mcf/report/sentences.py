@@ -6,7 +6,7 @@ from fractions import Fraction
 
 from ..ranges import Answer, Range, fits, fits_by, spare
 from .figures import Figures
-from .shown import amount, amount_down, amount_up, counted, name, percent, percent_down, percent_up
+from .shown import amount_down, amount_up, counted, name, percent, percent_down, percent_up
 
 OPTIMUM = "this is the exact optimum"
 
@@ -80,8 +80,9 @@ def _total(bounds: Range, total: Fraction) -> str:
     low, high = bounds.lower, bounds.upper
     answer = fits(bounds.divided(total)) if total else Answer.YES
     if answer is Answer.YES:
-        return f"Every demand is carried whole, {amount(total)} in all."
-    front = f"{amount_down(low)} of {amount(total)} in all ({percent_down(low / total) if low else '0.0 %'})"
+        return f"Every demand is carried whole, {amount_down(total)} in all."
+    # (a sum of demands has six decimals at most, so nothing of it is rounded)
+    front = f"{amount_down(low)} of {amount_down(total)} in all ({percent_down(low / total) if low else '0.0 %'})"
     if answer is Answer.OPEN:
         return f"Not decided whether every demand fits: these paths carry {front}."
     most = f"more: {OPTIMUM}" if bounds.exact else f"more than {amount_up(high)} ({percent_up(high / total)})"

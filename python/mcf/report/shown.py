@@ -59,11 +59,13 @@ def joined(text: str) -> str:
 
 
 def amount(value: Fraction) -> str:
-    """A load or a capacity with at most three decimals."""
-    thousandths = (value * 1000 + Fraction(1, 2)).__floor__()
-    text = f"{thousandths // 1000:,}"
-    rest = f"{thousandths % 1000:03d}".rstrip("0")
-    return f"{text}.{rest}" if rest else text
+    """A load or a capacity with at most three decimals, or by its first two digits where it is less than a thousandth and not nothing."""
+    places = 3
+    while 0 < value * 1000 < 1 and value * 10 ** (places - 1) < 1:
+        places += 1
+    number = (value * 10**places + Fraction(1, 2)).__floor__()
+    rest = f"{number % 10**places:0{places}d}".rstrip("0")
+    return f"{number // 10**places:,}.{rest}" if rest else f"{number // 10**places:,}"
 
 
 def amount_down(value: Fraction) -> str:

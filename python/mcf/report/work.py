@@ -121,12 +121,21 @@ def write_report(program: Program, words: argparse.Namespace, title: str, say: C
     if is_batch(first.text) and words.matrix is None:
         _write_batch(reader, net, first, listed, words, title, say)
         return
-    if words.matrix is not None and not is_batch(first.text):
-        raise TextError(f"--matrix names a matrix of what batch wrote, and {first.name} is a single answer")
+    require_batch(first, words)
     other = reader.source(words.net2) if words.net2 else net
     pairs = [(net, first)] + ([(other, reader.source(words.second))] if words.second else [])
     both = [reader.shown(*answered(pair, listed, words.matrix)) for pair in pairs]
     _write_sides(_beside(both), words, title, say)
+
+
+def require_batch(answer: Source, words: argparse.Namespace) -> None:
+    """Refuses, beside a single answer, the words for what batch wrote."""
+    if is_batch(answer.text):
+        return
+    if words.matrix is not None:
+        raise TextError(f"--matrix names a matrix of what batch wrote, and {answer.name} is a single answer")
+    if words.list is not None:
+        raise TextError(f"--list is for what batch wrote, and {answer.name} is a single answer")
 
 
 def listed_in(source: Source) -> dict[str, str]:

@@ -30,6 +30,7 @@ def sentence(survey: Survey) -> str:
     if not survey.cases:
         return left_sentence(survey)
     front = f"With all demands times {_plain(survey.settings.growth)}: " if survey.settings.growth != 1 else ""
+    front += "of the links that can be doubled, " if survey.left else ""
     found = front + (_failures(survey) if survey.kind == "failure" else _doublings(survey))
     return f"{found} {left_sentence(survey)}" if survey.left else found
 
