@@ -22,7 +22,8 @@ formats written, by the name of TO (.gz packs each): .net .txt a network; .list 
 .csv links, .demands.csv, .nodes.csv
 
 units of numbers in CSV and GraphML: bit/s, b/s, bps, bit, with k, M, G or T in front, or k, M, G, T alone, as 10G; OC-n
-and STM-n; B/s, Bps and byte with --bytes. Any other is refused.
+and STM-n; B/s, Bps and byte with --bytes. Any other is refused. The head of a column of capacities or amounts, or the
+corner of a square, may have the unit of the plain numbers, as capacity (Gbit/s) or traffic_mbps.
 
 examples:
   convert germany50.xml germany50.net                       SNDlib's XML to a network file
