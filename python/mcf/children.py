@@ -25,6 +25,10 @@ PATIENCE = 10.0
 """How many seconds a child has to tidy up after SIGTERM."""
 
 BINARY = b"\x7fELF"
+
+_LONGEST = 2_000_000.0
+"""How many seconds can be waited for; more are none that come to an end."""
+
 _UNLESS_ORPHANED = '[ "$PPID" = "$0" ] && exec "$@"'
 _running: set[subprocess.Popen[bytes]] = set()
 
@@ -63,7 +67,7 @@ def run(words: Sequence[str], seconds: float | None = None, *, descriptors: Sequ
     error goes; None leaves it that of the caller. OSError where it cannot be started.
     """
     with started(words, descriptors=descriptors, environment=environment, gently=gently, errors=errors) as child:
-        output, told = child.communicate(timeout=seconds)
+        output, told = child.communicate(timeout=None if seconds is None or seconds > _LONGEST else seconds)
         return Ended(child.returncode, output, told or b"")
 
 

@@ -15,7 +15,7 @@ from pathlib import Path
 import pytest
 
 import mcf
-from mcf import Network, Program
+from mcf import Network, Program, children
 from mcf.running import in_memory, run, run_tool
 
 LONG = """
@@ -264,6 +264,12 @@ def test_what_ended_is_told() -> None:
     assert run(["/bin/sh", "-c", "kill -15 $$"]).status == -15
     with pytest.raises(mcf.Timeout):
         run(["/bin/sh", "-c", "sleep 100 & sleep 100"], timeout=0.2)
+
+
+@pytest.mark.parametrize("seconds", [3e6, 1e300])
+def test_what_is_waited_for_may_take_longer_than_the_system_counts(seconds: float) -> None:
+    assert run(["/bin/true"], timeout=seconds).status == 0
+    assert children.run(["/bin/true"], seconds).status == 0
 
 
 def test_where_there_is_no_setpriv_a_program_runs_all_the_same(monkeypatch: pytest.MonkeyPatch) -> None:
