@@ -41,7 +41,7 @@ def test_what_a_file_says(text: str, mode: str, said: str | None) -> None:
     assert link_mode("a.net", text.encode("ascii")) == LinkMode(mode, said)
 
 
-@pytest.mark.parametrize("words", [("route", "--no-best"), ("certify",), ("study", "--store", "STORE")])
+@pytest.mark.parametrize("words", [("route", "--by", "hops", "--no-best"), ("certify",), ("study", "--store", "STORE")])
 def test_tools_read_links_as_the_file_says(program: Program, root: Path, tmp_path: Path, words: tuple[str, ...]) -> None:
     """Both demands of 5 fit through a link of 10 twice over where each way has its whole capacity, and once where both share it."""
     net = tmp_path / "a.net"
