@@ -81,13 +81,14 @@ def routed() -> int:
         jsons.note(f"--{option} means nothing for --by {given.by}{' --no-best' if option == 'seconds' else ''}", "route")
     with needed():
         from mcf.route.run import Question, route
+    program = find_program(given.mcf)
     name = STANDARD_INPUT if given.net == "-" else given.net
     with as_files(given.net) as (net,):
         read = LinkMode(given.links) if given.links else link_mode(name, contents(net))
         if read.said:
             jsons.note(read.said, "route")
         question = Question(net, given.by, read.mode, given.modules, given.lengths, given.cost, given.paths, given.seconds, not given.no_best)
-        found = route(find_program(given.mcf), question)
+        found = route(program, question)
     write(output, found.text.encode("latin-1"))
     for note in [found.line, *found.notes]:
         jsons.note(note, "route")
