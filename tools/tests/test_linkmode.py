@@ -7,6 +7,7 @@ from pathlib import Path
 
 import pytest
 
+from desks import desk
 from mcf import Program
 from mcf.linkmode import LinkMode, link_mode
 
@@ -56,3 +57,14 @@ def test_tools_read_links_as_the_file_says(program: Program, root: Path, tmp_pat
             assert f"\nlinks {'bidirected' if told else 'undirected'}\n" in (tmp_path / "out").read_text("ascii")
             assert done.stderr.splitlines()[0].endswith("says") == told
         assert f"{fits}.000000" in done.stderr + done.stdout or f"{fits}00" in done.stdout
+
+
+@pytest.mark.parametrize(("asked", "fits", "said"), [((), "2.", "desk: links are read as bidirected, as {} says\n"), (("--links", "undirected"), "1.", "")])
+def test_a_desk_reads_links_as_the_file_says(program: Program, tmp_path: Path, asked: tuple[str, ...], fits: str, said: str) -> None:
+    net = tmp_path / "a.net"
+    net.write_text(meta("bidirected"), "ascii")
+    with desk(program, net, *asked) as running:
+        running.enter()
+        running.done()
+        bounds, told = running.bounds(), running.end()[1]
+    assert bounds[0].startswith(fits) and told.startswith(said.format(net))

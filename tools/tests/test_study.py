@@ -21,6 +21,7 @@ import mcf
 from mcf import Program, TextError, read_network, write_network
 from mcf.network import Network
 from mcf.ranges import Answer, Range
+from mcf.report.shown import percent_down
 from mcf.studies import answers, run, work
 from mcf.studies.bands import band
 from mcf.studies.changes import Fibres, all_changes, failures, read_changes, read_groups
@@ -220,6 +221,33 @@ def test_a_rule_is_that_of_route(tmp_path: Path, program: Program, rule: str) ->
     done = subprocess.run([STUDY.parent / "route", net, "--by", rule, "--no-best", "--mcf", program.path, "--output", tmp_path / "r"], capture_output=True,
                           text=True, check=True)
     assert Fraction(found["lower"]) == Fraction(done.stderr.split(" ")[4]) and (found["upper"], found["verdict"], found["fits"]) == ("", "feasible", "yes")
+
+
+# one demand over 3 links, one over 5, and so on: no number of phases up to 65,536 splits all of them equally
+ODD = (3, 5, 7, 11, 13, 17)
+PARALLEL = network([(f"L{count}_{at}", "A", f"N{count}", "1") for count in ODD for at in range(count)], [(f"D{count}", "A", f"N{count}", "1") for count in ODD])
+
+
+def test_a_row_says_how_its_routing_falls_short_of_its_rule(tmp_path: Path, program: Program) -> None:
+    net = net_file(tmp_path, PARALLEL)
+    found = rows(tmp_path, net, "--routing", "best,hops,ecmp,k-paths", "--paths", "20", program=program, status=0)
+    best, hops, ecmp, few = (row["note"] for row in found)
+    assert best == "" == hops and ecmp.startswith("no number of phases up to 65536 makes these splits exact; of ")
+    assert few.startswith("6 of 6 pairs of nodes have fewer than 20 paths")
+    done = subprocess.run([STUDY.parent / "route", net, "--by", "ecmp", "--no-best", "--mcf", program.path, "--output", tmp_path / "r"], capture_output=True,
+                          text=True, check=True)
+    assert f"route: {ecmp}\n" in done.stderr
+    words = (net, "--routing", "ecmp", "--html", "p.html")
+    out, _ = ran(tmp_path, *words, program=program, status=0)
+    assert out == ("It is shown to carry all demands in 1 of 1 scenario; 1 has a note in the table. The least that it is shown to carry is "
+                   f"{percent_down(Fraction(found[2]['lower']))} of every demand: the network as it is.\n")
+    assert ecmp in (tmp_path / "p.html").read_text()
+
+
+def test_a_row_says_how_the_routing_of_its_rest_falls_short(tmp_path: Path, program: Program) -> None:
+    net = net_file(tmp_path, PARALLEL.replace(")\nLINKS", "  Z\n)\nLINKS").replace("DEMANDS (\n", "DEMANDS (\n  LOST ( A Z ) 1 1 UNLIMITED\n"))
+    found, = rows(tmp_path, net, "--routing", "ecmp", "--without-cut", "--recheck", program=program, status=1)
+    assert (found["upper"], found["without_way"], found["note"][:12]) == ("0", "LOST", "no number of")
 
 
 def test_a_rule_that_is_not_shown_to_carry_all_is_undecided(tmp_path: Path, program: Program) -> None:
@@ -475,6 +503,55 @@ def test_a_file_that_is_no_store_is_refused(tmp_path: Path, program: Program) ->
     assert ran(tmp_path, net, "--store", net, program=program, status=2)[1].startswith(f"study: {net}: is read too")
 
 
+# a store as version 0.2.0 made it first, without notes
+FORM_1 = """CREATE TABLE texts (digest TEXT PRIMARY KEY, data BLOB NOT NULL) WITHOUT ROWID;
+CREATE TABLE rows (key TEXT PRIMARY KEY, network TEXT NOT NULL, matrix TEXT NOT NULL, asked TEXT NOT NULL, verdict TEXT NOT NULL, line TEXT NOT NULL,
+lower TEXT NOT NULL, upper TEXT NOT NULL, rest_verdict TEXT, rest_line TEXT, rest_lower TEXT, rest_upper TEXT, left_out TEXT NOT NULL, cut TEXT NOT NULL,
+seconds REAL NOT NULL, place TEXT NOT NULL, version TEXT NOT NULL, rechecked INTEGER NOT NULL, certificate BLOB, rest_certificate BLOB);
+PRAGMA application_id = 0x6D636673; PRAGMA user_version = 1;"""
+
+
+def of_form_1(path: Path, plan: Plan) -> None:
+    """A store of form 1 with a routing of each scenario."""
+    with sqlite3.connect(path) as base:
+        base.executescript(FORM_1)
+        for one in plan:
+            asked = '{"links": [], "nodes": [], "capacities": []}'
+            base.execute(f"INSERT INTO rows VALUES ({', '.join('?' * 20)})", (one.key, "net", "matrix", asked, "feasible", "feasible 1", "1/2", "",
+                                                                            *(None,) * 4, "[]", "[]", 0.1, "here", "0.1", 0, CERT, None))
+    base.close()
+
+
+def test_a_store_without_notes_is_gone_on_with(tmp_path: Path) -> None:
+    plan, path = plan_of(read_network(TRIANGLE), [INTACT], routings=("hops", "ecmp", "k-paths")), tmp_path / "s.db"
+    of_form_1(path, plan)
+    for _ in range(2):
+        store = Store(str(path), create=False)
+        found = {case.scenario.routing: (case.found.lower, case.note) for case in answers.cases(plan, store)}
+        assert found == {"hops": ("1/2", None), "ecmp": ("1/2", answers.NOT_KEPT), "k-paths": ("1/2", answers.NOT_KEPT)}
+        assert not store.left(list(plan), Wanted(True, True))
+        store.close()
+    one = list(plan)[1]
+    store = Store(str(path))
+    store.add([(one, Row(one.key, Found("feasible", "line", "1/3", "", CERT, "rounded"), None, (), (), 0.1, "", ""), False)], "net", Asked())
+    assert [case.note for case in answers.cases(plan, store)] == [None, "rounded", answers.NOT_KEPT]
+    store.close()
+
+
+def test_a_store_is_never_between_two_forms(tmp_path: Path) -> None:
+    path = tmp_path / "s.db"
+    of_form_1(path, plan_of(read_network(TRIANGLE), [INTACT]))
+    with sqlite3.connect(path) as base:
+        # (so that the second column cannot be added)
+        base.execute("ALTER TABLE rows ADD COLUMN rest_note TEXT")
+    base.close()
+    with pytest.raises(TextError, match="s.db: duplicate column name: rest_note"):
+        Store(str(path))
+    with sqlite3.connect(path) as base:
+        assert base.execute("PRAGMA user_version").fetchone()[0] == 1 and "note" not in [row[1] for row in base.execute("PRAGMA table_info(rows)")]
+    base.close()
+
+
 def test_a_full_disk_ends_it_in_one_line_and_the_same_command_goes_on(tmp_path: Path, program: Program) -> None:
     small = tmp_path / "small"
     small.mkdir()
@@ -652,7 +729,7 @@ def test_the_worst_is_one_of_those_that_have_an_answer(found: list[Found], said:
 
 
 def test_of_a_rule_the_least_is_of_those_that_have_an_answer() -> None:
-    carried = Found("feasible", "", "1/2", "")
+    carried = Found("feasible", "", "1/2", note="")
     part = summed([case_of(carried, "L0", routing="ecmp"), case_of(LOST, "L1", routing="ecmp")], "ecmp")
     assert sentences(plan_of(read_network(TRIANGLE), [INTACT], routings=("ecmp",)), [part]) == [
         "It is shown to carry all demands in 0 of 2 scenarios; 1 has no answer, and the same command tries again. "

@@ -44,7 +44,7 @@ def options() -> Arguments:
     parser.add_argument("net", metavar="NET", help="a network file")
     parser.add_argument("cert", metavar="CERT", nargs="?", help="a certificate of it, as mcf solve and tools/certify write it")
     parser.add_argument("--save", metavar="FILE", help="keep the edits there, as a script of mcf whatif; go on with those that it has")
-    parser.add_argument("--links", choices=LINKS, help="how links are read, where the network is solved first (undirected)")
+    parser.add_argument("--links", choices=LINKS, help="how links are read, where the network is solved first (as the file says, else undirected)")
     parser.add_argument("--modules", choices=MODULES, help="which modules count, likewise (largest)")
     parser.add_argument("--gap", metavar="G", help="the gap of the first solve; that of the program without it")
     parser.add_argument("--port", type=port, default=0, metavar="N", help="the port (one that is free)")

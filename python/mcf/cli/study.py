@@ -37,7 +37,8 @@ routings: best (mcf solve), exact (to a millionth, as tools/certify), and the ru
 
 A node that fails takes its links, and its own demands are left out (column left_out). Where a demand has no way the fraction is 0
 and the demand is named (without_way); --without-cut tells the fraction of the rest too. Growth divides both bounds; nothing is solved
-for it. Of a rule the certificate shows what it carries, and not that it can carry no more: its fits is yes or undecided.
+for it. Of a rule the certificate shows what it carries, and not that it can carry no more: its fits is yes or undecided, unless a
+demand has no way. The column note says where its shares were rounded, or the time was too short for its best split.
 
 status: 0 all demands fit in each scenario; 1 in some they do not, or it is not decided; 2 no answer; 130 interrupted
 """

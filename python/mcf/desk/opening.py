@@ -8,9 +8,11 @@ from dataclasses import dataclass
 from pathlib import Path
 from typing import TypeVar
 
+from .. import jsons
 from ..commands import ask, program_path
 from ..errors import Invalid, McfError, Refused, TextError, kind_of
 from ..inputs import is_word
+from ..linkmode import LinkMode, link_mode
 from ..network import read_network
 from ..output import contents, require_output
 from ..report.shown import name
@@ -58,7 +60,7 @@ def opened(request: Request) -> tuple[Desk, Works]:
     net = contents(request.net)
     printed = _said(request.net, lambda: ask("print", {"net": net}).out, net=request.net)
     cert = contents(request.cert) if request.cert is not None else None
-    links, modules = _modes(request, cert)
+    links, modules = _modes(request, net, cert)
     try:
         scaled = scale(read_network(printed.decode("latin-1")), links, modules)
     except TextError as why:
@@ -79,10 +81,13 @@ def _shown(file: str) -> str:
     return os.fsencode(file).decode("utf-8", "replace")
 
 
-def _modes(request: Request, cert: bytes | None) -> tuple[str, str]:
-    """How links and modules are read: as the certificate says, else as the words do."""
+def _modes(request: Request, net: bytes, cert: bytes | None) -> tuple[str, str]:
+    """How links and modules are read: as the certificate says, else as the words do, else as the network's file does, which is told."""
     if cert is None:
-        return request.links or "undirected", request.modules or "largest"
+        read = LinkMode(request.links) if request.links else link_mode(request.net, net)
+        if read.said:
+            jsons.note(read.said, "desk")
+        return read.mode, request.modules or "largest"
     if request.links or request.modules or request.gap:
         raise TextError("--links, --modules and --gap are for the first solve, and a certificate is given: it says how links and modules "
                         "are read").at(kind="usage")

@@ -15,13 +15,14 @@ from ..names import cell_of
 from ..numbers import decimal_of, fraction_of, rounded_down, rounded_up
 from ..ranges import Answer, Extreme, Range, fits, status, worst
 from .run import parts
-from .scenarios import RULES, Plan, Scenario
+from .scenarios import RULES, SPLITS, Plan, Scenario
 from .store import Store
-from .work import FAILED, NOTHING, REFUSED, Found, Row
+from .work import FAILED, FEASIBLE, NOTHING, REFUSED, Found, Row
 
 COLUMNS = ("matrix", "time", "kind", "change", "links", "nodes", "growth", "routing", "lower", "upper", "lower_decimal", "upper_decimal",
-           "verdict", "fits", "without_way", "left_out", "rest_lower", "rest_upper", "rest_fits", "refusal", "seconds", "place", "version",
-           "key")
+           "verdict", "fits", "note", "without_way", "left_out", "rest_lower", "rest_upper", "rest_fits", "refusal", "seconds", "place",
+           "version", "key")
+NOT_KEPT = "an earlier version, which kept no notes, made this routing"
 WORDS = {Answer.YES: "yes", Answer.NO: "no", Answer.OPEN: "undecided"}
 
 
@@ -57,6 +58,12 @@ class Case:
     def fits(self) -> str:
         """Whether all demands fit."""
         return WORDS[fits(self.range)] if self.has_range else WORDS[Answer.OPEN]
+
+    @property
+    def note(self) -> str | None:
+        """How its routing by a rule, or that of its rest, falls short of the rule; that this is not known where no note was kept."""
+        noted = self.rest or self.found
+        return NOT_KEPT if noted.note is None and noted.verdict == FEASIBLE and self.scenario.routing in SPLITS else noted.note or None
 
 
 @dataclass(frozen=True)
@@ -99,7 +106,7 @@ def record(case: Case) -> dict[str, object]:
         "matrix": name_of(scenario.matrix.name), "time": scenario.matrix.time or None, "kind": change.kind, "change": name_of(change.name),
         "links": _names(change.links), "nodes": _names(change.nodes), "growth": case.growth, "routing": scenario.routing,
         "lower": lower, "upper": upper, "lower_decimal": _down(lower), "upper_decimal": _up(upper), "verdict": found.verdict,
-        "fits": case.fits, "without_way": _names(row.cut if row else ()), "left_out": _names(row.left_out if row else ()),
+        "fits": case.fits, "note": case.note, "without_way": _names(row.cut if row else ()), "left_out": _names(row.left_out if row else ()),
         "rest_lower": rest_lower, "rest_upper": rest_upper, "rest_fits": _rest_fits(rest, case.growth), "refusal": refusal,
         "seconds": round(row.seconds, 4) if row else None, "place": row.place if row else None, "version": row.version if row else None,
         "key": scenario.key}
@@ -158,7 +165,7 @@ class Part:
     """What was found for one routing and one growth: counts, and the worst of the cases of which something is known, or all that may be it.
 
     left_out: how many have demands of lost nodes, which are left out. lost_rest: of how many that was asked for of the demands that have
-    a way there is no answer.
+    a way there is no answer. noted: how many have a note.
     """
 
     routing: str
@@ -172,6 +179,7 @@ class Part:
     least: Extreme[Carried] | None = None
     left_out: int = 0
     lost_rest: int = 0
+    noted: int = 0
 
     @property
     def known(self) -> int:
@@ -196,7 +204,7 @@ class _Sum:
     def __init__(self, routing: str, growth: str) -> None:
         """Nothing was taken yet."""
         self._routing, self._growth = routing, growth
-        self._of = self._cut = self._refused = self._failed = self._left_out = self._lost_rest = 0
+        self._of = self._cut = self._refused = self._failed = self._left_out = self._lost_rest = self._noted = 0
         self._counts = dict.fromkeys(Answer, 0)
         self._worst: Extreme[Case] | None = None
         self._least: Extreme[Carried] | None = None
@@ -212,6 +220,7 @@ class _Sum:
         self._failed += sum(case.found.verdict == FAILED for case in some)
         self._left_out += sum(bool(case.row and case.row.left_out) for case in some)
         self._lost_rest += sum(case.rest is not None and case.rest.verdict == FAILED for case in some)
+        self._noted += sum(case.note is not None for case in some)
         if known and self._routing in RULES:
             self._least = worst([*(self._least.cases if self._least else ()), *map(Carried, known)])
         elif known:
@@ -222,7 +231,8 @@ class _Sum:
         known = sum(self._counts.values())
         found = replace(self._worst, of=known) if self._worst else None
         least = replace(self._least, of=known) if self._least else None
-        return Part(self._routing, self._growth, self._of, self._counts, self._cut, self._refused, self._failed, found, least, self._left_out, self._lost_rest)
+        return Part(self._routing, self._growth, self._of, self._counts, self._cut, self._refused, self._failed, found, least, self._left_out, self._lost_rest,
+                    self._noted)
 
 
 def status_of(found: Iterable[Part]) -> int:
@@ -252,7 +262,7 @@ def case_values(case: Case) -> dict[str, object]:
     values, row, rest, change = record(case), case.row, case.rest, case.scenario.change
     lists = {"links": change.links, "nodes": change.nodes, "without_way": row.cut if row else (), "left_out": row.left_out if row else ()}
     plain = {name: values[name] for name in ("matrix", "time", "kind", "change", "growth", "routing", "lower", "upper", "verdict",
-                                             "rest_lower", "rest_upper", "refusal", "seconds", "place", "version", "key")}
+                                             "note", "rest_lower", "rest_upper", "refusal", "seconds", "place", "version", "key")}
     fitting = {"fits": fits(case.range) if case.has_range else Answer.OPEN,
                "rest_fits": fits(range_of(rest, case.growth)) if rest and rest.lower else None}
     judged = case.found.line if case.has_range else None

@@ -46,7 +46,8 @@ def study(network: Network | Path, matrices: Mapping[str, Any] | Sequence[Path] 
 
     store: the file that keeps what is done, so that the same call goes on where it was; without it nothing is kept. jobs: processes of
     this machine (one for each processor; 1 starts none). scheduler: that of a cluster of Dask, in place of processes of this machine.
-    keep, recheck: keep certificates; judge them here again. exact: bounds as Fractions in place of floats.
+    keep, recheck: keep certificates; judge them here again. exact: bounds as Fractions in place of the nearest floats, which may lie
+    on either side.
 
     ValueError for an unknown name, a table or a number that cannot be; McfError where the program or a cluster fails.
     """

@@ -3,6 +3,7 @@
 from __future__ import annotations
 
 import time
+from dataclasses import replace
 
 from ..certificate import write_routing
 from ..errors import TextError
@@ -21,8 +22,9 @@ def by_rule(mcf: Program, network: Network, text: bytes, asked: Asked, _: str, r
     if scaled is None:
         return solved(mcf, text, asked)
     deadline = time.monotonic() + asked.seconds
+    notes: list[str] = []
     try:
-        routing = ruled(scaled, _FORM, rule, asked.lengths, asked.cost, asked.paths, deadline, [], quiet=True)
+        routing = ruled(scaled, _FORM, rule, asked.lengths, asked.cost, asked.paths, deadline, notes, quiet=True)
     except TextError as why:
         return Found(REFUSED, f"there is no routing by {rule}: {why}")
-    return judged(mcf, text, write_routing(routing).encode("latin-1"))
+    return replace(judged(mcf, text, write_routing(routing).encode("latin-1")), note="; ".join(notes))

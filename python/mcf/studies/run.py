@@ -131,7 +131,7 @@ def _recheck(row: Row, tasks: Left, place: Place) -> None:
     for found, one in ((row.found, network.network), (row.rest, network.without(row.cut))):
         if found is not None and (found.lower or found.upper or found.certificate is not None):
             here = _judged_here(mcf, write_network(one), found)
-            if here != replace(found, certificate=None):
+            if here != replace(found, certificate=None, note=None):
                 raise TextError(f"{who} {found.line!r}, bounds {found.lower} and {found.upper or 'none'}, and the check here {here.line!r}")
 
 

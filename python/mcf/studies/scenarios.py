@@ -13,6 +13,9 @@ from itertools import product
 from ..network import Demand, Network, write_network
 
 RULES = ("ecmp", "hops", "capacity", "cost", "k-paths")
+SPLITS = ("ecmp", "k-paths")
+"""The rules of which a routing may fall short, since it has whole shares, or too little time."""
+
 ROUTINGS = ("best", "exact", *RULES)
 _OPTIONS = {"best": ("gap", "phases", "step"), "exact": ("gap", "seconds"), "ecmp": ("lengths", "cost"), "cost": ("cost",),
             "k-paths": ("lengths", "cost", "paths", "seconds")}

@@ -22,7 +22,7 @@ from .scenarios import Asked, Change, Scenario, digest_of
 from .work import FAILED, NOTHING, REFUSED, Found, Row
 
 APPLICATION = 0x6D636673
-FORM = 1
+FORM = 2
 _WAIT = 60.0
 _AT_ONCE = 500
 _FRONT = b"SQLite format 3\0"
@@ -33,13 +33,17 @@ CREATE TABLE rows (
     verdict TEXT NOT NULL, line TEXT NOT NULL, lower TEXT NOT NULL, upper TEXT NOT NULL,
     rest_verdict TEXT, rest_line TEXT, rest_lower TEXT, rest_upper TEXT,
     left_out TEXT NOT NULL, cut TEXT NOT NULL, seconds REAL NOT NULL, place TEXT NOT NULL, version TEXT NOT NULL,
-    rechecked INTEGER NOT NULL, certificate BLOB, rest_certificate BLOB);
+    rechecked INTEGER NOT NULL, certificate BLOB, rest_certificate BLOB, note TEXT, rest_note TEXT);
+"""
+_NOTES = """
+ALTER TABLE rows ADD COLUMN note TEXT;
+ALTER TABLE rows ADD COLUMN rest_note TEXT;
 """
 _COLUMNS = ("key", "network", "matrix", "asked", "verdict", "line", "lower", "upper", "rest_verdict", "rest_line", "rest_lower",
-            "rest_upper", "left_out", "cut", "seconds", "place", "version", "rechecked", "certificate", "rest_certificate")
-_FOUND = ("network", "matrix", "asked", "verdict", "line", "lower", "upper", "left_out", "cut", "seconds", "place", "version",
+            "rest_upper", "note", "rest_note", "left_out", "cut", "seconds", "place", "version", "rechecked", "certificate", "rest_certificate")
+_FOUND = ("network", "matrix", "asked", "verdict", "line", "lower", "upper", "note", "left_out", "cut", "seconds", "place", "version",
           "certificate")
-_REST = ("rest_verdict", "rest_line", "rest_lower", "rest_upper", "rest_certificate")
+_REST = ("rest_verdict", "rest_line", "rest_lower", "rest_upper", "rest_note", "rest_certificate")
 # what stands there stays where the new one has no answer, or no certificate and this has one
 _OLD_FOUND = (f"(rows.verdict <> '{FAILED}' AND (excluded.verdict = '{FAILED}' OR "
               "(rows.certificate IS NOT NULL AND excluded.certificate IS NULL)))")
@@ -108,20 +112,28 @@ class Store:
                 raise
 
     def _require_own(self, create: bool) -> None:
-        """Makes the tables in a file that has nothing; TextError where it has something else."""
+        """Makes the tables in a file that has nothing, and columns of notes in one of form 1; TextError where it has something else."""
         self._base.execute("BEGIN IMMEDIATE")
         try:
             application, form, tables = (self._base.execute(f"PRAGMA {name}").fetchone()[0] for name in ("application_id", "user_version",
                                                                                                        "schema_version"))
             if not tables and not application and create:
-                for statement in (*_TABLES.split(";\n"), f"PRAGMA application_id = {APPLICATION}", f"PRAGMA user_version = {FORM}"):
-                    self._base.execute(statement)
+                self._change(_TABLES, f"PRAGMA application_id = {APPLICATION}")
+            elif (application, form) == (APPLICATION, 1):
+                self._change(_NOTES)
             elif application != APPLICATION or form != FORM:
                 what = "a study of another form" if application == APPLICATION else "a database, and none of a study"
                 raise TextError(f"{self.path}: is {what}; name another file by --store")
-        finally:
+        except BaseException:
             if self._base.in_transaction:
-                self._base.execute("COMMIT")
+                self._base.execute("ROLLBACK")
+            raise
+        self._base.execute("COMMIT")
+
+    def _change(self, statements: str, *more: str) -> None:
+        """Changes the tables, which are of the present form then."""
+        for statement in (*statements.split(";\n"), *more, f"PRAGMA user_version = {FORM}"):
+            self._base.execute(statement)
 
     @contextmanager
     def _told(self) -> Iterator[None]:
@@ -258,8 +270,9 @@ def _values(scenario: Scenario, row: Row, rechecked: bool, network: str, asked: 
     rest = row.rest
     told = json.dumps({**scenario.change.asked, "routing": scenario.routing, "options": asked.of(scenario.routing)})
     return (row.key, network, scenario.matrix.digest, told, row.found.verdict, row.found.line, row.found.lower, row.found.upper,
-            *((rest.verdict, rest.line, rest.lower, rest.upper) if rest else (None,) * 4), json.dumps(row.left_out), json.dumps(row.cut),
-            row.seconds, row.place, row.version, int(rechecked), row.found.certificate, rest.certificate if rest else None)
+            *((rest.verdict, rest.line, rest.lower, rest.upper) if rest else (None,) * 4), row.found.note, rest.note if rest else None,
+            json.dumps(row.left_out), json.dumps(row.cut), row.seconds, row.place, row.version, int(rechecked), row.found.certificate,
+            rest.certificate if rest else None)
 
 
 def _kept(named: dict[str, object]) -> Kept:
@@ -276,10 +289,15 @@ def _kept(named: dict[str, object]) -> Kept:
         zlib.decompress(value)
         return value
 
-    found = Found(word("verdict"), word("line"), word("lower"), word("upper"), blob("certificate"))
+    def note(name: str) -> str | None:
+        """What is to be said of a routing by a rule; None in a row of form 1."""
+        return None if named[name] is None else word(name)
+
+    found = Found(word("verdict"), word("line"), word("lower"), word("upper"), blob("certificate"), note("note"))
     rest = None
     if named["rest_verdict"] is not None:
-        rest = Found(word("rest_verdict"), word("rest_line"), word("rest_lower"), word("rest_upper"), blob("rest_certificate"))
+        rest = Found(word("rest_verdict"), word("rest_line"), word("rest_lower"), word("rest_upper"), blob("rest_certificate"),
+                     note("rest_note"))
     for one in (found, rest):
         _require_bounds(one)
     row = Row(word("key"), found, rest, tuple(json.loads(word("left_out"))), tuple(json.loads(word("cut"))), float(word("seconds")),

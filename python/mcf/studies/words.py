@@ -63,6 +63,8 @@ def _more(part: Part) -> list[str]:
         found.append(f"{part.refused:,} {'was' if part.refused == 1 else 'were'} refused")
     if part.failed:
         found.append(f"{part.failed:,} {'has' if part.failed == 1 else 'have'} no answer, and the same command tries again")
+    if part.noted:
+        found.append(f"{part.noted:,} {'has' if part.noted == 1 else 'have'} a note in the table")
     if part.lost_rest:
         found.append(f"of {part.lost_rest:,} the demands that have a way have no answer, and the same command tries again")
     return found

@@ -22,7 +22,7 @@ from .children import Answer, Ended, Program, program
 from .scenarios import Asked, Change, changed, demands_of, unpacked
 
 KEPT = 4
-REFUSED, FAILED, NOTHING = "refused", "failed", "nothing"
+FEASIBLE, REFUSED, FAILED, NOTHING = "feasible", "refused", "failed", "nothing"
 _Value = TypeVar("_Value")
 
 
@@ -55,7 +55,8 @@ class Found:
     """What is known of one network: a verdict, the line of its judge or the refusal, bounds as fractions, and the certificate.
 
     The certificate is packed once it is sent. The verdict is closed, open or feasible, as the line of the judge has it; or it was refused,
-    or failed; or nothing was left to route.
+    or failed; or nothing was left to route. The note says how a routing by a rule falls short of the rule, as by shares that are rounded;
+    None where that is not known, or there is no rule.
     """
 
     verdict: str
@@ -63,6 +64,7 @@ class Found:
     lower: str = ""
     upper: str = ""
     certificate: bytes | None = None
+    note: str | None = None
 
     @property
     def carries_nothing(self) -> bool:
@@ -169,7 +171,7 @@ def judged(mcf: Program, text: bytes, certificate: bytes) -> Found:
     judgement = judgement_of(answer.line, Fraction(1)) if answer.status == 0 else None
     if not judgement:
         raise Ended(f"mcf check says: {answer.line or f'status {answer.status}'}")
-    verdict = {True: "closed", False: "open", None: "feasible"}[judgement.closed]
+    verdict = {True: "closed", False: "open", None: FEASIBLE}[judgement.closed]
     upper = "" if judgement.upper is None else str(judgement.upper)
     return Found(verdict, answer.line, str(judgement.lower), upper, certificate)
 
