@@ -57,7 +57,7 @@ def _exact(value: object) -> Fraction | None:
     if isinstance(value, Rational):
         return Fraction(int(value.numerator), int(value.denominator))
     if isinstance(value, Decimal):
-        return Fraction(value) if value.is_finite() else None
+        return Fraction(_near(value)) if value.is_finite() else None
     if isinstance(value, Real):
         return Fraction(str(value)) if math.isfinite(value) else None
     try:
@@ -65,6 +65,13 @@ def _exact(value: object) -> Fraction | None:
     except ValueError:
         # (as for more digits than Python reads)
         return None
+
+
+def _near(value: Decimal) -> Decimal:
+    """A finite Decimal; of an exponent that makes a fraction of endless digits, one that is refused for the same reason."""
+    sign, digits, exponent = value.as_tuple()
+    assert isinstance(exponent, int)
+    return Decimal((sign, digits, max(-99 - len(digits), min(exponent, 99))))
 
 
 def decimal_word(value: Fraction) -> str:

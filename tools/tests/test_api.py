@@ -103,7 +103,8 @@ def test_numbers_are_exact(value: object, exact: Fraction) -> None:
     (1e-7, "has more than 6 decimals"), (float("nan"), "is no number"), (float("inf"), "is no number"), (-1, "is negative"), ("1,5", "is no number"),
     (True, "is no number"), (None, "is no number"), (Fraction(1, 3), "has more than 6 decimals"), (2**44 + 1, "is more than 17592186044416"),
     (Decimal("NaN"), "is no number"), ("1/2", "is no number"), (pandas.NA, "is no number"), (1 / 3, "has more than 6 decimals"), ([1], "is no number"),
-    ("9" * 5000, "'99999[0-9]*.. is no number"), pytest.param(10**5000, "a number of thousands of digits is more than", id="long"), (10**100, "10{79}.. is more than")])
+    ("9" * 5000, "'99999[0-9]*.. is no number"), pytest.param(10**5000, "a number of thousands of digits is more than", id="long"), (10**100, "10{79}.. is more than"),
+    (Decimal("1E+99999999"), "1E.99999999 is more than"), (Decimal("1E-99999999"), "has more than 6 decimals"), (Decimal("-1E+99999999"), "is negative")])
 def test_other_numbers_are_refused_by_their_row(value: object, said: str) -> None:
     frame = pandas.DataFrame({"source": ["A", "A"], "target": ["B", "B"], "capacity": pandas.Series([1, value], [7, 8], dtype=object)}, index=[7, 8])
     with pytest.raises(ValueError, match=f"links, row 8, capacity: .*{said}"):
