@@ -212,19 +212,20 @@ def swept(network: Network, certificate: Certificate | Path, timeout: float | No
     """What a certificate is worth without each link."""
     with _refused_by_path(cert=certificate):
         ended = ask("sweep", {"net": network.data, "cert": _text_of(certificate)}, (), timeout)
-    return Sweep(tuple(_bounds(line) for line in ended.text.splitlines()))
+    return Sweep(tuple(map(_bounds, ended.lines)))
 
 
 def sweep_solved(network: Network, options: Options, timeout: float | None) -> Sweep:
     """The network solved without each link."""
     ended = ask("sweepsolve", {"net": network.data}, option_words(_options(network, options)), timeout)
-    return Sweep(tuple(_bounds(line) for line in ended.text.splitlines()))
+    return Sweep(tuple(map(_bounds, ended.lines)))
 
 
 def _bounds(line: str, case: str = "") -> Bounds:
     """The bounds of a line of sweep, sweepsolve or whatif."""
     words = line.split(" ")
-    lower, upper = (Fraction(words[words.index(name, 1) + 1]) for name in ("lower", "upper"))
+    # (a link may have any name, as lower)
+    lower, upper = Fraction(words[-5]), Fraction(words[-2])
     if words[2:3] in (["closed"], ["open"]):
         return Bounds(name_of(words[1]), lower, upper, words[2] == "closed", int(words[4]))
     return Bounds(case or name_of(words[1]), lower, upper)
@@ -238,7 +239,7 @@ def what_if(network: Network, certificate: Certificate | Path, edits: Sequence[t
     texts = {"net": network.data, "cert": _text_of(certificate), "script": script.encode("latin-1")}
     with _refused_by_path(cert=certificate):
         ended = ask("whatif", texts, (), timeout)
-    return WhatIf(tuple(_bounds(said, name_of(line)) for said, line in zip(ended.text.splitlines(), lines)))
+    return WhatIf(tuple(_bounds(said, name_of(line)) for said, line in zip(ended.lines, lines)))
 
 
 def _edit_line(edit: tuple[Any, ...], what: str, ids: set[str]) -> str:

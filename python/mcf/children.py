@@ -47,6 +47,11 @@ class Ended:
         return self.out.decode("latin-1")
 
     @property
+    def lines(self) -> list[str]:
+        """The lines of that; a byte of a name may be a character at which Python would end a line, so `splitlines` is no way to them."""
+        return self.text.split("\n")[:-1]
+
+    @property
     def line(self) -> str:
         """The first line of that, at most 300 bytes of it."""
         return self.out[:300].split(b"\n", 1)[0].decode("latin-1")

@@ -453,6 +453,17 @@ def test_a_figure(program: Program, root: Path) -> None:
 # -- the other commands
 
 
+def test_a_link_may_have_any_name(triangle: Network) -> None:
+    """Words of the program's own lines, and a name whose last byte ends a line of Latin-1."""
+    names = ["lower", "upper", "Å"]
+    network = Network.from_frames(LINKS.assign(id=names), DEMANDS)
+    others = triangle.sweep(triangle.solve()), triangle.sweepsolve(), triangle.whatif(triangle.solve(), [("close", "A-B"), ("set", "B-C", 0)])
+    found = network.sweep(network.solve()), network.sweepsolve(), network.whatif(network.solve(), [("close", "lower"), ("set", "Å", 0)])
+    assert [[row.case for row in cases] for cases in found] == [names, names, ["close lower", "set Å 0"]]
+    for one, other in zip(found, others):
+        assert [(row.lower, row.upper) for row in one] == [(row.lower, row.upper) for row in other]
+
+
 def test_sweeps_and_edits(triangle: Network) -> None:
     certificate = triangle.certify(gap=0, progress=False)
     sweep = triangle.sweep(certificate)

@@ -309,6 +309,25 @@ def test_names_that_are_not_ascii_are_told_as_they_are(program: Program, tmp_pat
     assert refused(program, tmp_path / "a.net", "--save", tmp_path / "script") == (2, "", line)
 
 
+def test_names_have_bytes_that_are_blanks_and_ends_of_lines_elsewhere(program: Program, tmp_path: Path):
+    """The last byte of à is a blank of Latin-1, and that of Å ends a line there."""
+    net, file = tmp_path / "a.net", tmp_path / "plan.script"
+    net.write_text(NET.read_text().replace(" AB ", " Malà ").replace(" AC ", " Å "))
+    with desk(program, net, "--save", file) as running:
+        running.enter()
+        running.done()
+        running.post("/edit", link=AB, what="double")
+        running.post("/name", edit=1, name="pour là")
+        bounds = running.bounds()
+        running.post("/failures")
+        assert "Å" in part(running.news(), "failures") and "Malà" in part(running.news(), "failures")
+    assert file.read_text() == "set Malà 20 show # pour là\n"
+    with desk(program, net, "--save", file) as running:
+        running.enter()
+        running.done()
+        assert "doubled, 10 to 20 – pour là" in part(running.news(), "edits") and running.bounds()[1] >= bounds[1]
+
+
 def test_files_whose_names_are_no_text(program: Program, tmp_path: Path):
     """The program takes no such word, so the commands beside what is taken away name the download of the network."""
     net, cert = Path(os.fsdecode(bytes(tmp_path) + b"/a\xff.net")), tmp_path / "a.cert"

@@ -19,7 +19,7 @@ import pytest
 
 import mcf
 from mcf import Program, TextError, read_network, write_network
-from mcf.network import Network
+from mcf.network import Demand, Network
 from mcf.ranges import Answer, Range
 from mcf.report.shown import percent_down
 from mcf.studies import answers, run, work
@@ -88,6 +88,23 @@ def test_a_key_is_what_is_asked_and_not_what_it_is_called() -> None:
     assert {scenario.key for scenario in plan_of(net, named[:1], Asked(cost="setup", paths=9))} == {keys[0]}
     wider = replace(net, links=(replace(net.links[0], capacity="11"), *net.links[1:]))
     assert {scenario.key for scenario in plan_of(wider, named[:1])} != {keys[0]}
+
+
+@pytest.mark.parametrize("name", ["Malà", "Åre", "a\x0cb", "a\x1fb", "\u2028", "="])
+def test_a_demand_may_have_any_name(name: str) -> None:
+    """The last byte of à is a blank of Latin-1, and that of Å ends a line there."""
+    word = name.encode().decode("latin-1")
+    rows_of_it = (Demand(word, word, "B", "1", "4", "UNLIMITED"), Demand("D", "A", word, "2", "0.5", "3"))
+    assert demands_of(demand_rows(rows_of_it)) == rows_of_it and demands_of("") == ()
+
+
+def test_names_of_many_letters_are_studied(tmp_path: Path, program: Program) -> None:
+    text = TRIANGLE.replace("A_to_B", "Malà").replace(" B ", " Å ").replace("  B\n", "  Å\n")
+    plain, other = (rows(tmp_path, net_file(tmp_path, one), "--failures", "links,nodes", program=program, status=1) for one in (TRIANGLE, text))
+    assert [row["lower"] for row in plain] == [row["lower"] for row in other] and other[3]["left_out"] == "Malà A_to_C"
+    (tmp_path / "m.list").write_text("à (\n  Malà ( A Å ) 1 8 UNLIMITED\n)\n")
+    found, = rows(tmp_path, net_file(tmp_path, text), "--matrices", "m.list", program=program, status=0)
+    assert found["matrix"] == "à" and Fraction(found["lower"]) <= 2 <= Fraction(found["upper"])
 
 
 def test_a_lost_node_takes_its_links_and_its_own_demands() -> None:

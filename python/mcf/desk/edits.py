@@ -2,6 +2,7 @@
 
 from __future__ import annotations
 
+import re
 from collections.abc import Mapping, Sequence
 from dataclasses import dataclass, field, replace
 from fractions import Fraction
@@ -14,6 +15,8 @@ from ..numbers import fraction_of
 from ..output import one_line
 
 NAME_LENGTH = 200
+_BLANKS = " \t\r"
+_WORD = re.compile(f"[^{_BLANKS}]+")
 _WORDS = {"set": 2, "add": 2, "sub": 2, "close": 1, "show": 0}
 
 
@@ -117,10 +120,10 @@ def read_script(text: str, network: Network, installed: Sequence[Fraction]) -> H
     for number, line in enumerate(text.split("\n"), 1):
         front, _, comment = line.partition("#")
         count = len(history.done)
-        words += front.split()
+        words += _WORD.findall(front)
         while words and (command := _whole(words, number)):
             _apply(command, now, capacities, history, number)
-        comments += [comment.strip()] if comment.strip() else []
+        comments += [clean] if (clean := comment.strip(_BLANKS)) else []
         if len(history.done) > count:
             _name(history, comments)
     if words:

@@ -232,7 +232,7 @@ class Desk:
     def asked(self, command: str, texts: dict[str, Held], options: tuple[str, ...] = ()) -> list[str]:
         """The lines of a command that is quick; it ends with the desk."""
         with self.working() as work:
-            return work.ask(self.ground.program, command, texts, options).text.splitlines()
+            return work.ask(self.ground.program, command, texts, options).lines
 
     @contextmanager
     def working(self) -> Iterator[Work]:

@@ -226,7 +226,7 @@ class Works:
     def _failed(self, work: Work, before: Failures, edits: tuple[Edit, ...]) -> str:
         """Solves without each link, and puts the answers beside those of the same paths."""
         network = self.edited(edits).network
-        lines = work.ask(self.ground.program, "sweepsolve", {"net": network}, self.ground.modes).text.splitlines()
+        lines = work.ask(self.ground.program, "sweepsolve", {"net": network}, self.ground.modes).lines
         by_link = {one.link: one for one in before.cases}
         cases = [replace(by_link[link], routed=bounds_of(line)) for link, line in enumerate(lines)]
         command = " ".join([f"{self.ground.command} sweepsolve NET", *self.ground.modes])

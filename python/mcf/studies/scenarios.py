@@ -189,10 +189,10 @@ def demand_rows(demands: Iterable[Demand]) -> str:
 
 
 def demands_of(rows: str) -> tuple[Demand, ...]:
-    """The demands of such rows."""
+    """The demands of such rows; a byte of a name may be a character that Python takes for a blank, or for the end of a line."""
     found = []
-    for line in rows.splitlines():
-        name, _, source, target, _, unit, value, longest = line.split()
+    for line in rows.split("\n")[:-1]:
+        name, _, source, target, _, unit, value, longest = line.removeprefix("  ").split(" ")
         found.append(Demand(name, source, target, unit, value, longest))
     return tuple(found)
 
