@@ -8,9 +8,10 @@ from __future__ import annotations
 from collections.abc import Hashable, Iterator, Mapping, Sequence
 from dataclasses import dataclass
 from fractions import Fraction
+from numbers import Real
 from typing import Any
 
-from .given import decimal_word, name_of, number_of, word_of
+from .given import brief, decimal_word, name_of, number_of, word_of
 from .limits import MAX_WORD_BYTES
 from .needs import needed
 from .network import Demand, Link, Network, Node
@@ -134,7 +135,7 @@ def _frame_of(given: object, kind: str) -> pandas.DataFrame:
 
 def _is_missing(value: object) -> bool:
     """Whether a cell has nothing."""
-    return value is None or value is pandas.NA or value is pandas.NaT or (isinstance(value, float) and value != value)
+    return value is None or value is pandas.NA or value is pandas.NaT or (isinstance(value, Real) and value != value)
 
 
 def nodes_of(table: Table) -> list[Node]:
@@ -254,11 +255,14 @@ def _place_of(data: Mapping[str, Any], what: str) -> tuple[str, str] | None:
     """Where a node of a graph stands, if it says so."""
     for name in _PAIRS:
         if data.get(name) is not None:
-            x, y = data[name]
+            try:
+                x, y = data[name]
+            except (TypeError, ValueError):
+                raise ValueError(f"{what}: {name} is two numbers, and not {brief(data[name], repr)}") from None
             return _place(x, y, what)
     for across, up in _PLACES:
         if across in data and up in data:
-            return _place(data[across], data[up], what)
+            return _place(*(None if _is_missing(data[name]) else data[name] for name in (across, up)), what)
     return None
 
 

@@ -177,6 +177,23 @@ def test_a_fault_of_a_graph_is_named(edges: list[object], said: str) -> None:
         Network.from_networkx(networkx.Graph(edges), {})
 
 
+def test_places_of_a_graph_are_two_numbers_or_none() -> None:
+    graph = networkx.Graph([("A", "B", {"capacity": 1})])
+    graph.nodes["A"].update(x=float("nan"), y=3)
+    assert Network.from_networkx(graph, {}).rows.nodes[0].place is None
+    for odd in ((1, 2, 3), 5, "8.5"):
+        graph.nodes["A"]["pos"] = odd
+        with pytest.raises(ValueError, match="node 'A': pos is two numbers, and not "):
+            Network.from_networkx(graph, {})
+
+
+def test_what_is_missing_in_a_column_of_short_floats_is_missing() -> None:
+    ids, longest = (numpy.array([7, numpy.nan], dtype=numpy.float32) for _ in range(2))
+    frame = pandas.DataFrame({"source": ["A", "A"], "target": ["B", "C"], "capacity": [1, 2], "id": ids})
+    network = Network.from_frames(frame, pandas.DataFrame({"source": ["A", "A"], "target": ["B", "C"], "amount": [1, 2], "longest": longest}))
+    assert network.links.id.tolist() == ["7", "A-C"] and [row.longest for row in network.rows.demands] == ["7", "UNLIMITED"]
+
+
 @pytest.mark.parametrize("mode", ["undirected", "directed", "bidirected"])
 @pytest.mark.parametrize("beside", [{}, {"key": [1, 2, 3], "u_for_edge": ["p", "q", "r"], "self": [4, 5, 6], "pos": ["x", "y", "z"]}])
 def test_a_network_goes_to_a_graph_and_back(program: Program, mode: str, beside: dict[str, list[object]]) -> None:
