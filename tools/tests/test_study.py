@@ -5,6 +5,7 @@ from __future__ import annotations
 import gzip
 import io
 import random
+import shutil
 import signal
 import sqlite3
 import subprocess
@@ -671,6 +672,18 @@ def test_matrices_of_an_archive_a_folder_and_files_are_in_the_order_of_their_tim
     text, why = ran(tmp_path, net, "--matrices", "day", "--csv", "-", program=program)
     assert timeless(table(text)) == timeless(found) and "left out: day/readme" in why
     assert timeless(rows(tmp_path, net, "--matrices", *(f"day/{name}.gz" for name in sorted(files, reverse=True)), program=program)) == timeless(found)
+
+
+def test_what_is_hidden_in_a_folder_is_no_matrix(tmp_path: Path) -> None:
+    """Notebooks keep copies in hidden folders."""
+    for name in ("a.csv", ".b.csv", ".ipynb_checkpoints/a-checkpoint.csv", "more/c.csv"):
+        file = tmp_path / ".top" / name
+        file.parent.mkdir(parents=True, exist_ok=True)
+        file.write_text("source,target,amount\nA,B,4\n")
+    shutil.make_archive(str(tmp_path / "day"), "zip", tmp_path / ".top")
+    shutil.make_archive(str(tmp_path / "day"), "gztar", tmp_path / ".top")
+    for source in (".top", "day.zip", "day.tar.gz"):
+        assert sorted(matrix.name for matrix in _matrices_of(tmp_path / source)) == ["a", "c"]
 
 
 def test_lists_and_tables_are_read_as_batch_and_convert_read_them(tmp_path: Path, program: Program) -> None:

@@ -15,7 +15,7 @@ from collections.abc import Callable, Iterable, Iterator
 from dataclasses import dataclass, field
 from datetime import datetime
 from io import BufferedIOBase, BytesIO, StringIO
-from pathlib import Path
+from pathlib import Path, PurePath, PurePosixPath
 
 from ..convert import assemble, files, native
 from ..convert.adjust import Changes, adjusted
@@ -92,10 +92,16 @@ def _all_files(paths: Iterable[str]) -> Iterator[tuple[str, bytes, bool]]:
     """The files of paths with their bytes, and whether they are among others in a folder or an archive."""
     for path in paths:
         if os.path.isdir(path):
-            for file in sorted((file for file in Path(path).rglob("[!.]*") if file.is_file()), key=lambda file: in_numbers(str(file))):
+            some = (file for file in Path(path).rglob("*") if file.is_file() and not _is_hidden(file.relative_to(path)))
+            for file in sorted(some, key=lambda file: in_numbers(str(file))):
                 yield from _members(str(file), True)
         else:
             yield from _members(path, False)
+
+
+def _is_hidden(file: PurePath) -> bool:
+    """Whether a file, or a folder that it lies in, is hidden, as copies that notebooks make are."""
+    return any(part.startswith(".") and part != ".." for part in file.parts)
 
 
 def _members(path: str, many: bool) -> Iterator[tuple[str, bytes, bool]]:
@@ -115,7 +121,7 @@ def _of_zip(path: str) -> Iterator[tuple[str, bytes, bool]]:
     """The files of a zip."""
     with zipfile.ZipFile(path) as packed:
         for info in sorted(packed.infolist(), key=lambda info: in_numbers(info.filename)):
-            if not info.is_dir():
+            if not info.is_dir() and not _is_hidden(PurePosixPath(info.filename)):
                 with packed.open(info) as member:
                     yield f"{path}/{info.filename}", _unpacked(f"{path}/{info.filename}", member.read(files.MAX_BYTES + 1)), True
 
@@ -124,7 +130,7 @@ def _of_tar(path: str) -> Iterator[tuple[str, bytes, bool]]:
     """The files of a tar, packed or not, in the order in which they stand there."""
     with tarfile.open(path) as packed:
         for info in packed:
-            member = packed.extractfile(info) if info.isfile() else None
+            member = packed.extractfile(info) if info.isfile() and not _is_hidden(PurePosixPath(info.name)) else None
             if member is not None:
                 yield f"{path}/{info.name}", _unpacked(f"{path}/{info.name}", member.read(files.MAX_BYTES + 1)), True
         _require_end(packed)
