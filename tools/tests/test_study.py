@@ -508,6 +508,13 @@ def test_what_arrives_is_judged_again(tmp_path: Path, program: Program) -> None:
             run._recheck(false_row, tasks, place)
 
 
+@pytest.mark.parametrize("name", [":memory:", "file:x?mode=memory", "-x", "é"])
+def test_a_store_is_a_file_whatever_its_name(tmp_path: Path, monkeypatch: pytest.MonkeyPatch, name: str) -> None:
+    monkeypatch.chdir(tmp_path)
+    Store(name).close()
+    assert [file.name for file in tmp_path.iterdir()] == [name]
+
+
 def test_a_file_that_is_no_store_is_refused(tmp_path: Path, program: Program) -> None:
     net = net_file(tmp_path)
     (tmp_path / "text.db").write_text("no database " * 100)

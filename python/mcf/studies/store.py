@@ -102,7 +102,8 @@ class Store:
             raise TextError(f"{path}: there is no such file")
         with self._told():
             _require_database(path)
-            self._base = sqlite3.connect(path, timeout=_WAIT, isolation_level=None)
+            # (a name as :memory: or file:x stands for something else where it is no whole path)
+            self._base = sqlite3.connect(os.path.abspath(path), timeout=_WAIT, isolation_level=None)
             try:
                 self._require_own(create)
                 self._base.execute("PRAGMA journal_mode = WAL")
