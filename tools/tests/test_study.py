@@ -805,7 +805,8 @@ def test_a_page_of_rules_shows_no_bound(tmp_path: Path, program: Program) -> Non
     (["--failures", "links,links"], "'links,links' is no list of different words"), (["--failures", "arcs"], "--failures: 'arcs' is none of links, nodes, pairs"),
     (["--routing", "worst"], "--routing: 'worst' is none of best, exact, ecmp"), (["--grow", "0"], "--grow is more than 0"),
     (["--grow", "x"], "'x' is no number"), (["--grow", "1,1.0"], "--grow: 1,1.0 has a number twice"),
-    (["--store", "-"], "--store is a file, and - is none"), (["--csv", "study.db"], "study.db: is written twice"), (["--csv", "one", "--html", "./one"], "./one: is written twice"),
+    (["--store", "-"], "--store is a file, and - is none"), (["--csv", "study.db"], "study.db: is written twice"),
+    (["--html", "study.db-wal"], "study.db-wal: is written twice"), (["--csv", "one", "--html", "./one"], "./one: is written twice"),
     (["--csv", "-", "--html", "/dev/stdout"], "/dev/stdout: is written twice"), (["--gap", "0.0000001"], "--gap: 0.0000001 is no whole number of millionths"),
     (["--phases", "0"], "--phases is from 1 to 65536"), (["--jobs", "0"], "--jobs is at least 1"),
     (["--jobs", "2", "--scheduler", "tcp://x:1"], "--jobs is for this machine")])

@@ -173,7 +173,8 @@ def _require(parser: Arguments, words: argparse.Namespace) -> None:
         parser.error(f"--store is a file, and {words.store} is none")
     sources = [words.net, *words.matrices, *filter(None, [words.groups, words.changes])]
     require_outputs([words.csv, words.html], [*sources, *([words.store] if Path(words.store).exists() else [])])
-    require_outputs([words.csv, words.html, words.store], sources)
+    # (behind the store are the files of the database that stand beside it while it is open)
+    require_outputs([words.csv, words.html, words.store, *(f"{words.store}{end}" for end in ("-wal", "-shm", "-journal"))], sources)
 
 
 def shown() -> int:
