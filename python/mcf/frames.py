@@ -262,7 +262,8 @@ def _place_of(data: Mapping[str, Any], what: str) -> tuple[str, str] | None:
             return _place(x, y, what)
     for across, up in _PLACES:
         if across in data and up in data:
-            return _place(*(None if _is_missing(data[name]) else data[name] for name in (across, up)), what)
+            x, y = (None if _is_missing(data[name]) else data[name] for name in (across, up))
+            return _place(x, y, what)
     return None
 
 

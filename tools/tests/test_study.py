@@ -301,6 +301,11 @@ def test_an_exact_scenario_without_its_linear_program_is_open(program: Program, 
     children.end_all()
 
 
+def test_a_cost_means_nothing_where_lengths_are_others() -> None:
+    assert Asked(cost="setup").unused(("ecmp", "cost", "best")) == [("cost", "best"), ("cost", "ecmp by hops")]
+    assert Asked(cost="setup", lengths="cost").unused(("ecmp", "k-paths")) == []
+
+
 def test_options_that_mean_nothing_for_a_routing_are_said(tmp_path: Path, program: Program) -> None:
     out, why = ran(tmp_path, net_file(tmp_path), "--routing", "best,hops", "--phases", "30", "--paths", "2", program=program, status=0)
     assert why.splitlines() == ["study: --phases means nothing for the routing hops", "study: --paths means nothing for the routing best",
@@ -869,17 +874,24 @@ def test_a_study_of_a_notebook_is_a_frame(program: Program, tmp_path: Path, monk
             mcf.study(net_file(tmp_path), jobs=1, progress=False, **words)  # type: ignore[arg-type]
 
 
-def test_a_notebook_has_the_options_of_the_command(program: Program, tmp_path: Path, monkeypatch: pytest.MonkeyPatch) -> None:
+def test_a_notebook_has_the_options_of_the_command(program: Program, tmp_path: Path, monkeypatch: pytest.MonkeyPatch,
+                                                   capsys: pytest.CaptureFixture[str]) -> None:
     monkeypatch.setenv("MCF", program.path)
     (tmp_path / "m.list").write_text("one (\n  D ( A B ) 1 0.1234567 UNLIMITED\n)\n")
+    mcf.study(net_file(tmp_path), routing="hops", paths=2, jobs=1, progress=False)
+    assert capsys.readouterr().err == "study: paths means nothing for the routing hops\n"
     frame = mcf.study(net_file(tmp_path), [tmp_path / "m.list"], round=2, routing="k-paths", lengths="capacity", paths=1, grow=[1, "1.0"], jobs=1,
                       progress=False, exact=True)
     assert len(frame) == 1 and frame["lower"][0] == Fraction(1000, 12)
     for words, said in (({"paths": 0}, "paths: 0 is not from 1 to 1000"), ({"lengths": "miles"}, "lengths: 'miles' is none of hops"),
                         ({"cost": "x"}, "cost: 'x' is none of routing"), ({"modules": "all"}, "modules: 'all' is none of"),
+                        ({"jobs": 0}, "jobs: 0 is less than 1"), ({"seconds": float("nan")}, "seconds: nan is no number"),
+                        ({"round": 7}, "round: 7 is not from 0 to 6"), ({"jobs": 2, "scheduler": "tcp://x:1"}, "a scheduler has its own workers"),
                         ({"links": "both"}, "links: 'both' is none of"), ({"matrices": [tmp_path / "m.list"], "from_unit": "mile"}, "'mile' is none of")):
         with pytest.raises(ValueError, match=said):
-            mcf.study(net_file(tmp_path), jobs=1, progress=False, **words)  # type: ignore[arg-type]
+            mcf.study(net_file(tmp_path), **{"jobs": 1, "progress": False, **words})  # type: ignore[arg-type]
+    for path in (tmp_path / "m.list", str(tmp_path / "m.list")):
+        assert len(mcf.study(net_file(tmp_path), path, round=2, jobs=1, progress=False)) == 1
 
 
 def test_the_text_of_a_network_is_that_of_the_core() -> None:

@@ -2,6 +2,7 @@
 
 from __future__ import annotations
 
+import math
 import os
 import tempfile
 from collections.abc import Iterable, Mapping, Sequence
@@ -10,6 +11,7 @@ from typing import TYPE_CHECKING, Any
 
 from ..commands import program_path
 from ..given import Number, decimal_word, number_of, word_of
+from ..limits import MAX_DECIMALS
 from ..needs import needed
 from ..network import Network as Rows
 from ..network import MODULES
@@ -25,7 +27,7 @@ if TYPE_CHECKING:
     from .store import Store
 
 
-def study(network: Network | Path, matrices: Mapping[str, Any] | Sequence[Path] = (), *, failures: Iterable[str] | str = (),
+def study(network: Network | Path, matrices: Mapping[str, Any] | Sequence[Path] | Path = (), *, failures: Iterable[str] | str = (),
           groups: Mapping[str, Iterable[str]] | None = None, changes: Mapping[str, Mapping[str, Number]] | None = None,
           fibres: bool = False, intact: bool = False, grow: Iterable[Number] = (1,), routing: Iterable[str] | str = ("best",),
           without_cut: bool = False, gap: Number | None = None, phases: int | None = None, step: int | None = None,
@@ -57,8 +59,7 @@ def study(network: Network | Path, matrices: Mapping[str, Any] | Sequence[Path] 
     mode = links or ground.mode
     for what, given, known in (("lengths", lengths, LENGTHS), ("cost", cost, COSTS), ("modules", modules, MODULES), ("links", mode, LINK_MODES)):
         _known(given, known, what)
-    if not 1 <= paths <= MOST_PATHS:
-        raise ValueError(f"paths: {paths} is not from 1 to {MOST_PATHS}")
+    _require_numbers(paths, seconds, round, jobs, scheduler)
     asked = Asked(mode, modules, None if gap is None else decimal_word(number_of(gap, "gap")), _word(phases), _word(step), lengths, cost,
                   paths, seconds)
     with tempfile.TemporaryDirectory(prefix="mcf-study-") as room:
@@ -70,6 +71,20 @@ def study(network: Network | Path, matrices: Mapping[str, Any] | Sequence[Path] 
             return _frame(plan, kept, exact)
         finally:
             kept.close()
+
+
+def _require_numbers(paths: int, seconds: float, decimals: int | None, jobs: int | None, scheduler: str | None) -> None:
+    """ValueError where a number is out of its range, or means nothing beside a scheduler."""
+    if not 1 <= paths <= MOST_PATHS:
+        raise ValueError(f"paths: {paths} is not from 1 to {MOST_PATHS}")
+    if not 0 < seconds < math.inf:
+        raise ValueError(f"seconds: {seconds} is no number of seconds above 0")
+    if decimals not in (None, *range(MAX_DECIMALS + 1)):
+        raise ValueError(f"round: {decimals} is not from 0 to {MAX_DECIMALS}")
+    if jobs is not None and jobs < 1:
+        raise ValueError(f"jobs: {jobs} is less than 1")
+    if jobs is not None and scheduler is not None:
+        raise ValueError("jobs: they are of this machine, and a scheduler has its own workers")
 
 
 def _word(number: int | None) -> str | None:
@@ -100,7 +115,7 @@ def _store(path: str) -> Store:
     return Store(path)
 
 
-def _matrices(network: Network, given: Mapping[str, Any] | Sequence[Path], from_unit: str | None, decimals: int | None,
+def _matrices(network: Network, given: Mapping[str, Any] | Sequence[Path] | Path, from_unit: str | None, decimals: int | None,
               store: Store) -> list[Matrix]:
     """The matrices, whose texts are kept in the store."""
     from .matrices import How, own
@@ -110,7 +125,8 @@ def _matrices(network: Network, given: Mapping[str, Any] | Sequence[Path], from_
         store.keep_texts([(matrix.digest, rows)])
         return [matrix]
     if not isinstance(given, Mapping):
-        return read([os.fspath(path) for path in given], network, How(from_unit, decimals), store)
+        paths = [given] if isinstance(given, (str, os.PathLike)) else given
+        return read([os.fspath(path) for path in paths], network, How(from_unit, decimals), store)
     found = []
     for name, demands in given.items():
         rows = demand_rows(network.with_demands(demands).rows.demands)

@@ -85,7 +85,10 @@ class Asked:
         default = Asked()
         names = ("gap", "phases", "step", "lengths", "cost", "paths", "seconds")
         given = [name for name in names if getattr(self, name) != getattr(default, name)]
-        return [(name, routing) for name in given for routing in routings if name not in _OPTIONS.get(routing, ())]
+        some = list(routings)
+        found = [(name, routing) for name in given for routing in some if name not in _OPTIONS.get(routing, ())]
+        by_others = [routing for routing in some if "cost" in given and "lengths" in _OPTIONS.get(routing, ()) and self.lengths != "cost"]
+        return found + [("cost", f"{routing} by {self.lengths}") for routing in by_others]
 
     @cached_property
     def solve_words(self) -> tuple[str, ...]:

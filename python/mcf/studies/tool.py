@@ -43,6 +43,8 @@ def study(words: Words, program: str) -> int:
 def done(plan: Plan, store: Store, keep: bool, without_cut: bool, recheck: bool, jobs: int | None, scheduler: str | None, program: str,
          quiet: bool) -> None:
     """Does what is left of a plan, for a notebook."""
+    for name, routing in plan.asked.unused(plan.routings):
+        say(f"{name} means nothing for the routing {routing}")
     wanted = Wanted(keep, without_cut, recheck)
     run(plan, store, wanted, Place(jobs or len(os.sched_getaffinity(0)), scheduler, None if scheduler else program, program, quiet), say)
 
