@@ -190,7 +190,11 @@ def test_a_routing_and_an_invalid_certificate_are_told(program: Program, tmp_pat
     _, said = run(EXAMPLES / "triangle.net", EXAMPLES / "triangle.routing", "--failures", program=program, status=2)
     assert said == f"survey: {EXAMPLES / 'triangle.routing'}: a routing has no bound, so a certificate is wanted\n"
     _, said = run(EXAMPLES / "triangle.net", EXAMPLES / "triangle.cert", "--failures", "--gap", "5%", program=program, status=2)
-    assert said.splitlines()[-1].endswith("usage")
+    assert said == "survey: argument --gap: '5%' is no number (survey --help has the words)\n"
+    # (also where no change has to be solved anew)
+    for words in (("--gap", "x"), ("--phases", "0"), ("--step", "x")):
+        _, said = run(EXAMPLES / "one-link.net", EXAMPLES / "one-link.cert", "--failures", *words, program=program, status=2)
+        assert said.startswith(f"survey: argument {words[0]}: ")
     (tmp_path / "bad").write_text(load_text(EXAMPLES / "triangle.cert").replace("368", "369"))
     _, said = run(EXAMPLES / "triangle.net", tmp_path / "bad", "--failures", program=program, status=2)
     assert "mcf check says: invalid C2: " in said and said.count("\n") == 1

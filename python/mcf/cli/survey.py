@@ -10,7 +10,9 @@ from typing import TYPE_CHECKING, NoReturn
 
 from mcf import TextError, find_program, fraction_of, jsons
 from mcf.arguments import Arguments
+from mcf.asked import counted, gap
 from mcf.inputs import STANDARD_INPUT, texts_as_files
+from mcf.limits import MAX_PHASES, MAX_STEP
 from mcf.needs import needed
 from mcf.output import main_of, require_outputs, write
 from mcf.ranges import status
@@ -71,9 +73,9 @@ def options() -> Arguments:
         "--quick", action="store_true", help="do not solve: what the certificate's own paths and bound are still worth"
     )
     parser.add_argument("--exact", action="store_true", help="solve by tools/certify: exact to some millionths, and slower")
-    parser.add_argument("--gap", metavar="G", help="the gap of each solve; that of the program without it")
-    parser.add_argument("--phases", metavar="N", help="the phases of each solve")
-    parser.add_argument("--step", metavar="N", help="the step of each solve")
+    parser.add_argument("--gap", type=gap, metavar="G", help="the gap of each solve; that of the program without it")
+    parser.add_argument("--phases", type=counted(MAX_PHASES), metavar="N", help="the phases of each solve")
+    parser.add_argument("--step", type=counted(MAX_STEP), metavar="N", help="the step of each solve")
     parser.add_argument(
         "--jobs",
         type=int,
@@ -177,12 +179,7 @@ def settings_of(words: argparse.Namespace, growth: Fraction) -> Settings:
         from mcf.survey.cases import Settings
     given = [word for name in ("gap", "phases", "step") if getattr(words, name) for word in (f"--{name}", getattr(words, name))]
     solver = "none" if words.quick else "certify" if words.exact else "solve"
-    try:
-        gap = fraction_of(words.gap) if words.gap else None
-    except TextError:
-        # (the program says what is wrong with it)
-        gap = Fraction(0)
-    return Settings(growth, solver, words.jobs, tuple(given), words.quiet, gap)
+    return Settings(growth, solver, words.jobs, tuple(given), words.quiet, fraction_of(words.gap) if words.gap else None)
 
 
 if __name__ == "__main__":
