@@ -195,6 +195,7 @@ def test_each_form_of_the_worst(ends: dict[str, tuple[str, str]], said: str) -> 
     (("1", "1"), {"K": ("2", "3"), "L": ("1", "2")}, "some link is worth doubling, and which one most is not decided: 200.0 % to 300.0 % of"),
     (("1", "1"), {"K": ("2", "3"), "L": ("1", "2"), "M": ("1", "1")},
      "the link most worth doubling is one of 2, and not decided between them, which are K (A – B) and L (A – B): 200.0 % to 300.0 %"),
+    (("0", "0"), {"K": ("0", "0")}, "doubling any one link gains nothing: some demand has no way at all with it and without."),
     (("1", "1"), {"K": ("1", "1"), "L": ("1", "1")}, "doubling any one link gains nothing: it is 100.0 % to 100.0 % of every demand with it and without."),
     (("1", "1.1"), {"K": ("1.1", "1.3"), "L": ("1", "1.2")},
      "it is not decided whether doubling any one link gains anything, and none gains more than 30.0 %: 110.0 % to 130.0 % of every demand with the "),
@@ -242,7 +243,7 @@ def failures_hold(text: str, values: dict[str, float], base: float, growth: floa
         lost, left = 0, 0
     assert found and int(found[2]) == every and lost <= every - above and below <= lost + left
     rest = text[found.end():]
-    claim, without = rest.split("; without failures it is ")
+    claim, without = re.split("; without failures (?:it is )?", rest)
     least = min(values.values())
     holds_between(without, base, growth)
     who, left_over = claim.split(": ", 1) if "it leaves" not in claim else (claim, claim[claim.index("it leaves ") + 10:])
@@ -268,7 +269,7 @@ def doublings_hold(text: str, values: dict[str, float], base: float, growth: flo
     lower = text[0].lower() + text[1:]
     if "gains nothing" in lower:
         assert most <= base + NEAR
-        holds_between(text[text.index(": it is ") + 8:].replace(" with it and without", ""), base, growth)
+        holds_between(text.split("gains nothing: ")[1].removeprefix("it is ").replace(" with it and without", ""), base, growth)
         return
     claim, without = text.rsplit(", and ", 1)
     holds_between(without.replace(" without", ""), base, growth)

@@ -51,7 +51,12 @@ def _failures(survey: Survey) -> str:
         front = f"not all demands fit after {lost} of {every}" + (f", and after {left} it is not decided" if left else "")
     elif left:
         front = f"it is not decided whether all demands fit after {left} of {every}"
-    return f"{front}. {_worst(survey)}; without failures it is {fraction_words(survey.base)}."
+    return f"{front}. {_worst(survey)}; without failures {_it_is(survey.base)}."
+
+
+def _it_is(bounds: Range) -> str:
+    """From where to where the fraction lies, as a sentence."""
+    return f"{'' if bounds.is_nothing else 'it is '}{fraction_words(bounds)}"
 
 
 def _worst(survey: Survey) -> str:
@@ -64,7 +69,7 @@ def _doublings(survey: Survey) -> str:
     base = survey.base
     answers = {gains(case.range, base) for case in survey.cases}
     if answers == {Answer.NO}:
-        return f"doubling any one link gains nothing: it is {fraction_words(base)} with it and without."
+        return f"doubling any one link gains nothing: {_it_is(base)} with it and without."
     found = best(survey.cases)
     with_it, without = fraction_words(found.range), fraction_words(base)
     if Answer.YES in answers:
