@@ -829,6 +829,21 @@ def test_the_page_has_both_bands_the_map_and_the_table(tmp_path: Path, program: 
     assert page.count("<svg") == 3
 
 
+def test_over_time_leaves_out_what_cuts_some_demand_off(tmp_path: Path, program: Program) -> None:
+    """A bridge carries nothing of every demand where it fails, whatever the matrix: the band over time is that of the other links."""
+    bridge = TRIANGLE.replace("  C\n)", "  C\n  D\n)").replace("LINKS (\n", "LINKS (\n  CD ( C D ) 9 0 0 0 ( )\n")
+    (tmp_path / "day.list").write_text("m1 (\n  E ( A D ) 1 4 UNLIMITED\n)\nm2 (\n  E ( A D ) 1 8 UNLIMITED\n)\n")
+    ran(tmp_path, net_file(tmp_path, bridge), "--matrices", "day.list", "--failures", "links", "--html", "p.html", program=program, status=1)
+    assert "that have an answer, without the 2 scenarios that leave some demand without a way. Blue" in (tmp_path / "p.html").read_text()
+
+
+def test_labels_below_a_band_do_not_overlap() -> None:
+    times = [f"2026-12-01_{at // 12:02d}:{at % 12 * 5:02d}:00" for at in range(288)]
+    marks = band([Range(Fraction(1), Fraction(1))] * 288, times, "a day").places
+    ends = [mark.at + (0 if at == 0 else -160 if at == len(marks) - 1 else -80) for at, mark in enumerate(marks)]
+    assert len(marks) == 4 and all(left + 152 < right for left, right in zip(ends, ends[1:]))
+
+
 def test_a_band_of_many_is_drawn_as_few() -> None:
     many = [Range(Fraction(at, 100), Fraction(at + 5, 100)) for at in range(5000)]
     found = band(many, [str(at) for at in range(5000)], "many")

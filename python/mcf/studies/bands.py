@@ -11,6 +11,8 @@ from ..ranges import Range, span
 from ..report.shown import percent
 
 WIDTH, HEIGHT, LEFT, BOTTOM, TOP = 1000.0, 300.0, 74.0, 34.0, 12.0
+# about how wide a character of a label is
+CHARACTER = 8.0
 MOST = 2000
 """How many places a band has at most; of more cases each of a few in a row is drawn as their range together."""
 
@@ -84,7 +86,9 @@ def _path(points: Sequence[tuple[float, float]]) -> str:
 
 
 def _places(labels: Sequence[str]) -> tuple[Mark, ...]:
-    """The first label, the last one and a few between."""
-    count = len(labels)
-    few = sorted({0, count - 1, *(count * part // 4 for part in (1, 2, 3))} & set(range(count)))
-    return tuple(Mark(_x(at, count), labels[at] if len(labels[at]) <= 20 else labels[at][:9] + "…" + labels[at][-10:]) for at in few)
+    """The first label, the last one, and up to three between, as far as there is room for them."""
+    short = [label if len(label) <= 20 else label[:9] + "…" + label[-10:] for label in labels]
+    count, wide = len(short), CHARACTER * max(map(len, short))
+    parts = max(1, min(4, int((WIDTH - LEFT) / (1.5 * wide + CHARACTER))))
+    few = sorted({min(count - 1, count * part // parts) for part in range(parts + 1)})
+    return tuple(Mark(_x(at, count), short[at]) for at in few)

@@ -29,13 +29,14 @@ ROWS = 200
 
 @dataclass(frozen=True)
 class Section:
-    """What the page says of one routing and growth."""
+    """What the page says of one routing and growth; `cut` scenarios, which leave some demand without a way, are not in `over_time`."""
 
     part: Part
     sentence: str
     over_time: Band | None
     in_order: Band | None
     rows: tuple[Case, ...]
+    cut: int = 0
 
     @property
     def tone(self) -> str:
@@ -80,12 +81,20 @@ def _section(plan: Plan, store: Store, part: Part, sentence: str) -> Section:
     ranges = [_drawn(case) for case in ordered]
     labels, about_it = [str(at + 1) for at in range(len(ranges))], "Scenarios in the order of what they carry"
     picture = band(ranges, labels, about_it, part.routing not in RULES) if len(known) > 1 else None
-    return Section(part, sentence, _over_time(plan, part, known), picture, ordered[:ROWS])
+    whole = _without_cut(known)
+    return Section(part, sentence, _over_time(plan, part, whole), picture, ordered[:ROWS], len(known) - len(whole))
 
 
 def _drawn(case: Case) -> Range:
     """The range that is drawn: of a rule what it is shown to carry."""
     return Carried(case).range if case.scenario.routing in RULES else case.range
+
+
+def _without_cut(known: list[Case]) -> list[Case]:
+    """The cases in which each demand has a way; all of them where some matrix has none such."""
+    whole = [case for case in known if case.row is None or not case.row.cut]
+    matrices = [{case.scenario.matrix.name for case in some} for some in (whole, known)]
+    return whole if matrices[0] == matrices[1] else known
 
 
 def _over_time(plan: Plan, part: Part, known: list[Case]) -> Band | None:
