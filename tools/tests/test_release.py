@@ -17,7 +17,7 @@ from mcf import Program, TextError
 from mcf.release.archive import archive, built_program, built_wide_program, files_of, try_archive, version_of
 from mcf.release.elf import glibc, is_program, libraries, symbol_versions
 from mcf.release.pages import scripts
-from mcf.release.sources import sources
+from mcf.release.sources import commit_seconds, sources
 from mcf.release.staged import Release
 from mcf.version import commit_of
 
@@ -82,6 +82,15 @@ def test_the_same_files_give_the_same_bytes(root: Path) -> None:
     assert one == other
     with tarfile.open(fileobj=io.BytesIO(one[1])) as tar:
         assert {(member.mtime, member.uid, member.gid, member.uname) for member in tar} == {(7, 0, 0, "root")}
+
+
+@pytest.mark.parametrize("word", ["4294967296", "-5", "", "1" * 5000, "１２", "now"])
+def test_a_time_that_archives_cannot_hold_is_refused(root: Path, monkeypatch: pytest.MonkeyPatch, word: str) -> None:
+    monkeypatch.setenv("SOURCE_DATE_EPOCH", word)
+    with pytest.raises(TextError, match="SOURCE_DATE_EPOCH: .* is no number of seconds from 0 to 4294967295"):
+        commit_seconds(root)
+    monkeypatch.setenv("SOURCE_DATE_EPOCH", "4294967295")
+    assert commit_seconds(root) == 4294967295
 
 
 def test_version_stands_in_one_file(root: Path) -> None:

@@ -35,7 +35,7 @@ examples:
 The program has to be built (./mcf once); the one with wide limits goes along where ./mcf-wide built it. The archive is unpacked and tried before anything is kept. The same files and the same last
 commit give the same bytes; SOURCE_DATE_EPOCH stands for the time of the commit. Of the sources those are taken that git knows.
 
-status: 0 all is made; 1 something is not, for which a package of Debian is missing; 2 nothing is made
+status: 0 all is made; 1 something is not, for which a package of Debian is missing; 2 no more is made than is named
 """
 
 

@@ -32,8 +32,10 @@ def commit_seconds(root: Path) -> int:
     given = os.environ.get("SOURCE_DATE_EPOCH")
     if given is None:
         given = _git(root, "log", "-1", "--format=%ct").strip()
-    if not given.isdecimal():
-        raise TextError("no git repository tells a time: set SOURCE_DATE_EPOCH to seconds since 1970")
+        if not given:
+            raise TextError("no git repository tells a time: set SOURCE_DATE_EPOCH to seconds since 1970")
+    if not (given.isascii() and given.isdecimal() and len(given) < 20 and int(given) < 1 << 32):
+        raise TextError(f"SOURCE_DATE_EPOCH: {given[:40]!r} is no number of seconds from 0 to {(1 << 32) - 1}, as archives hold them")
     return int(given)
 
 
