@@ -1,5 +1,5 @@
 -- Why the first lines of a text are refused at a line.
-use Rattle.std.proofs.Common.{◌≡◌, ℕ, ◌+◌, Bool, true, false, cond, List, [], ◌∷◌, ◌++◌, length, Option, Some, None, Result, Ok, Err, refl, sym, ap, subst, ◌∙◌, inl, inr}
+use Rattle.std.proofs.Common.{◌≡◌, ℕ, ◌+◌, Bool, true, false, cond, List, [], ◌∷◌, ◌++◌, length, Option, Some, None, Result, Ok, Err, refl, sym, ap, subst, ◌∙◌, inl, inr, arith}
 use Rattle.std.specs.Prelude.{codes}
 use Rattle.text_lines.specs.Lines.{Line}
 use Rattle.unit_scale.specs.declared.modes.LinkMode.{LinkMode}
@@ -19,12 +19,13 @@ use Rattle.cert_text.specs.declared.opening.CertHead.{CertHead}
 use Rattle.cert_text.specs.Reading.{Place, at_line, has_more, line_from, next_line}
 use Rattle.cert_text.specs.Papers.{form_of, header_of, header, header_by}
 use Rattle.cert_text.specs.Whole.{mode_in, link_mode_line, module_mode_line, verdict_at, modes_behind, said_head, opened_by, head_by, head_in}
-use Rattle.run_laws.specs.PaperKinds.{Role, verdict, links, modules, StandsAt, Says}
+use Rattle.run_laws.specs.LineRoles.{TextKind, HeadRole, verdict, links, modules, head_line, paper, StandsAt}
+use Rattle.run_laws.specs.PaperKinds.{Says}
 use Rattle.run_laws.specs.HeadKinds.{SaysNothing, IsSilent, IsHeadRefusedFor}
 use Rattle.run_laws.proofs.Steps.{done, Is, then_is, is_more}
 use Rattle.run_laws.proofs.LineReasons.{no_verdict}
 use Rattle.run_laws.proofs.Heads.{Opened, options, opened_from, link_again, module_again}
-use Rattle.run_laws.proofs.Reasons.{At, Reached, no_more, not_last, at_next}
+use Rattle.run_laws.proofs.Reasons.{At, Reached, Anything, no_more, not_last, at_next}
 
 -- ---- a line that is refused
 
@@ -55,7 +56,7 @@ module_kind line kind e = by (one_behind (codes "modules") line) e
 both_never : {X : Type 0} (x : X) (kind : CertKind) → done {A = X} {E = CertKind} x ≡ Err kind → ⊥
 both_never x kind e = cc
 
-abbrev Silent : Form → Role → Line → CertKind → Type 0
+abbrev Silent : Form → HeadRole → Line → CertKind → Type 0
 Silent form role line kind = (kind ≡ Syntax) × SaysNothing form role line
 
 no_links : (form : Form) (line : Line) (kind : CertKind) → link_mode_line form line ≡ Err kind → Silent form links line kind
@@ -70,63 +71,62 @@ no_modules form line kind e = (module_kind line kind e, λ mode same. both_never
 -- ---- lines behind the first one
 
 -- why one of them is refused
-record Why (lines : List Line) (o : Opening) (e : CertRefusal) : Type 0 where
-  before : List Line
-  line : Line
-  after : List Line
-  parts : lines ≡ before ++ line ∷ after
-  count : e.line ≡ length before + 1
-  kind : e.kind ≡ Syntax
-  silent : IsSilent o line after e.line
+pub record Why (lines : List Line) (kind : TextKind) (form : Form) (e : CertRefusal) : Type 0 where
+  pub before : List Line
+  pub line : Line
+  pub after : List Line
+  pub parts : lines ≡ before ++ line ∷ after
+  pub count : e.line ≡ length before + 1
+  pub fault : e.kind ≡ Syntax
+  pub silent : IsSilent kind form line after e.line
 
-module _ (lines : List Line) (o : Opening) where
-  line_why : {X : Type 0} (read : Line → Result X CertKind) (role : Role) → ((line : Line) (k : CertKind) → read line ≡ Err k → Silent o.form role line k) → (at : ℕ) (rest : List Line) → At lines (record { at = at; rest = rest })
-      → StandsAt o.kind role at → Is (Reached {X = X} lines (at + 1)) (Why lines o) (line_from read at rest)
+module _ (lines : List Line) (kind : TextKind) (form : Form) where
+  line_why : {X : Type 0} (read : Line → Result X CertKind) (role : HeadRole) → ((line : Line) (k : CertKind) → read line ≡ Err k → Silent form role line k) → (at : ℕ) (rest : List Line) → At lines (record { at = at; rest = rest })
+      → StandsAt kind (head_line role) at → Is (Reached {X = X} lines (at + 1)) (Why lines kind form) (line_from read at rest)
   line_why read role fault at [] h stands = absurd (no_line h.more)
     where
       no_line : false ≡ true → ⊥
       no_line e = cc
   line_why {X} read role fault at (line ∷ rest) h stands = by (has_more rest) refl (read line) refl
     where
-      by : (b : Bool) → has_more rest ≡ b → (r : Result X CertKind) → read line ≡ r → Is (Reached {X = X} lines (at + 1)) (Why lines o) (cond b (at_line at r >>= λ x. done (x, record { at = at + 1; rest = rest })) (Err (record { line = at; kind = Syntax })))
+      by : (b : Bool) → has_more rest ≡ b → (r : Result X CertKind) → read line ≡ r → Is (Reached {X = X} lines (at + 1)) (Why lines kind form) (cond b (at_line at r >>= λ x. done (x, record { at = at + 1; rest = rest })) (Err (record { line = at; kind = Syntax })))
       by true m (Ok x) e = (at_next lines at line rest h m, refl)
       by true m (Err k) e =
           let s = fault line k e in
-          record { before = h.front; line = line; after = rest; parts = h.parts; count = h.at; kind = s.0; silent = inr (not_last rest m, role, stands, s.1) }
-      by false m r e = record { before = h.front; line = line; after = rest; parts = h.parts; count = h.at; kind = refl; silent = inl (no_more rest m) }
+          record { before = h.front; line = line; after = rest; parts = h.parts; count = h.at; fault = s.0; silent = inr (not_last rest m, role, stands, s.1) }
+      by false m r e = record { before = h.front; line = line; after = rest; parts = h.parts; count = h.at; fault = refl; silent = inl (no_more rest m) }
 
-  next_why : {X : Type 0} (read : Line → Result X CertKind) (role : Role) → ((line : Line) (k : CertKind) → read line ≡ Err k → Silent o.form role line k) → (n : ℕ) (p : Place) → At lines p → p.at ≡ n
-      → StandsAt o.kind role n → Is (Reached {X = X} lines (n + 1)) (Why lines o) (next_line read p)
+  pub next_why : {X : Type 0} (read : Line → Result X CertKind) (role : HeadRole) → ((line : Line) (k : CertKind) → read line ≡ Err k → Silent form role line k) → (n : ℕ) (p : Place) → At lines p → p.at ≡ n
+      → StandsAt kind (head_line role) n → Is (Reached {X = X} lines (n + 1)) (Why lines kind form) (next_line read p)
   unfolding next_line
-  next_why {X} read role fault n p h is stands = subst (λ (m : ℕ). Is (Reached {X = X} lines (m + 1)) (Why lines o) (line_from read p.at p.rest)) is (line_why read role fault p.at p.rest h (subst (StandsAt o.kind role) (sym is) stands))
+  next_why {X} read role fault n p h is stands = subst (λ (m : ℕ). Is (Reached {X = X} lines (m + 1)) (Why lines kind form) (line_from read p.at p.rest)) is (line_why read role fault p.at p.rest h (subst (StandsAt kind (head_line role)) (sym is) stands))
 
-  go : {A B : Type 0} (ok : A → Type 0) (ok' : B → Type 0) (r : Result A CertRefusal) (g : A → Result B CertRefusal) → Is ok (Why lines o) r → ((x : A) → ok x → Is ok' (Why lines o) (g x)) → Is ok' (Why lines o) (r >>= g)
-  go ok ok' r g h next = then_is ok (Why lines o) ok' (Why lines o) r g h (λ e w. w) next
+  pub go : {A B : Type 0} (ok : A → Type 0) (ok' : B → Type 0) (r : Result A CertRefusal) (g : A → Result B CertRefusal) → Is ok (Why lines kind form) r → ((x : A) → ok x → Is ok' (Why lines kind form) (g x)) → Is ok' (Why lines kind form) (r >>= g)
+  go ok ok' r g h next = then_is ok (Why lines kind form) ok' (Why lines kind form) r g h (λ e w. w) next
 
-  abbrev Anything : {A : Type 0} → A → Type 0
-  Anything x = Unit {0}
-
-  modes_why : (n : ℕ) (p : Place) → At lines p → p.at ≡ n → StandsAt o.kind links n → StandsAt o.kind modules (n + 1) → Is (Anything {A = NetOptions × Place}) (Why lines o) (modes_behind o.form p)
+  pub modes_why : (n : ℕ) (p : Place) → At lines p → p.at ≡ n → StandsAt kind (head_line links) n → StandsAt kind (head_line modules) (n + 1) → Is (Anything {X = NetOptions × Place}) (Why lines kind form) (modes_behind form p)
   unfolding modes_behind
   modes_why n p h is s t =
       let last = λ (l : LinkMode) (m : ModuleMode × Place). done {A = NetOptions × Place} {E = CertRefusal} (options l m.0, m.1) in
-      go (Reached {X = LinkMode} lines (n + 1)) (Anything {A = NetOptions × Place}) (next_line (link_mode_line o.form) p) (λ l. next_line module_mode_line l.1 >>= λ m. last l.0 m) (next_why (link_mode_line o.form) links (no_links o.form) n p h is s)
-      (λ l hl. go (Reached {X = ModuleMode} lines (n + 1 + 1)) (Anything {A = NetOptions × Place}) (next_line module_mode_line l.1) (λ m. last l.0 m) (next_why module_mode_line modules (no_modules o.form) (n + 1) l.1 hl.0 hl.1 t) (λ m hm. tt))
+      go (Reached {X = LinkMode} lines (n + 1)) (Anything {X = NetOptions × Place}) (next_line (link_mode_line form) p) (λ l. next_line module_mode_line l.1 >>= λ m. last l.0 m) (next_why (link_mode_line form) links (no_links form) n p h is s)
+      (λ l hl. go (Reached {X = ModuleMode} lines (n + 1 + 1)) (Anything {X = NetOptions × Place}) (next_line module_mode_line l.1) (λ m. last l.0 m) (next_why module_mode_line modules (no_modules form) (n + 1) l.1 hl.0 hl.1 t) (λ m hm. tt))
 
-  behind_why : (said : Option Bool) (n : ℕ) (p : Place) → At lines p → p.at ≡ n → StandsAt o.kind links n → StandsAt o.kind modules (n + 1) → Is (Anything {A = Opened × Place}) (Why lines o) (modes_behind o.form p >>= λ modes. done ((said_head o modes.0, said), modes.1))
-  behind_why said n p h is s t = go (Anything {A = NetOptions × Place}) (Anything {A = Opened × Place}) (modes_behind o.form p) (λ modes. done ((said_head o modes.0, said), modes.1)) (modes_why n p h is s t) (λ m hm. tt)
+behind_why : (lines : List Line) (o : Opening) (said : Option Bool) (n : ℕ) (p : Place) → At lines p → p.at ≡ n → StandsAt (paper o.kind) (head_line links) n → StandsAt (paper o.kind) (head_line modules) (n + 1)
+    → Is (Anything {X = Opened × Place}) (Why lines (paper o.kind) o.form) (modes_behind o.form p >>= λ modes. done ((said_head o modes.0, said), modes.1))
+behind_why lines o said n p h is s t = go lines (paper o.kind) o.form (Anything {X = NetOptions × Place}) (Anything {X = Opened × Place}) (modes_behind o.form p) (λ modes. done ((said_head o modes.0, said), modes.1)) (modes_why lines (paper o.kind) o.form n p h is s t) (λ m hm. tt)
 
-opened_why : (lines : List Line) (kind : Kind) (form : Form) (p : Place) → At lines p → p.at ≡ 2 → Is (λ (x : Opened × Place). Unit {0}) (Why lines (record { kind = kind; form = form })) (opened_from (record { kind = kind; form = form }) p)
+opened_why : (lines : List Line) (kind : Kind) (form : Form) (p : Place) → At lines p → p.at ≡ 2 → Is (Anything {X = Opened × Place}) (Why lines (paper kind) form) (opened_from (record { kind = kind; form = form }) p)
 unfolding verdict_at
-opened_why lines kinds.Routing form p h is = behind_why lines (record { kind = kinds.Routing; form = form }) None 2 p h is refl refl
+opened_why lines kinds.Routing form p h is = behind_why lines (record { kind = kinds.Routing; form = form }) None 2 p h is (omega arith, refl) (omega arith, refl)
 opened_why lines kinds.Certificate form p h is =
     let o : Opening = record { kind = kinds.Certificate; form = form } in
+    let kind = paper kinds.Certificate in
     let back = λ (v : Option Bool × Place). modes_behind form v.1 >>= λ modes. done {A = Opened × Place} {E = CertRefusal} ((said_head o modes.0, v.0), modes.1) in
-    let any = λ (x : Opened × Place). Unit {0} in
+    let any = Anything {X = Opened × Place} in
     let first = next_line verdict_line p in
-    go lines o (Reached {X = Option Bool} lines 3) any (first >>= λ v. done {A = Option Bool × Place} {E = CertRefusal} (Some v.0, v.1)) back
-    (go lines o (Reached {X = Bool} lines 3) (Reached {X = Option Bool} lines 3) first (λ v. done (Some v.0, v.1)) (next_why lines o verdict_line verdict (λ line k e. no_verdict line k e) 2 p h is refl) (λ v hv. hv))
-    (λ v hv. behind_why lines o v.0 3 v.1 hv.0 hv.1 refl refl)
+    go lines kind form (Reached {X = Option Bool} lines 3) any (first >>= λ v. done {A = Option Bool × Place} {E = CertRefusal} (Some v.0, v.1)) back
+    (go lines kind form (Reached {X = Bool} lines 3) (Reached {X = Option Bool} lines 3) first (λ v. done (Some v.0, v.1)) (next_why lines kind form verdict_line verdict (λ line k e. no_verdict line k e) 2 p h is (omega arith, refl)) (λ v hv. hv))
+    (λ v hv. behind_why lines o v.0 3 v.1 hv.0 hv.1 (omega arith, refl) (omega arith, refl))
 
 -- ---- the first line
 
@@ -145,17 +145,17 @@ header_why line rest = by (form_of line) refl
     by None e = record { before = []; line = line; after = rest; parts = refl; count = refl; reason = inl (refl, e, refl) }
     by (Some o) e = known o (has_more rest) refl e
 
-as_reason : (lines : List Line) (o : Opening) (e : CertRefusal) → Says lines o → Why lines o e → IsHeadRefusedFor lines e
-as_reason lines o e says w = record { before = w.before; line = w.line; after = w.after; parts = w.parts; count = w.count; reason = inr (w.kind, o, says, w.silent) }
+as_reason : (lines : List Line) (o : Opening) (e : CertRefusal) → Says lines o → Why lines (paper o.kind) o.form e → IsHeadRefusedFor lines e
+as_reason lines o e says w = record { before = w.before; line = w.line; after = w.after; parts = w.parts; count = w.count; reason = inr (w.fault, o, says, w.silent) }
 
 pub head_refused_for : (lines : List Line) (r : CertRefusal) → has_more lines ≡ true → head_in lines ≡ Err r → IsHeadRefusedFor lines r
 unfolding head_by opened_by
 head_refused_for [] r m e = absurd cc
 head_refused_for (line ∷ rest) r m e =
     let lines = line ∷ rest in
-    let any = λ (x : Opened × Place). Unit {0} in
-    let head = λ (x : CertHead). Unit {0} in
+    let any = Anything {X = Opened × Place} in
+    let head = Anything {X = CertHead} in
     subst (Is head (IsHeadRefusedFor lines)) e
     (then_is any (IsHeadRefusedFor lines) head (IsHeadRefusedFor lines) (header lines >>= λ first. opened_from first.0 first.1) (λ x. done {A = CertHead} {E = CertRefusal} x.0.0)
     (then_is (Started lines) (IsHeadRefusedFor lines) any (IsHeadRefusedFor lines) (header lines) (λ first. opened_from first.0 first.1) (header_why line rest) (λ d k. k)
-    (λ x s. is_more any (Why lines x.0) any (IsHeadRefusedFor lines) (opened_from x.0 x.1) (opened_why lines x.0.kind x.0.form x.1 s.0 s.1) (λ d w. as_reason lines x.0 d s.2 w) (λ p k. k))) (λ d k. k) (λ x k. tt))
+    (λ x s. is_more any (Why lines (paper x.0.kind) x.0.form) any (IsHeadRefusedFor lines) (opened_from x.0 x.1) (opened_why lines x.0.kind x.0.form x.1 s.0 s.1) (λ d w. as_reason lines x.0 d s.2 w) (λ p k. k))) (λ d k. k) (λ x k. tt))

@@ -63,7 +63,7 @@ unfolding verdict_at
 verdict_steps t kinds.Certificate = steps_then t (Both {X = Option Bool} t) (Past {X = Option Bool} t) (next_line verdict_line) (λ v. done (Some v.0, v.1)) (next_steps t verdict_line) (λ v. steps_give t (Some v))
 verdict_steps t kinds.Routing = steps_give t None
 
-modes_steps : (t : Two) (form : Form) → Steps t (Both {X = NetOptions} t) (Past {X = NetOptions} t) (modes_behind form)
+pub modes_steps : (t : Two) (form : Form) → Steps t (Both {X = NetOptions} t) (Past {X = NetOptions} t) (modes_behind form)
 unfolding modes_behind
 modes_steps t form =
     steps_then t (Both {X = NetOptions} t) (Past {X = NetOptions} t) (next_line (link_mode_line form)) (λ links. next_line module_mode_line links.1 >>= λ modules. done (options links.0 modules.0, modules.1)) (next_steps t (link_mode_line form))
@@ -151,14 +151,14 @@ first_word Second = omega arith
 
 -- ---- what was read before a refusal
 
-abbrev mode_lines : Form → LinkMode → ModuleMode → List Line
+abbrev pub mode_lines : Form → LinkMode → ModuleMode → List Line
 mode_lines form links modules = links_line form links ∷ modules_line modules ∷ []
 
 -- what stands behind the header, up to some line
-abbrev BehindHead : Kind → Form → List Line → Type 0
+abbrev pub BehindHead : Kind → Form → List Line → Type 0
 BehindHead kind form front = (links : LinkMode) × (modules : ModuleMode) × (closed : Bool) × HasWord form links × (back : List Line) × (verdict_lines kind closed ++ mode_lines form links modules ≡ front ++ back)
 
-modes_on : (kind : Kind) (form : Form) (closed : Bool) (start p : Place) → Stand (verdict_lines kind closed) start p → Is (Fits {X = NetOptions × Place}) (Short (BehindHead kind form) start) (modes_behind form p)
+pub modes_on : (kind : Kind) (form : Form) (closed : Bool) (start p : Place) → Stand (verdict_lines kind closed) start p → Is (Fits {X = NetOptions × Place}) (Short (BehindHead kind form) start) (modes_behind form p)
 unfolding modes_behind
 modes_on kind form closed start p stand =
     let lead = verdict_lines kind closed in
@@ -295,7 +295,7 @@ clean_header kinds.Certificate Second = (clean (codes "mcf-certificate") refl, (
 clean_header kinds.Routing First = (clean (codes "mcf-routing") refl, (clean (codes "1") refl, tt))
 clean_header kinds.Routing Second = (clean (codes "mcf-routing") refl, (clean (codes "2") refl, tt))
 
-clean_links : (form : Form) (mode : LinkMode) → IsLine (links_line form mode)
+pub clean_links : (form : Form) (mode : LinkMode) → IsLine (links_line form mode)
 clean_links First Directed = (clean (codes "links") refl, (clean (codes "directed") refl, tt))
 clean_links First Undirected = (clean (codes "links") refl, (clean (codes "undirected") refl, tt))
 clean_links First Bidirected = (clean (codes "links") refl, (tt, tt))
@@ -303,12 +303,12 @@ clean_links Second Directed = (clean (codes "links") refl, (clean (codes "direct
 clean_links Second Undirected = (clean (codes "links") refl, (clean (codes "undirected") refl, tt))
 clean_links Second Bidirected = (clean (codes "links") refl, (clean (codes "bidirected") refl, tt))
 
-clean_modules : (mode : ModuleMode) → IsLine (modules_line mode)
+pub clean_modules : (mode : ModuleMode) → IsLine (modules_line mode)
 clean_modules Ignore = (clean (codes "modules") refl, (clean (codes "none") refl, tt))
 clean_modules Largest = (clean (codes "modules") refl, (clean (codes "largest") refl, tt))
 clean_modules Sum = (clean (codes "modules") refl, (clean (codes "sum") refl, tt))
 
-clean_verdict : (closed : Bool) → IsLine (verdict_words closed)
+pub clean_verdict : (closed : Bool) → IsLine (verdict_words closed)
 clean_verdict true = (clean (codes "verdict") refl, (clean (codes "closed") refl, tt))
 clean_verdict false = (clean (codes "verdict") refl, (clean (codes "open") refl, tt))
 
@@ -317,7 +317,7 @@ clean_head kinds.Certificate form links modules closed = (clean_header kinds.Cer
 clean_head kinds.Routing form links modules closed = (clean_header kinds.Routing form, (clean_links form links, (clean_modules modules, tt)))
 
 -- lines, and what stands behind them
-lines_front : (lines : List Line) (more : List ℕ) → AllByRecursion IsLine lines → lines_of (text_of lines ++ more) ≡ lines ++ lines_of more
+pub lines_front : (lines : List Line) (more : List ℕ) → AllByRecursion IsLine lines → lines_of (text_of lines ++ more) ≡ lines ++ lines_of more
 lines_front [] more h = refl
 lines_front (line ∷ lines) more h =
     let e : text_of (line ∷ lines) ++ more ≡ whole_lines [] ++ (joined line ++ 10 ∷ (text_of lines ++ more)) =

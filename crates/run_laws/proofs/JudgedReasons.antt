@@ -17,7 +17,7 @@ use Rattle.cert_judge.specs.Chain.{of_text, read_on, IsSaid}
 use Rattle.cert_judge.specs.Judgement.{OnPaper, IsJudgement, refused as said_refusal}
 use Rattle.run_laws.specs.JudgedKinds.{IsJudgedFor}
 use Rattle.run_laws.proofs.Judged.{refusal_is, never_said, behind_net}
-use Rattle.run_laws.proofs.Reasons.{refused_for}
+use Rattle.run_laws.proofs.PaperReasons.{refused_for}
 use Rattle.run_laws.proofs.HeadReasons.{head_refused_for}
 
 on_paper : (rows : NetRows) (text : List ℕ) (r : CertRefusal) (head : CertHead) (net : ScaledNet) → head_in (lines_of text) ≡ Ok head → scaled_of rows (options_of head) ≡ Ok net

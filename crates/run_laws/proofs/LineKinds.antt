@@ -9,7 +9,7 @@ use Rattle.flow_model.specs.Routing.{Row}
 use Rattle.flow_paths.specs.DualRows.{Length, Potential}
 use Rattle.flow_paths.specs.declared.certificate.Printed.{Printed}
 use Rattle.gap_fraction.specs.declared.fraction.TheConstants.{MAX_PART}
-use Rattle.mcf_limits.specs.declared.TheConstants.{MAX_GAP, MAX_LENGTH, MAX_PATH_CELLS, MAX_PHASES, MAX_UNITS}
+use Rattle.mcf_limits.specs.declared.TheConstants.{MAX_GAP, MAX_HOPS, MAX_LENGTH, MAX_PATH_CELLS, MAX_PHASES, MAX_UNITS}
 use Rattle.cert_lines.specs.Sheet.{Sheet, place_of}
 use Rattle.cert_lines.specs.declared.refusal.CertKind.{CertKind}
 use Rattle.cert_lines.specs.declared.refusal.CertKind.TheVariants.{Syntax, UnknownName, BadNumber, TooLarge}
@@ -18,7 +18,10 @@ use Rattle.cert_lines.specs.Numbers.{is_number, number_within, is_micro, micro_v
 use Rattle.cert_lines.specs.HeadLines.{gap_line, phases_line, scale_line, fraction_parts, value_line}
 use Rattle.cert_lines.specs.Rows.{length_row, cells_from, path_row, potentials_from, of_that_many, potential_row}
 use Rattle.cert_lines.proofs.NumberSteps.{micro_small}
-use Rattle.run_laws.specs.CertKinds.{name, number, decimal, nothing, Sorted, is_decimal, millionths, IsRight, IsWrong, IsFirstWrong, IsLineFault, gap_form, phases_form, scale_form, value_words, value_form, cell_words, path_form, length_form, potential_form}
+use Rattle.hop_check.specs.LayerRows.{Layer}
+use Rattle.run_texts.specs.HopsRead.{with_count, layer_row}
+use Rattle.run_texts.specs.PartRead.{threshold_line}
+use Rattle.run_laws.specs.CertKinds.{name, number, decimal, nothing, Sorted, is_decimal, millionths, IsRight, IsWrong, IsFirstWrong, IsLineFault, gap_form, phases_form, scale_form, value_words, value_form, cell_words, path_form, length_form, potential_form, layer_form, threshold_form}
 
 abbrev fine : {A : Type 0} → A → Result A CertKind
 fine x = Ok x
@@ -171,6 +174,20 @@ potential_tell sheet line =
     form_tells (of_that_many (length sheet.nodes) (list_behind (codes "potential") line)) (λ w. (name sheet.nodes, w.0) ∷ sorts w.1) (λ w. or_fault UnknownName (place_of sheet.nodes w.0) >>= λ n. potentials_from w.1 >>= λ vs. made n vs)
     (λ w. name_tells sheet.nodes w.0 (sorts w.1) (λ n. potentials_from w.1 >>= λ vs. made n vs) (λ n. then_tells (sorts w.1) (potentials_from w.1) (λ vs. record { node = n; values = vs }) (potentials_tell w.1)))
 
+layer_tell : (sheet : Sheet) (line : Line) → TellsLine (layer_form sheet line) (layer_row sheet line)
+unfolding layer_row
+layer_tell sheet line =
+    let made = λ (n i : ℕ) (vs : List ℕ). fine {A = Layer} (record { node = n; index = i; values = vs }) in
+    let sorts = λ (words : Line). map (λ w. (number MAX_LENGTH, w)) words in
+    form_tells (with_count (length sheet.nodes) (row_behind (codes "layer") line)) (λ w. (name sheet.nodes, w.0) ∷ (number MAX_HOPS, w.1) ∷ sorts w.2)
+    (λ w. or_fault UnknownName (place_of sheet.nodes w.0) >>= λ n. number_within MAX_HOPS w.1 >>= λ i. potentials_from w.2 >>= λ vs. made n i vs)
+    (λ w. name_tells sheet.nodes w.0 ((number MAX_HOPS, w.1) ∷ sorts w.2) (λ n. number_within MAX_HOPS w.1 >>= λ i. potentials_from w.2 >>= λ vs. made n i vs)
+    (λ n. number_tells MAX_HOPS w.1 (sorts w.2) (λ i. potentials_from w.2 >>= λ vs. made n i vs) (λ i. then_tells (sorts w.2) (potentials_from w.2) (λ vs. record { node = n; index = i; values = vs }) (potentials_tell w.2))))
+
+threshold_tell : (line : Line) → TellsLine (threshold_form line) (threshold_line line)
+unfolding threshold_line
+threshold_tell line = form_tells (one_behind (codes "threshold") line) (λ word. (number MAX_LENGTH, word) ∷ []) (number_within MAX_LENGTH) (number_last MAX_LENGTH)
+
 abbrev cells_left : Sheet → ℕ → Line → List Sorted
 cells_left sheet left words = map (λ word. (name sheet.cells, word)) (take left words) ++ map (λ word. (nothing, word)) (drop left words)
 
@@ -249,3 +266,9 @@ length_fault sheet line kind e = fault_of (length_form sheet line) (length_row s
 
 pub potential_fault : (sheet : Sheet) (line : Line) (kind : CertKind) → potential_row sheet line ≡ Err kind → IsLineFault (potential_form sheet line) kind
 potential_fault sheet line kind e = fault_of (potential_form sheet line) (potential_row sheet line) kind (potential_tell sheet line) e
+
+pub layer_fault : (sheet : Sheet) (line : Line) (kind : CertKind) → layer_row sheet line ≡ Err kind → IsLineFault (layer_form sheet line) kind
+layer_fault sheet line kind e = fault_of (layer_form sheet line) (layer_row sheet line) kind (layer_tell sheet line) e
+
+pub threshold_fault : (line : Line) (kind : CertKind) → threshold_line line ≡ Err kind → IsLineFault (threshold_form line) kind
+threshold_fault line kind e = fault_of (threshold_form line) (threshold_line line) kind (threshold_tell line) e

@@ -7,7 +7,6 @@ use Rattle.std.specs.Str.Parse.{digits_value}
 use Rattle.std.proofs.lemmas.Bool.Decides.{nat_tests}
 use Rattle.text_lines.specs.Lines.{Line}
 use Rattle.gap_fraction.specs.declared.fraction.TheConstants.{MAX_PART}
-use Rattle.mcf_limits.specs.declared.TheConstants.{MAX_LENGTH}
 use Rattle.cert_lines.specs.Sheet.{Sheet}
 use Rattle.cert_lines.specs.declared.net_line.TheConstants.{MAX_COUNT}
 use Rattle.cert_lines.specs.declared.refusal.CertKind.{CertKind}
@@ -19,8 +18,10 @@ use Rattle.cert_lines.specs.Rows.{path_row, length_row, potential_row}
 use Rattle.cert_lines.specs.Spelling.{verdict_words}
 use Rattle.cert_text.specs.Reading.{mode_line, fixed_line}
 use Rattle.cert_inverse.proofs.Words.{equal_bytes, one_again, full_word}
+use Rattle.run_texts.specs.HopsRead.{layer_row}
+use Rattle.run_texts.specs.PartRead.{threshold_line}
 use Rattle.run_laws.specs.CertKinds.{Sorted, number, IsRight, IsWrong, IsFirstWrong, IsLineFault}
-use Rattle.run_laws.specs.PaperKinds.{verdict, links, modules, counts, gap, phases, scale, lower, upper, path, cell, node, last, counts_in, as_counts, IsOtherNet, IsRoleFault}
+use Rattle.run_laws.specs.LineRoles.{verdict, links, modules, counts, gap, phases, scale, lower, upper, threshold, path, cell, node, layer, row_line, last, counts_in, as_counts, IsOtherNet, IsHeadFault, IsRoleFault}
 use Rattle.run_laws.proofs.LineKinds as faults
 
 abbrev fine : {A : Type 0} → A → Result A CertKind
@@ -29,7 +30,7 @@ fine x = Ok x
 abbrev passed : Result (Unit {0}) CertKind
 passed = Ok tt
 
-not_fixed : (text : List ℕ) (line : Line) → is_fixed text line ≡ false → join_with_byte 32 line ≢ text
+pub not_fixed : (text : List ℕ) (line : Line) → is_fixed text line ≡ false → join_with_byte 32 line ≢ text
 not_fixed text line h same =
     let k : is_fixed text line ≡ true = ap (λ (w : List ℕ). bytes_eq w text) same ∙ equal_bytes text in
     absurd cc
@@ -49,7 +50,7 @@ no_verdict line kind e = by (is_fixed (codes "verdict closed") line) (is_fixed (
     by false true h k s = absurd cc
     by false false h k s = let same : Syntax ≡ kind = cc in (sym same, neither h k)
 
-pub verdict_fault : (sheet : Sheet) (line : Line) (kind : CertKind) → verdict_line line ≡ Err kind → IsRoleFault sheet verdict line kind
+pub verdict_fault : (sheet : Sheet) (line : Line) (kind : CertKind) → verdict_line line ≡ Err kind → IsHeadFault sheet verdict line kind
 verdict_fault sheet line kind e = no_verdict line kind e
 
 mode_kind : (key mode : List ℕ) (line : Line) (kind : CertKind) → mode_line key mode line ≡ Err kind → kind ≡ Syntax
@@ -73,10 +74,10 @@ mode_again key mode some =
 mode_fault : (key mode : List ℕ) (line : Line) (kind : CertKind) → mode_line key mode line ≡ Err kind → (kind ≡ Syntax) × ¬ ((line ≡ key ∷ mode ∷ []) × (0 < length mode))
 mode_fault key mode line kind e = (mode_kind key mode line kind e, λ (same, some). let k : passed ≡ Err kind = sym (ap (mode_line key mode) same ∙ mode_again key mode some) ∙ e in absurd cc)
 
-pub links_fault : (sheet : Sheet) (line : Line) (kind : CertKind) → mode_line (codes "links") sheet.link_mode line ≡ Err kind → IsRoleFault sheet links line kind
+pub links_fault : (sheet : Sheet) (line : Line) (kind : CertKind) → mode_line (codes "links") sheet.link_mode line ≡ Err kind → IsHeadFault sheet links line kind
 links_fault sheet line kind e = mode_fault (codes "links") sheet.link_mode line kind e
 
-pub modules_fault : (sheet : Sheet) (line : Line) (kind : CertKind) → mode_line (codes "modules") sheet.module_mode line ≡ Err kind → IsRoleFault sheet modules line kind
+pub modules_fault : (sheet : Sheet) (line : Line) (kind : CertKind) → mode_line (codes "modules") sheet.module_mode line ≡ Err kind → IsHeadFault sheet modules line kind
 modules_fault sheet line kind e = mode_fault (codes "modules") sheet.module_mode line kind e
 
 pub last_fault : (sheet : Sheet) (line : Line) (kind : CertKind) → fixed_line (codes "end") line ≡ Err kind → IsRoleFault sheet last line kind
@@ -86,29 +87,35 @@ last_fault sheet line kind e = by (is_fixed (codes "end") line) refl e
     by true h k = absurd cc
     by false h k = let same : Syntax ≡ kind = cc in (sym same, not_fixed (codes "end") line h)
 
-pub gap_fault : (sheet : Sheet) (line : Line) (kind : CertKind) → gap_line line ≡ Err kind → IsRoleFault sheet gap line kind
+pub gap_fault : (sheet : Sheet) (line : Line) (kind : CertKind) → gap_line line ≡ Err kind → IsHeadFault sheet gap line kind
 gap_fault sheet line kind e = faults.gap_fault line kind e
 
-pub phases_fault : (sheet : Sheet) (line : Line) (kind : CertKind) → phases_line line ≡ Err kind → IsRoleFault sheet phases line kind
+pub phases_fault : (sheet : Sheet) (line : Line) (kind : CertKind) → phases_line line ≡ Err kind → IsHeadFault sheet phases line kind
 phases_fault sheet line kind e = faults.phases_fault line kind e
 
-pub scale_fault : (sheet : Sheet) (line : Line) (kind : CertKind) → scale_line line ≡ Err kind → IsRoleFault sheet scale line kind
+pub scale_fault : (sheet : Sheet) (line : Line) (kind : CertKind) → scale_line line ≡ Err kind → IsHeadFault sheet scale line kind
 scale_fault sheet line kind e = faults.scale_fault line kind e
 
-pub lower_fault : (sheet : Sheet) (line : Line) (kind : CertKind) → value_line (codes "lower") MAX_LENGTH line ≡ Err kind → IsRoleFault sheet lower line kind
-lower_fault sheet line kind e = faults.value_fault (codes "lower") MAX_LENGTH line kind e
+pub lower_fault : (sheet : Sheet) (most : ℕ) (line : Line) (kind : CertKind) → value_line (codes "lower") most line ≡ Err kind → IsHeadFault sheet (lower most) line kind
+lower_fault sheet most line kind e = faults.value_fault (codes "lower") most line kind e
 
-pub upper_fault : (sheet : Sheet) (line : Line) (kind : CertKind) → value_line (codes "upper") MAX_PART line ≡ Err kind → IsRoleFault sheet upper line kind
+pub upper_fault : (sheet : Sheet) (line : Line) (kind : CertKind) → value_line (codes "upper") MAX_PART line ≡ Err kind → IsHeadFault sheet upper line kind
 upper_fault sheet line kind e = faults.value_fault (codes "upper") MAX_PART line kind e
 
-pub path_fault : (sheet : Sheet) (line : Line) (kind : CertKind) → begins (codes "path") line ≡ true → path_row sheet line ≡ Err kind → IsRoleFault sheet path line kind
+pub threshold_fault : (sheet : Sheet) (line : Line) (kind : CertKind) → threshold_line line ≡ Err kind → IsHeadFault sheet threshold line kind
+threshold_fault sheet line kind e = faults.threshold_fault line kind e
+
+pub path_fault : (sheet : Sheet) (line : Line) (kind : CertKind) → begins (codes "path") line ≡ true → path_row sheet line ≡ Err kind → IsRoleFault sheet (row_line path) line kind
 path_fault sheet line kind h e = (h, faults.path_fault sheet line kind e)
 
-pub cell_fault : (sheet : Sheet) (line : Line) (kind : CertKind) → begins (codes "length") line ≡ true → length_row sheet line ≡ Err kind → IsRoleFault sheet cell line kind
+pub cell_fault : (sheet : Sheet) (line : Line) (kind : CertKind) → begins (codes "length") line ≡ true → length_row sheet line ≡ Err kind → IsRoleFault sheet (row_line cell) line kind
 cell_fault sheet line kind h e = (h, faults.length_fault sheet line kind e)
 
-pub node_fault : (sheet : Sheet) (line : Line) (kind : CertKind) → begins (codes "potential") line ≡ true → potential_row sheet line ≡ Err kind → IsRoleFault sheet node line kind
+pub node_fault : (sheet : Sheet) (line : Line) (kind : CertKind) → begins (codes "potential") line ≡ true → potential_row sheet line ≡ Err kind → IsRoleFault sheet (row_line node) line kind
 node_fault sheet line kind h e = (h, faults.potential_fault sheet line kind e)
+
+pub layer_fault : (sheet : Sheet) (line : Line) (kind : CertKind) → begins (codes "layer") line ≡ true → layer_row sheet line ≡ Err kind → IsRoleFault sheet (row_line layer) line kind
+layer_fault sheet line kind h e = (h, faults.layer_fault sheet line kind e)
 
 abbrev Four : Type 0
 Four = List ℕ × List ℕ × List ℕ × List ℕ × Line
@@ -222,7 +229,7 @@ counts_by sheet line kind (Ok w) e z = elim (counts_reason sheet w kind z) as (�
   | inr h ↦ inr (record { other = h.0; words = seven w; form = ap counts_in e; right = h.1; differs = h.2 })
 ]
 
-pub counts_fault : (sheet : Sheet) (line : Line) (kind : CertKind) → counts_line sheet line ≡ Err kind → IsRoleFault sheet counts line kind
+pub counts_fault : (sheet : Sheet) (line : Line) (kind : CertKind) → counts_line sheet line ≡ Err kind → IsHeadFault sheet counts line kind
 unfolding counts_line
 counts_fault sheet line kind z =
     subst (λ (r : Result (Four × Three) CertKind). IsLineFault (as_counts (counts_in r)) kind ⊎ IsOtherNet sheet line kind) refl (counts_by sheet line kind (count_words line) refl z)

@@ -37,19 +37,19 @@ modes_steps t sheet =
     steps_then t (Near t) (IsFar t) (next_line links) (λ a. next_line modules a.1 >>= λ b. done b.1) (next_steps t links)
     (λ u. steps_then t (Near t) (IsFar t) (next_line modules) (λ b. done b.1) (next_steps t modules) (λ v. steps_stay t))
 
-abbrev Scale : Type 0
+abbrev pub Scale : Type 0
 Scale = ℕ × (ℕ × ℕ)
 
-scale_steps : (t : Two) → Steps t (Both {X = Scale} t) (Past {X = Scale} t) scale_at
+pub scale_steps : (t : Two) → Steps t (Both {X = Scale} t) (Past {X = Scale} t) scale_at
 unfolding scale_at
 scale_steps t =
     steps_then t (Both {X = Scale} t) (Past {X = Scale} t) (next_line phases_line) (λ a. next_line scale_line a.1 >>= λ b. done ((a.0, b.0), b.1)) (next_steps t phases_line)
     (λ n. steps_then t (Both {X = Scale} t) (Past {X = Scale} t) (next_line scale_line) (λ b. done ((n, b.0), b.1)) (next_steps t scale_line) (λ s. steps_give t (n, s)))
 
-abbrev Values : Type 0
+abbrev pub Values : Type 0
 Values = Printed × Printed
 
-values_steps : (t : Two) → Steps t (Both {X = Values} t) (Past {X = Values} t) values_at
+pub values_steps : (t : Two) → Steps t (Both {X = Values} t) (Past {X = Values} t) values_at
 unfolding values_at
 values_steps t =
     let low = value_line (codes "lower") MAX_LENGTH in
@@ -57,10 +57,10 @@ values_steps t =
     steps_then t (Both {X = Values} t) (Past {X = Values} t) (next_line low) (λ a. next_line high a.1 >>= λ b. done ((a.0, b.0), b.1)) (next_steps t low)
     (λ x. steps_then t (Both {X = Values} t) (Past {X = Values} t) (next_line high) (λ b. done ((x, b.0), b.1)) (next_steps t high) (λ y. steps_give t (x, y)))
 
-abbrev Opened : Type 0
+abbrev pub Opened : Type 0
 Opened = Bool × ℕ
 
-opening_steps : (t : Two) (sheet : Sheet) → Steps t (Both {X = Opened} t) (Past {X = Opened} t) (opening_at sheet)
+pub opening_steps : (t : Two) (sheet : Sheet) → Steps t (Both {X = Opened} t) (Past {X = Opened} t) (opening_at sheet)
 unfolding opening_at counted_at
 opening_steps t sheet =
     let counts = counts_line sheet in
@@ -72,7 +72,7 @@ opening_steps t sheet =
 abbrev rows_of_dual : List Length → List Potential → DualRows
 rows_of_dual ls ps = record { lengths = ls; potentials = ps }
 
-dual_steps : (t : Two) (sheet : Sheet) → Steps t (Both {X = DualRows} t) (Past {X = DualRows} t) (dual_at sheet)
+pub dual_steps : (t : Two) (sheet : Sheet) → Steps t (Both {X = DualRows} t) (Past {X = DualRows} t) (dual_at sheet)
 unfolding dual_at
 dual_steps t sheet =
     let lengths = λ (p : Place). rows_from (codes "length") (length_row sheet) p.at p.rest in
@@ -114,7 +114,7 @@ nothing_steps t u = record { near = near; past = λ p h. far (is_full (bytes_of 
         by true false at h k e = absurd cc
         by false c at h k e = absurd cc
 
-closing_steps : (t : Two) → Steps t (AnyTwo {A = Unit {0}}) (Any {A = Unit {0}}) closing
+pub closing_steps : (t : Two) → Steps t (AnyTwo {A = Unit {0}}) (Any {A = Unit {0}}) closing
 unfolding closing
 closing_steps t = steps_then t (AnyTwo {A = Unit {0}}) (Any {A = Unit {0}}) (next_line (fixed_line (codes "end"))) nothing (next_steps t (fixed_line (codes "end"))) (nothing_steps t)
 

@@ -1,7 +1,8 @@
 -- A line is refused for one kind alone.
-use Rattle.std.proofs.Common.{◌≡◌, ◌≢◌, ◌⊎◌, ℕ, ◌+◌, ◌<◌, ◌≤◌, Bool, true, false, List, [], ◌∷◌, ◌++◌, length, get_or, Option, Some, None, refl, sym, ap, subst, ◌∙◌, length-append, inl, inr, arith}
+use Rattle.std.proofs.Common.{◌≡◌, ◌⊎◌, ℕ, ◌+◌, ◌-◌, ◌<◌, ◌≤◌, Bool, true, false, List, [], ◌∷◌, ◌++◌, length, Option, Some, None, refl, sym, ap, subst, ◌∙◌, length-append, inl, inr, arith}
 use Rattle.std.specs.Prelude.{codes, map}
 use Rattle.std.specs.List.{AllByRecursion, join_with_byte}
+use Rattle.std.proofs.lemmas.Option.{slice_get_within}
 use Rattle.text_lines.specs.Lines.{Line}
 use Rattle.cert_lines.specs.Sheet.{Sheet, Sheets, place_of, sheet_for}
 use Rattle.cert_lines.specs.declared.net_line.TheConstants.{MAX_COUNT}
@@ -11,14 +12,16 @@ use Rattle.cert_lines.specs.declared.refusal.CertRefusal.{CertRefusal}
 use Rattle.cert_lines.specs.Forms.{begins}
 use Rattle.cert_lines.specs.Numbers.{is_number}
 use Rattle.cert_lines.specs.HeadLines.{count_words}
-use Rattle.cert_text.specs.declared.opening.Kind.{Kind}
-use Rattle.cert_text.specs.declared.opening.Kind.TheVariants as kinds
 use Rattle.cert_text.specs.declared.opening.Opening.{Opening}
 use Rattle.cert_text.specs.Papers.{form_of}
 use Rattle.cert_inverse.proofs.Words.{same_bytes}
 use Rattle.run_laws.specs.CertKinds.{name, number, decimal, nothing as no_word, Sorted, is_decimal, IsRight, IsWrong, IsLineFault}
 use Rattle.run_laws.specs.HeadKinds.{IsHeadReason, IsHeadRefusedFor}
-use Rattle.run_laws.specs.PaperKinds.{Role, head_count, verdict, links, modules, counts, gap, phases, scale, lower, upper, path, cell, node, last, nothing, StandsAt, counts_in, as_counts, IsOtherNet, EndsWith, AreBeforeRows, BeginsNoRow, AreEnded, IsInOrder, IsRoleFault, Says, IsBodyReason, IsReason, IsRefusedFor}
+use Rattle.run_laws.specs.KindHeads.{IsHeadReasonUnder, IsHeadRefusedUnder}
+use Rattle.run_laws.specs.KindTexts.{IsUnder, IsReasonUnder, IsRefusedUnder}
+use Rattle.run_laws.specs.LineRoles.{TextKind, Role, HeadRole, RowRole, verdict, links, modules, counts, gap, phases, scale, lower, upper, threshold, head_line, row_line, last, nothing, paper, head_of, head_count, order, StandsAt, key_of, AreBeforeRows, EndsWith, IsPast, BeginsNoRow, AreEnded, IsInOrder, counts_in, as_counts, IsOtherNet, IsHeadFault, row_form, IsRoleFault, IsBodyReason}
+use Rattle.run_laws.specs.PaperKinds.{Says, IsReason, IsRefusedFor}
+use Rattle.run_laws.proofs.RowOrder.{begins_one, key_long}
 
 -- ---- the first word that is wrong
 
@@ -109,93 +112,22 @@ other_right sheet line k l h o =
 
 -- ---- what a line has to be
 
-role_one : (sheet : Sheet) (role : Role) (line : Line) (k l : CertKind) → IsRoleFault sheet role line k → IsRoleFault sheet role line l → k ≡ l
-role_one sheet verdict line k l h i = h.0 ∙ sym i.0
-role_one sheet links line k l h i = h.0 ∙ sym i.0
-role_one sheet modules line k l h i = h.0 ∙ sym i.0
-role_one sheet counts line k l (inl h) (inl i) = fault_one (as_counts (counts_in (count_words line))) k l h i
-role_one sheet counts line k l (inl h) (inr i) = absurd (other_right sheet line k l h i)
-role_one sheet counts line k l (inr h) (inl i) = absurd (other_right sheet line l k i h)
-role_one sheet counts line k l (inr h) (inr i) = h.other ∙ sym i.other
-role_one sheet gap line k l h i = fault_one _ k l h i
-role_one sheet phases line k l h i = fault_one _ k l h i
-role_one sheet scale line k l h i = fault_one _ k l h i
-role_one sheet lower line k l h i = fault_one _ k l h i
-role_one sheet upper line k l h i = fault_one _ k l h i
-role_one sheet path line k l h i = fault_one _ k l h.1 i.1
-role_one sheet cell line k l h i = fault_one _ k l h.1 i.1
-role_one sheet node line k l h i = fault_one _ k l h.1 i.1
-role_one sheet last line k l h i = h.0 ∙ sym i.0
-role_one sheet nothing line k l h i = h ∙ sym i
+head_one : (sheet : Sheet) (role : HeadRole) (line : Line) (k l : CertKind) → IsHeadFault sheet role line k → IsHeadFault sheet role line l → k ≡ l
+head_one sheet verdict line k l h i = h.0 ∙ sym i.0
+head_one sheet links line k l h i = h.0 ∙ sym i.0
+head_one sheet modules line k l h i = h.0 ∙ sym i.0
+head_one sheet counts line k l (inl h) (inl i) = fault_one (as_counts (counts_in (count_words line))) k l h i
+head_one sheet counts line k l (inl h) (inr i) = absurd (other_right sheet line k l h i)
+head_one sheet counts line k l (inr h) (inl i) = absurd (other_right sheet line l k i h)
+head_one sheet counts line k l (inr h) (inr i) = h.other ∙ sym i.other
+head_one sheet gap line k l h i = fault_one _ k l h i
+head_one sheet phases line k l h i = fault_one _ k l h i
+head_one sheet scale line k l h i = fault_one _ k l h i
+head_one sheet (lower most) line k l h i = fault_one _ k l h i
+head_one sheet upper line k l h i = fault_one _ k l h i
+head_one sheet threshold line k l h i = fault_one _ k l h i
 
--- what the lines have to be that stand before the rows, by number
-abbrev fixed_roles : Kind → List Role
-fixed_roles kinds.Certificate = nothing ∷ nothing ∷ verdict ∷ links ∷ modules ∷ counts ∷ gap ∷ phases ∷ scale ∷ lower ∷ upper ∷ []
-fixed_roles kinds.Routing = nothing ∷ nothing ∷ links ∷ modules ∷ phases ∷ scale ∷ []
-
-abbrev IsFixed : Kind → Role → ℕ → Type 0
-IsFixed kind role n = (n ≤ head_count kind) × (get_or (fixed_roles kind) n nothing ≡ role)
-
--- a row, or what stands behind rows
-data Late : Type 0 where
-  at_path : Late
-  at_cell : Late
-  at_node : Late
-  at_last : Late
-  at_nothing : Late
-
-abbrev role_of : Late → Role
-role_of at_path = path
-role_of at_cell = cell
-role_of at_node = node
-role_of at_last = last
-role_of at_nothing = nothing
-
-abbrev IsLate : Role → Type 0
-IsLate role = (late : Late) × (role_of late ≡ role)
-
-abbrev IsPlaced : Kind → Role → ℕ → Type 0
-IsPlaced kind role n = IsFixed kind role n ⊎ ((head_count kind < n) × IsLate role)
-
-fixed : (kind : Kind) (role : Role) (at n : ℕ) → n ≡ at → IsFixed kind role at → IsPlaced kind role n
-fixed kind role at n e h = inl (subst (IsFixed kind role) (sym e) h)
-
-placed : (kind : Kind) (role : Role) (n : ℕ) → StandsAt kind role n → IsPlaced kind role n
-placed kinds.Certificate verdict n h = fixed kinds.Certificate verdict 2 n h (omega arith, refl)
-placed kinds.Certificate links n h = fixed kinds.Certificate links 3 n h (omega arith, refl)
-placed kinds.Certificate modules n h = fixed kinds.Certificate modules 4 n h (omega arith, refl)
-placed kinds.Certificate counts n h = fixed kinds.Certificate counts 5 n h (omega arith, refl)
-placed kinds.Certificate gap n h = fixed kinds.Certificate gap 6 n h (omega arith, refl)
-placed kinds.Certificate phases n h = fixed kinds.Certificate phases 7 n h (omega arith, refl)
-placed kinds.Certificate scale n h = fixed kinds.Certificate scale 8 n h (omega arith, refl)
-placed kinds.Certificate lower n h = fixed kinds.Certificate lower 9 n h (omega arith, refl)
-placed kinds.Certificate upper n h = fixed kinds.Certificate upper 10 n h (omega arith, refl)
-placed kinds.Certificate path n h = inr (omega (arith, h), (at_path, refl))
-placed kinds.Certificate cell n h = inr (omega (arith, h), (at_cell, refl))
-placed kinds.Certificate node n h = inr (omega (arith, h), (at_node, refl))
-placed kinds.Certificate last n h = inr (omega (arith, h), (at_last, refl))
-placed kinds.Certificate nothing n h = inr (omega (arith, h), (at_nothing, refl))
-placed kinds.Routing verdict n h = absurd h
-placed kinds.Routing links n h = fixed kinds.Routing links 2 n h (omega arith, refl)
-placed kinds.Routing modules n h = fixed kinds.Routing modules 3 n h (omega arith, refl)
-placed kinds.Routing counts n h = absurd h
-placed kinds.Routing gap n h = absurd h
-placed kinds.Routing phases n h = fixed kinds.Routing phases 4 n h (omega arith, refl)
-placed kinds.Routing scale n h = fixed kinds.Routing scale 5 n h (omega arith, refl)
-placed kinds.Routing lower n h = absurd h
-placed kinds.Routing upper n h = absurd h
-placed kinds.Routing path n h = inr (omega (arith, h), (at_path, refl))
-placed kinds.Routing cell n h = absurd h
-placed kinds.Routing node n h = absurd h
-placed kinds.Routing last n h = inr (omega (arith, h), (at_last, refl))
-placed kinds.Routing nothing n h = inr (omega (arith, h), (at_nothing, refl))
-
--- ---- rows and what stands behind them
-
-other_word : (a b : List ℕ) (line : Line) → length a ≢ length b → begins a line ≡ true → begins b line ≡ true → ⊥
-other_word a b [] unlike h k = absurd cc
-other_word a b (word ∷ words) unlike h k = unlike (ap (λ (w : List ℕ). length w) (sym (same_bytes word a h) ∙ same_bytes word b k))
-
+-- the last line of these begins so, and in no other way
 last_is : (xs ys : List Line) (a b : Line) → xs ++ a ∷ [] ≡ ys ++ b ∷ [] → a ≡ b
 last_is [] [] a b e = head_is a b [] [] e
 last_is [] (y ∷ []) a b e = absurd cc
@@ -204,11 +136,11 @@ last_is (x ∷ []) [] a b e = absurd cc
 last_is (x ∷ z ∷ xs) [] a b e = absurd cc
 last_is (x ∷ xs) (y ∷ ys) a b e = last_is xs ys a b (tail_is x y (xs ++ a ∷ []) (ys ++ b ∷ []) e)
 
-ends_once : (kind : Kind) (a b : List ℕ) (lines : List Line) → length a ≢ length b → EndsWith kind a lines → EndsWith kind b lines → ⊥
-ends_once kind a b lines unlike h k = other_word a b h.1 unlike h.4 (subst (λ (l : Line). begins b l ≡ true) (sym (last_is h.0 k.0 h.1 k.1 (sym h.2 ∙ k.2))) k.4)
+ends_once : (kind : TextKind) (a b : RowRole) (lines : List Line) → EndsWith kind a lines → EndsWith kind b lines → a ≡ b
+ends_once kind a b lines h k = begins_one a b h.1 h.4 (subst (λ (l : Line). begins (key_of b) l ≡ true) (sym (last_is h.0 k.0 h.1 k.1 (sym h.2 ∙ k.2))) k.4)
 
-ends_late : (kind : Kind) (key : List ℕ) (lines : List Line) → AreBeforeRows kind lines → EndsWith kind key lines → ⊥
-ends_late kind key lines h k = omega (arith, h, k.3, ap (λ (l : List Line). length l) k.2, length-append k.0 (k.1 ∷ []))
+ends_late : (kind : TextKind) (role : RowRole) (lines : List Line) → AreBeforeRows kind lines → EndsWith kind role lines → ⊥
+ends_late kind role lines h k = omega (arith, h, k.3, ap (λ (l : List Line). length l) k.2, length-append k.0 (k.1 ∷ []))
 
 no_end : (key : List ℕ) (line : Line) → 3 < length key → begins key line ≡ true → join_with_byte 32 line ≡ codes "end" → ⊥
 no_end key [] long h e = absurd cc
@@ -216,117 +148,58 @@ no_end key (word ∷ []) long h e = omega (arith, long, ap (λ (w : List ℕ). l
 no_end key (word ∷ next ∷ words) long h e =
     omega (arith, long, ap (λ (w : List ℕ). length w) (same_bytes word key h), length-append word (32 ∷ join_with_byte 32 (next ∷ words)), ap (λ (w : List ℕ). length w) e)
 
-ended_late : (kind : Kind) (key : List ℕ) (lines : List Line) → 3 < length key → AreEnded lines → EndsWith kind key lines → ⊥
-ended_late kind key lines long h k = no_end key k.1 long k.4 (ap (λ (l : Line). join_with_byte 32 l) (last_is k.0 h.0 k.1 h.1 (sym k.2 ∙ h.2)) ∙ h.3)
+ended_late : (kind : TextKind) (role : RowRole) (lines : List Line) → AreEnded lines → EndsWith kind role lines → ⊥
+ended_late kind role lines h k = no_end (key_of role) k.1 (key_long role) k.4 (ap (λ (l : Line). join_with_byte 32 l) (last_is k.0 h.0 k.1 h.1 (sym k.2 ∙ h.2)) ∙ h.3)
 
-path_last : (kind : Kind) (before : List Line) (line : Line) → IsInOrder kind path before line → begins (codes "path") line ≡ true → BeginsNoRow kind before line → ⊥
-path_last kinds.Routing before line h b ends = differ (begins (codes "path") line) b ends
-path_last kinds.Certificate before line h b ends = by h (ends.0 b)
-  where
-    by : AreBeforeRows kinds.Certificate before ⊎ EndsWith kinds.Certificate (codes "path") before → EndsWith kinds.Certificate (codes "length") before ⊎ EndsWith kinds.Certificate (codes "potential") before → ⊥
-    by (inl a) (inl c) = ends_late kinds.Certificate (codes "length") before a c
-    by (inl a) (inr c) = ends_late kinds.Certificate (codes "potential") before a c
-    by (inr a) (inl c) = ends_once kinds.Certificate (codes "path") (codes "length") before (λ e. absurd cc) a c
-    by (inr a) (inr c) = ends_once kinds.Certificate (codes "path") (codes "potential") before (λ e. absurd cc) a c
-
-cell_last : (kind : Kind) (n : ℕ) (before : List Line) (line : Line) → StandsAt kind cell n → IsInOrder kind cell before line → begins (codes "length") line ≡ true → BeginsNoRow kind before line → ⊥
-cell_last kinds.Routing n before line s h b ends = s
-cell_last kinds.Certificate n before line s h b ends = by h (ends.1 b)
-  where
-    by : (AreBeforeRows kinds.Certificate before ⊎ EndsWith kinds.Certificate (codes "path") before) ⊎ EndsWith kinds.Certificate (codes "length") before → EndsWith kinds.Certificate (codes "potential") before → ⊥
-    by (inl (inl a)) c = ends_late kinds.Certificate (codes "potential") before a c
-    by (inl (inr a)) c = ends_once kinds.Certificate (codes "path") (codes "potential") before (λ e. absurd cc) a c
-    by (inr a) c = ends_once kinds.Certificate (codes "length") (codes "potential") before (λ e. absurd cc) a c
-
-node_last : (kind : Kind) (n : ℕ) (before : List Line) (line : Line) → StandsAt kind node n → begins (codes "potential") line ≡ true → BeginsNoRow kind before line → ⊥
-node_last kinds.Routing n before line s b ends = s
-node_last kinds.Certificate n before line s b ends = differ (begins (codes "potential") line) b ends.2
-
--- behind the end no line is one of those that follow the lines before the rows
-abbrev IsBehindRows : Kind → List Line → Type 0
-IsBehindRows kind before = ((AreBeforeRows kind before ⊎ EndsWith kind (codes "path") before) ⊎ EndsWith kind (codes "length") before) ⊎ EndsWith kind (codes "potential") before
-
-far : (kind : Kind) (n : ℕ) → StandsAt kind nothing n → head_count kind + 2 ≤ n
-far kinds.Certificate n h = omega (arith, h)
-far kinds.Routing n h = omega (arith, h)
-
-row_nothing : (kind : Kind) (n : ℕ) (before : List Line) → n ≡ length before + 1 → StandsAt kind nothing n → AreEnded before → IsBehindRows kind before → ⊥
-row_nothing kind n before count s ended (inl (inl (inl h))) = omega (arith, count, h, far kind n s)
-row_nothing kind n before count s ended (inl (inl (inr h))) = ended_late kind (codes "path") before (omega arith) ended h
-row_nothing kind n before count s ended (inl (inr h)) = ended_late kind (codes "length") before (omega arith) ended h
-row_nothing kind n before count s ended (inr h) = ended_late kind (codes "potential") before (omega arith) ended h
-
-module _ (sheet : Sheet) (kind : Kind) (before : List Line) (line : Line) (n : ℕ) (count : n ≡ length before + 1) where
+module _ (sheet : Sheet) (kind : TextKind) (before : List Line) (line : Line) (n : ℕ) (count : n ≡ length before + 1) where
   -- a line may have to be so, and is not
   abbrev Is : Role → CertKind → Type 0
   Is role k = StandsAt kind role n × IsInOrder kind role before line × IsRoleFault sheet role line k
 
-  path_cell : {P : Type 0} (k l : CertKind) → Is path k → Is cell l → P
-  path_cell k l h i = absurd (other_word (codes "path") (codes "length") line (λ e. absurd cc) h.2.0 i.2.0)
+  head_before : (role : HeadRole) → StandsAt kind (head_line role) n → n ≤ head_count kind
+  head_before role h = omega (arith, h.0, slice_get_within (head_of kind) (n - 2) role h.1)
 
-  path_node : {P : Type 0} (k l : CertKind) → Is path k → Is node l → P
-  path_node k l h i = absurd (other_word (codes "path") (codes "potential") line (λ e. absurd cc) h.2.0 i.2.0)
+  same_head : (a b : HeadRole) → StandsAt kind (head_line a) n → StandsAt kind (head_line b) n → a ≡ b
+  same_head a b h i = let e : Some a ≡ Some b = sym h.1 ∙ i.1 in cc
 
-  cell_node : {P : Type 0} (k l : CertKind) → Is cell k → Is node l → P
-  cell_node k l h i = absurd (other_word (codes "length") (codes "potential") line (λ e. absurd cc) h.2.0 i.2.0)
+  row_last : (role : RowRole) (k l : CertKind) → Is (row_line role) k → Is last l → ⊥
+  row_last role k l h i = by h.1 (i.1 role h.0.0 h.2.0)
+    where
+      by : AreBeforeRows kind before ⊎ ((earlier : RowRole) × (order earlier ≤ order role) × EndsWith kind earlier before) → IsPast kind role before → ⊥
+      by (inl first) (later, lt, has, e) = ends_late kind later before first e
+      by (inr (earlier, le, f)) (later, lt, has, e) = omega (arith, le, lt, ap (λ (r : RowRole). order r) (ends_once kind earlier later before f e))
 
-  path_end : {P : Type 0} (k l : CertKind) → Is path k → Is last l → P
-  path_end k l h i = absurd (path_last kind before line h.1 h.2.0 i.1)
+  row_nothing : (role : RowRole) (k l : CertKind) → Is (row_line role) k → Is nothing l → ⊥
+  row_nothing role k l h i = by h.1
+    where
+      by : AreBeforeRows kind before ⊎ ((earlier : RowRole) × (order earlier ≤ order role) × EndsWith kind earlier before) → ⊥
+      by (inl first) = omega (arith, count, first, i.0)
+      by (inr (earlier, le, e)) = ended_late kind earlier before i.1 e
 
-  cell_end : {P : Type 0} (k l : CertKind) → Is cell k → Is last l → P
-  cell_end k l h i = absurd (cell_last kind n before line h.0 h.1 h.2.0 i.1)
-
-  node_end : {P : Type 0} (k l : CertKind) → Is node k → Is last l → P
-  node_end k l h i = absurd (node_last kind n before line h.0 h.2.0 i.1)
-
-  path_nothing : {P : Type 0} (k l : CertKind) → Is path k → Is nothing l → P
-  path_nothing k l h i = absurd (row_nothing kind n before count i.0 i.1 (inl (inl h.1)))
-
-  cell_nothing : {P : Type 0} (k l : CertKind) → Is cell k → Is nothing l → P
-  cell_nothing k l h i = absurd (row_nothing kind n before count i.0 i.1 (inl h.1))
-
-  node_nothing : {P : Type 0} (k l : CertKind) → Is node k → Is nothing l → P
-  node_nothing k l h i = absurd (row_nothing kind n before count i.0 i.1 h.1)
-
-  late_one : (a b : Late) (k l : CertKind) → Is (role_of a) k → Is (role_of b) l → k ≡ l
-  late_one at_path at_path k l h i = role_one sheet path line k l h.2 i.2
-  late_one at_path at_cell k l h i = path_cell k l h i
-  late_one at_path at_node k l h i = path_node k l h i
-  late_one at_path at_last k l h i = path_end k l h i
-  late_one at_path at_nothing k l h i = path_nothing k l h i
-  late_one at_cell at_path k l h i = path_cell l k i h
-  late_one at_cell at_cell k l h i = role_one sheet cell line k l h.2 i.2
-  late_one at_cell at_node k l h i = cell_node k l h i
-  late_one at_cell at_last k l h i = cell_end k l h i
-  late_one at_cell at_nothing k l h i = cell_nothing k l h i
-  late_one at_node at_path k l h i = path_node l k i h
-  late_one at_node at_cell k l h i = cell_node l k i h
-  late_one at_node at_node k l h i = role_one sheet node line k l h.2 i.2
-  late_one at_node at_last k l h i = node_end k l h i
-  late_one at_node at_nothing k l h i = node_nothing k l h i
-  late_one at_last at_path k l h i = path_end l k i h
-  late_one at_last at_cell k l h i = cell_end l k i h
-  late_one at_last at_node k l h i = node_end l k i h
-  late_one at_last at_last k l h i = role_one sheet last line k l h.2 i.2
-  late_one at_last at_nothing k l h i = h.2.0 ∙ sym i.2
-  late_one at_nothing at_path k l h i = path_nothing l k i h
-  late_one at_nothing at_cell k l h i = cell_nothing l k i h
-  late_one at_nothing at_node k l h i = node_nothing l k i h
-  late_one at_nothing at_last k l h i = h.2 ∙ sym i.2.0
-  late_one at_nothing at_nothing k l h i = role_one sheet nothing line k l h.2 i.2
+  rows_one : (a b : RowRole) (k l : CertKind) → Is (row_line a) k → Is (row_line b) l → k ≡ l
+  rows_one a b k l h i = fault_one (row_form sheet a line) k l h.2.1 (subst (λ (r : RowRole). IsLineFault (row_form sheet r line) l) (begins_one b a line i.2.0 h.2.0) i.2.1)
 
   roles_one : (a b : Role) (k l : CertKind) → Is a k → Is b l → k ≡ l
-  roles_one a b k l h i = by (placed kind a n h.0) (placed kind b n i.0)
-    where
-      by : IsPlaced kind a n → IsPlaced kind b n → k ≡ l
-      by (inl x) (inl y) = role_one sheet b line k l (subst (λ (r : Role). IsRoleFault sheet r line k) (sym x.1 ∙ y.1) h.2) i.2
-      by (inl x) (inr y) = absurd (omega (arith, x.0, y.0))
-      by (inr x) (inl y) = absurd (omega (arith, x.0, y.0))
-      by (inr x) (inr y) = late_one x.1.0 y.1.0 k l (subst (λ (r : Role). Is r k) (sym x.1.1) h) (subst (λ (r : Role). Is r l) (sym y.1.1) i)
+  roles_one (head_line a) (head_line b) k l h i = head_one sheet b line k l (subst (λ (r : HeadRole). IsHeadFault sheet r line k) (same_head a b h.0 i.0) h.2) i.2
+  roles_one (head_line a) (row_line b) k l h i = absurd (omega (arith, head_before a h.0, i.0.1))
+  roles_one (head_line a) last k l h i = absurd (omega (arith, head_before a h.0, i.0))
+  roles_one (head_line a) nothing k l h i = absurd (omega (arith, head_before a h.0, i.0))
+  roles_one (row_line a) (head_line b) k l h i = absurd (omega (arith, h.0.1, head_before b i.0))
+  roles_one (row_line a) (row_line b) k l h i = rows_one a b k l h i
+  roles_one (row_line a) last k l h i = absurd (row_last a k l h i)
+  roles_one (row_line a) nothing k l h i = absurd (row_nothing a k l h i)
+  roles_one last (head_line b) k l h i = absurd (omega (arith, h.0, head_before b i.0))
+  roles_one last (row_line b) k l h i = absurd (row_last b l k i h)
+  roles_one last last k l h i = h.2.0 ∙ sym i.2.0
+  roles_one last nothing k l h i = h.2.0 ∙ sym i.2
+  roles_one nothing (head_line b) k l h i = absurd (omega (arith, h.0, head_before b i.0))
+  roles_one nothing (row_line b) k l h i = absurd (row_nothing b l k i h)
+  roles_one nothing last k l h i = h.2 ∙ sym i.2.0
+  roles_one nothing nothing k l h i = h.2 ∙ sym i.2
 
 -- ---- a text
 
-body_one : (sheet : Sheet) (kind : Kind) (before : List Line) (line : Line) (after : List Line) (r e : CertRefusal) → r.line ≡ length before + 1 → r.line ≡ e.line → IsBodyReason sheet kind before line after r → IsBodyReason sheet kind before line after e → r.kind ≡ e.kind
+body_one : (sheet : Sheet) (kind : TextKind) (before : List Line) (line : Line) (after : List Line) (r e : CertRefusal) → r.line ≡ length before + 1 → r.line ≡ e.line → IsBodyReason sheet kind before line after r → IsBodyReason sheet kind before line after e → r.kind ≡ e.kind
 body_one sheet kind before line after r e count same (inl h) (inl i) = h.1 ∙ sym i.1
 body_one sheet kind before line after r e count same (inl h) (inr i) = absurd (i.0 h.0)
 body_one sheet kind before line after r e count same (inr h) (inl i) = absurd (h.0 i.0)
@@ -360,8 +233,8 @@ reason_one sheets lines before line after r e parts count same (inl h) (inl i) =
 reason_one sheets lines before line after r e parts count same (inl h) (inr (o, says, i)) = absurd (no_header before line after o (sym h.0 ∙ count) h.1 (subst (λ (l : List Line). Says l o) parts says))
 reason_one sheets lines before line after r e parts count same (inr (o, says, h)) (inl i) = absurd (no_header before line after o (sym i.0 ∙ sym same ∙ count) i.1 (subst (λ (l : List Line). Says l o) parts says))
 reason_one sheets lines before line after r e parts count same (inr (o, says, h)) (inr (p, says', i)) =
-    body_one (sheet_for sheets o.form) o.kind before line after r e count same h
-    (subst (λ (q : Opening). IsBodyReason (sheet_for sheets q.form) q.kind before line after e) (sym (says_one lines o p says says')) i)
+    body_one (sheet_for sheets o.form) (paper o.kind) before line after r e count same h
+    (subst (λ (q : Opening). IsBodyReason (sheet_for sheets q.form) (paper q.kind) before line after e) (sym (says_one lines o p says says')) i)
 
 pub kind_one : (sheets : Sheets) (lines : List Line) (r e : CertRefusal) → IsRefusedFor sheets lines r → IsRefusedFor sheets lines e → r.line ≡ e.line → r.kind ≡ e.kind
 kind_one sheets lines r e h i same =
@@ -383,4 +256,34 @@ head_kind_one lines r e h i same = by h.reason i.reason
     by (inl a) (inl b) = a.2 ∙ sym b.2
     by (inl a) (inr b) = absurd (none b.1 a.1 a.0 b.2)
     by (inr a) (inl b) = absurd (none' a.1 b.1 b.0 a.2)
+    by (inr a) (inr b) = a.0 ∙ sym b.0
+
+-- ---- a text of one header
+
+first_under : (header : List ℕ) (before : List Line) (line : Line) (after : List Line) → 1 ≡ length before + 1 → IsUnder header (before ++ line ∷ after) → join_with_byte 32 line ≡ header
+first_under header [] line after count h = h
+first_under header (x ∷ before) line after count h = absurd (omega (arith, count))
+
+under_one : (header : List ℕ) (sheet : Sheet) (kind : TextKind) (lines before : List Line) (line : Line) (after : List Line) (r e : CertRefusal) → lines ≡ before ++ line ∷ after → r.line ≡ length before + 1 → r.line ≡ e.line
+    → IsReasonUnder header sheet kind lines before line after r → IsReasonUnder header sheet kind lines before line after e → r.kind ≡ e.kind
+under_one header sheet kind lines before line after r e parts count same (inl h) (inl i) = h.2 ∙ sym i.2
+under_one header sheet kind lines before line after r e parts count same (inl h) (inr i) = absurd (h.1 (first_under header before line after (sym h.0 ∙ count) (subst (IsUnder header) parts i.0)))
+under_one header sheet kind lines before line after r e parts count same (inr h) (inl i) = absurd (i.1 (first_under header before line after (sym i.0 ∙ sym same ∙ count) (subst (IsUnder header) parts h.0)))
+under_one header sheet kind lines before line after r e parts count same (inr h) (inr i) = body_one sheet kind before line after r e count same h.1 i.1
+
+pub kind_one_under : (header : List ℕ) (sheet : Sheet) (kind : TextKind) (lines : List Line) (r e : CertRefusal) → IsRefusedUnder header sheet kind lines r → IsRefusedUnder header sheet kind lines e → r.line ≡ e.line → r.kind ≡ e.kind
+kind_one_under header sheet kind lines r e h i same =
+    let s = same_parts h.before i.before h.line i.line h.after i.after (omega (arith, h.count, i.count, same)) (sym h.parts ∙ i.parts) in
+    under_one header sheet kind lines h.before h.line h.after r e h.parts h.count same h.reason
+    (subst (λ (b : List Line). IsReasonUnder header sheet kind lines b h.line h.after e) (sym s.before)
+    (subst (λ (l : Line). IsReasonUnder header sheet kind lines i.before l h.after e) (sym s.line) (subst (λ (a : List Line). IsReasonUnder header sheet kind lines i.before i.line a e) (sym s.after) i.reason)))
+
+-- the first lines of one
+pub head_one_under : (header : List ℕ) (kind : TextKind) (lines : List Line) (r e : CertRefusal) → IsHeadRefusedUnder header kind lines r → IsHeadRefusedUnder header kind lines e → r.line ≡ e.line → r.kind ≡ e.kind
+head_one_under header kind lines r e h i same = by h.reason i.reason
+  where
+    by : IsHeadReasonUnder header kind lines h.line h.after r → IsHeadReasonUnder header kind lines i.line i.after e → r.kind ≡ e.kind
+    by (inl a) (inl b) = a.2 ∙ sym b.2
+    by (inl a) (inr b) = absurd (a.1 (first_under header h.before h.line h.after (sym a.0 ∙ h.count) (subst (IsUnder header) h.parts b.1)))
+    by (inr a) (inl b) = absurd (b.1 (first_under header i.before i.line i.after (sym b.0 ∙ i.count) (subst (IsUnder header) i.parts a.1)))
     by (inr a) (inr b) = a.0 ∙ sym b.0

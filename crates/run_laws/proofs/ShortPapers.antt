@@ -46,10 +46,10 @@ modes_part sheet p =
     (λ f is. (is.2 ++ [], within (links_words sheet ∷ []) (modules_words sheet ∷ []) [] f is.2 whole refl is.3))
     (λ v r fine' st'. st'))
 
-abbrev Scale : Type 0
+abbrev pub Scale : Type 0
 Scale = ℕ × (ℕ × ℕ)
 
-abbrev ScaleFits : Scale → Type 0
+abbrev pub ScaleFits : Scale → Type 0
 ScaleFits s = (s.0 ≤ MAX_PHASES) × (s.1.0 ≤ MAX_UNITS) × (s.1.1 ≤ MAX_LENGTH)
 
 abbrev PairFits : ℕ × ℕ → Type 0
@@ -61,7 +61,7 @@ pair_part p = line_parses scale_line scale_words PairFits (0, 0) (omega arith, o
 phases_part : (p : Place) → Parses (λ n. phases_words n ∷ []) (λ n. n ≤ MAX_PHASES) p (next_line phases_line p)
 phases_part p = line_parses phases_line phases_words (λ n. n ≤ MAX_PHASES) 0 (omega arith) (λ line n h. ap joined (phases_takes line n h)) phases_fit p
 
-scale_part : (p : Place) → Parses scale_lines ScaleFits p (scale_at p)
+pub scale_part : (p : Place) → Parses scale_lines ScaleFits p (scale_at p)
 unfolding scale_at
 scale_part p =
     let ok = Read scale_lines ScaleFits p in
@@ -72,22 +72,22 @@ scale_part p =
     (λ f is. ((n, is.0), (fine, is.1.0, is.1.1), is.2 ++ [], within (phases_words n ∷ []) (scale_words is.0 ∷ []) [] f is.2 (scale_lines (n, is.0)) refl is.3))
     (λ x r fine' st'. (st', (fine, fine'.0, fine'.1))))
 
-abbrev Values : Type 0
+abbrev pub Values : Type 0
 Values = Printed × Printed
 
-abbrev ValuesFit : Values → Type 0
+abbrev pub ValuesFit : Values → Type 0
 ValuesFit v = FitsValue MAX_LENGTH v.0 × FitsValue MAX_PART v.1
 
-abbrev nought : Printed
+abbrev pub nought : Printed
 nought = record { num = 0; den = 0; whole = 0; micro = 0 }
 
-nought_fits : (most : ℕ) → FitsValue most nought
+pub nought_fits : (most : ℕ) → FitsValue most nought
 nought_fits most = record { num = omega arith; den = omega arith; whole = omega arith; micro = omega arith }
 
-value_part : (key : List ℕ) (most : ℕ) (p : Place) → most ≤ MAX_PART → Parses (λ x. value_words key x ∷ []) (FitsValue most) p (next_line (value_line key most) p)
+pub value_part : (key : List ℕ) (most : ℕ) (p : Place) → most ≤ MAX_PART → Parses (λ x. value_words key x ∷ []) (FitsValue most) p (next_line (value_line key most) p)
 value_part key most p limit = line_parses (value_line key most) (value_words key) (FitsValue most) nought (nought_fits most) (λ line x h. ap joined (value_takes key most line x limit h)) (value_fits key most) p
 
-values_part : (p : Place) → Parses value_lines ValuesFit p (values_at p)
+pub values_part : (p : Place) → Parses value_lines ValuesFit p (values_at p)
 unfolding values_at
 values_part p =
     let low = value_line (codes "lower") MAX_LENGTH in
@@ -102,13 +102,13 @@ values_part p =
     (λ f is. ((x, is.0), (fine, is.1), is.2 ++ [], within (lower x ∷ []) (upper is.0 ∷ []) [] f is.2 (value_lines (x, is.0)) refl is.3))
     (λ y r fine' st'. (st', (fine, fine'))))
 
-abbrev Opened : Type 0
+abbrev pub Opened : Type 0
 Opened = Bool × ℕ
 
-abbrev OpenFits : Opened → Type 0
+abbrev pub OpenFits : Opened → Type 0
 OpenFits o = o.1 ≤ MAX_GAP
 
-opening_part : (sheet : Sheet) (p : Place) → Parses (opened_lines sheet) OpenFits p (opening_at sheet p)
+pub opening_part : (sheet : Sheet) (p : Place) → Parses (opened_lines sheet) OpenFits p (opening_at sheet p)
 unfolding opening_at counted_at
 opening_part sheet p =
     let counts = counts_line sheet in
@@ -136,16 +136,16 @@ lengths_part sheet p = rows_part (codes "length") (length_row sheet) (length_wor
 abbrev potentials_part : (sheet : Sheet) (p : Place) → Parses (map (potential_words sheet)) (AllByRecursion (FitsPotential sheet)) p (rows_from (codes "potential") (potential_row sheet) p.at p.rest)
 potentials_part sheet p = rows_part (codes "potential") (potential_row sheet) (potential_words sheet) (FitsPotential sheet) (potential_takes sheet) (potential_fits sheet) p
 
-abbrev paths_part : (sheet : Sheet) (p : Place) → Parses (map (path_words sheet)) (AllByRecursion (FitsPath sheet)) p (rows_from (codes "path") (path_row sheet) p.at p.rest)
+abbrev pub paths_part : (sheet : Sheet) (p : Place) → Parses (map (path_words sheet)) (AllByRecursion (FitsPath sheet)) p (rows_from (codes "path") (path_row sheet) p.at p.rest)
 paths_part sheet p = rows_part (codes "path") (path_row sheet) (path_words sheet) (FitsPath sheet) (path_takes sheet) (path_fits sheet) p
 
-abbrev DualFits : Sheet → DualRows → Type 0
+abbrev pub DualFits : Sheet → DualRows → Type 0
 DualFits sheet d = AllByRecursion (FitsLength sheet) d.lengths × AllByRecursion (FitsPotential sheet) d.potentials
 
-abbrev dual_made : List Length → List Potential → DualRows
+abbrev pub dual_made : List Length → List Potential → DualRows
 dual_made ls ps = record { lengths = ls; potentials = ps }
 
-dual_part : (sheet : Sheet) (p : Place) → Parses (dual_lines sheet) (DualFits sheet) p (dual_at sheet p)
+pub dual_part : (sheet : Sheet) (p : Place) → Parses (dual_lines sheet) (DualFits sheet) p (dual_at sheet p)
 unfolding dual_at
 dual_part sheet p =
     let ok = Read (dual_lines sheet) (DualFits sheet) p in
@@ -199,10 +199,10 @@ proof_made opening scale values paths dual = record {
   dual = dual;
 }
 
-proof_fits : (sheet : Sheet) (o : Opened) (s : Scale) (v : Values) (ps : List Row) (d : DualRows) → OpenFits o → ScaleFits s → ValuesFit v → AllByRecursion (FitsPath sheet) ps → DualFits sheet d → FitsProof sheet (proof_made o s v ps d)
+pub proof_fits : (sheet : Sheet) (o : Opened) (s : Scale) (v : Values) (ps : List Row) (d : DualRows) → OpenFits o → ScaleFits s → ValuesFit v → AllByRecursion (FitsPath sheet) ps → DualFits sheet d → FitsProof sheet (proof_made o s v ps d)
 proof_fits sheet o s v ps d gap scale values paths dual = record { gap = gap; routing = routing_fits sheet s ps scale paths; lower = values.0; upper = values.1; lengths = dual.0; potentials = dual.1 }
 
-abbrev figures : Scale → Values → List Line
+abbrev pub figures : Scale → Values → List Line
 figures s v = scale_lines s ++ value_lines v
 
 abbrev pub behind_proof : Sheet → Proof → List Line
@@ -210,7 +210,7 @@ behind_proof sheet p =
     opened_lines sheet (p.closed, p.gap) ++ (scale_lines (p.routing.phases, (p.routing.scale_cap, p.routing.scale_load)) ++ (value_lines (p.lower, p.upper)
     ++ (map (path_words sheet) p.routing.paths ++ (dual_lines sheet p.dual ++ end_line ∷ []))))
 
-no_values : ValuesFit (nought, nought)
+pub no_values : ValuesFit (nought, nought)
 no_values = (nought_fits MAX_LENGTH, nought_fits MAX_PART)
 
 -- the same lines, put together otherwise

@@ -33,7 +33,7 @@ use Rattle.run_laws.proofs.ShortPapers.{routing_made, routing_fits, no_scale, be
 abbrev pub BehindHeader : Sheet → Kind → List Line → Type 0
 BehindHeader sheet kind front = (paper : Paper) × FitsPaper sheet paper × (back : List Line) × (paper_lines sheet paper ≡ header_words kind sheet.form ∷ (front ++ back))
 
-of_part : (F G : List Line → Type 0) (p : Place) (e : CertRefusal) → ((front : List Line) → F front → G front) → Short F p e → Short G p e
+pub of_part : (F G : List Line → Type 0) (p : Place) (e : CertRefusal) → ((front : List Line) → F front → G front) → Short F p e → Short G p e
 of_part F G p e to s = record { front = s.front; is = to s.front s.is; rest = s.rest; bytes = s.bytes; line = s.line }
 
 certificate_is : (sheet : Sheet) (p : Proof) → paper_lines sheet (papers.Full p) ≡ header_words kinds.Certificate sheet.form ∷ behind_proof sheet p

@@ -1,17 +1,18 @@
--- What the kind of a refusal says of a line of a certificate or routing.
+-- What the kind of a refusal says of a line of a certificate or routing, with hop limits and of totals too.
 use Rattle.std.specs.Prelude.{◌≡◌, ℕ, ◌+◌, ◌-◌, ◌*◌, ◌<◌, ◌≤◌, ◌++◌, Bool, true, false, List, [], ◌∷◌, length, map, take, drop, Option, Some, None, ◌&&◌, codes, option_and_then}
 use Rattle.std.specs.List.{AllByRecursion}
 use Rattle.std.specs.Option.{option_map}
 use Rattle.std.specs.Str.Parse.{digits_value}
 use Rattle.text_lines.specs.Lines.{Line}
 use Rattle.gap_fraction.specs.declared.fraction.TheConstants.{MAX_PART}
-use Rattle.mcf_limits.specs.declared.TheConstants.{MAX_GAP, MAX_LENGTH, MAX_PATH_CELLS, MAX_PHASES, MAX_UNITS}
+use Rattle.mcf_limits.specs.declared.TheConstants.{MAX_GAP, MAX_HOPS, MAX_LENGTH, MAX_PATH_CELLS, MAX_PHASES, MAX_UNITS}
 use Rattle.cert_lines.specs.Sheet.{Sheet, place_of}
 use Rattle.cert_lines.specs.declared.refusal.CertKind.{CertKind}
 use Rattle.cert_lines.specs.declared.refusal.CertKind.TheVariants.{Syntax, UnknownName, BadNumber, TooLarge}
 use Rattle.cert_lines.specs.Forms.{one_behind, two_behind, list_behind, row_behind, stroke_parts}
 use Rattle.cert_lines.specs.Numbers.{is_number, is_micro, micro_value}
 use Rattle.cert_lines.specs.Rows.{of_that_many}
+use Rattle.run_texts.specs.HopsRead.{with_count}
 
 -- what a word of a line has to be: one of these names; a number, or a decimal in millionths, up to a limit; or not there
 pub data Sort : Type 0 where
@@ -97,3 +98,11 @@ abbrev pub potential_form : Sheet → Line → Option (List Sorted)
 potential_form sheet line =
     option_map (λ w. (name sheet.nodes, w.0) ∷ map (λ word. (number MAX_LENGTH, word)) w.1)
     (of_that_many (length sheet.nodes) (list_behind (codes "potential") line))
+
+abbrev pub layer_form : Sheet → Line → Option (List Sorted)
+layer_form sheet line =
+    option_map (λ w. (name sheet.nodes, w.0) ∷ (number MAX_HOPS, w.1) ∷ map (λ word. (number MAX_LENGTH, word)) w.2)
+    (with_count (length sheet.nodes) (row_behind (codes "layer") line))
+
+abbrev pub threshold_form : Line → Option (List Sorted)
+threshold_form line = option_map (λ word. (number MAX_LENGTH, word) ∷ []) (one_behind (codes "threshold") line)

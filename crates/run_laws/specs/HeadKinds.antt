@@ -12,28 +12,29 @@ use Rattle.cert_text.specs.declared.opening.Opening.{Opening}
 use Rattle.cert_text.specs.Papers.{form_of}
 use Rattle.cert_inverse.specs.Inverse.{link_word_in}
 use Rattle.run_laws.specs.Heads.{links_line, modules_line}
-use Rattle.run_laws.specs.PaperKinds.{Role, verdict, links, modules, StandsAt, Says}
+use Rattle.run_laws.specs.LineRoles.{TextKind, HeadRole, verdict, links, modules, head_line, paper, StandsAt}
+use Rattle.run_laws.specs.PaperKinds.{Says}
 
 -- a line that has to be so says no verdict; or no mode of links for which the form has a word; or no mode of
 -- modules
-abbrev pub SaysNothing : Form → Role → Line → Type 0
+abbrev pub SaysNothing : Form → HeadRole → Line → Type 0
 SaysNothing form verdict line = (closed : Bool) → join_with_byte 32 line ≢ join_with_byte 32 (verdict_words closed)
 SaysNothing form links line =
     (mode : LinkMode) → ¬ ((line ≡ links_line form mode) × (0 < length (link_word_in form mode)))
 SaysNothing form modules line = (mode : ModuleMode) → line ≢ modules_line mode
 SaysNothing form role line = ⊥
 
--- what is wrong with the line, behind a first line that says this: it is the last, without a line feed; or it has
--- one, and does not say what it has to
-abbrev pub IsSilent : Opening → Line → List Line → ℕ → Type 0
-IsSilent o line after number =
-    (after ≡ []) ⊎ ((after ≢ []) × (role : Role) × StandsAt o.kind role number × SaysNothing o.form role line)
+-- what is wrong with the line of that number in a text of this kind and this form: it is the last, without a line feed;
+-- or it has one, and does not say what it has to
+abbrev pub IsSilent : TextKind → Form → Line → List Line → ℕ → Type 0
+IsSilent kind form line after number =
+    (after ≡ []) ⊎ ((after ≢ []) × (role : HeadRole) × StandsAt kind (head_line role) number × SaysNothing form role line)
 
 -- a refusal of that line: it is the first and no header; or the first is one, and this is no line of a head
 abbrev pub IsHeadReason : List Line → Line → List Line → CertRefusal → Type 0
 IsHeadReason lines line after r =
     ((r.line ≡ 1) × (form_of line ≡ None) × (r.kind ≡ NoHeader))
-    ⊎ ((r.kind ≡ Syntax) × (o : Opening) × Says lines o × IsSilent o line after r.line)
+    ⊎ ((r.kind ≡ Syntax) × (o : Opening) × Says lines o × IsSilent (paper o.kind) o.form line after r.line)
 
 -- the refusal is of this line, for such a reason
 pub record IsHeadRefusedFor (lines : List Line) (r : CertRefusal) : Type 0 where

@@ -2,6 +2,9 @@ pub mod Accepted
 pub mod Whole
 pub mod Started
 pub mod Checked
+pub mod KindHeads
+pub mod KindJudged
+pub mod KindTexts
 pub mod KindsChecked
 pub mod Batched
 pub mod Swept
@@ -12,6 +15,7 @@ pub mod HeadKinds
 pub mod Heads
 pub mod Judged
 pub mod JudgedKinds
+pub mod LineRoles
 pub mod Lines
 pub mod PaperKinds
 pub mod Papers

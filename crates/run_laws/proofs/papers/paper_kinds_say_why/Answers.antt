@@ -1,6 +1,6 @@
 use Rattle.text_lines.specs.Lines.{lines_of}
 use Rattle.cert_text.proofs.LineSteps.{has_line}
-use Rattle.run_laws.proofs.Reasons.{refused_for}
+use Rattle.run_laws.proofs.PaperReasons.{refused_for}
 use Rattle.run_laws.proofs.papers.paper_kinds_say_why.Goals as goal
 
 pub returns : goal.returns
