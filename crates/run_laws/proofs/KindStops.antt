@@ -12,8 +12,6 @@ use Rattle.cert_text.proofs.LineSteps.{text_bytes, has_line}
 use Rattle.cert_inverse.specs.Inverse.{IsCitable}
 use Rattle.cert_inverse.proofs.HeadTakes.{joined}
 use Rattle.cert_inverse.proofs.Between.{text_of-both}
-use Rattle.hop_check.specs.declared.hop_proof.HopProof.{HopProof}
-use Rattle.throughput.specs.declared.part_proof.PartProof.{PartProof}
 use Rattle.run_texts.specs.HopsText.{hops_lines, FitsHops}
 use Rattle.run_texts.specs.HopsRead.{hops_from, hops_in}
 use Rattle.run_texts.specs.PartText.{part_lines, FitsPart}

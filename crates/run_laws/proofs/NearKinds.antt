@@ -1,8 +1,7 @@
 -- Certificates with hop limits and of totals that are the same up to a line.
-use Rattle.std.proofs.Common.{◌≡◌, ◌⊎◌, ℕ, ◌+◌, ◌<◌, ◌≤◌, Bool, true, false, cond, List, [], ◌∷◌, ◌++◌, length, Result, Ok, Err, refl, ap, ◌∙◌, inl, inr, arith}
+use Rattle.std.proofs.Common.{◌≡◌, ℕ, ◌+◌, ◌≤◌, Bool, true, false, cond, List, [], ◌∷◌, ◌++◌, length, Result, Ok, Err, refl, ap, ◌∙◌, inl, inr, arith}
 use Rattle.std.specs.Prelude.{codes}
 use Rattle.text_lines.specs.Lines.{Line}
-use Rattle.flow_paths.specs.declared.certificate.Printed.{Printed}
 use Rattle.gap_fraction.specs.declared.fraction.TheConstants.{MAX_PART}
 use Rattle.cert_lines.specs.Sheet.{Sheet}
 use Rattle.cert_lines.specs.declared.refusal.CertKind.TheVariants.{NoHeader}
@@ -12,7 +11,6 @@ use Rattle.cert_lines.specs.HeadLines.{value_line}
 use Rattle.cert_lines.specs.Rows.{path_row}
 use Rattle.cert_text.specs.Reading.{Place, next_line, rows_from, closing}
 use Rattle.cert_text.specs.Papers.{scale_at, opening_at, values_at, dual_at}
-use Rattle.hop_check.specs.LayerRows.{Layer}
 use Rattle.hop_check.specs.declared.hop_proof.HopProof.{HopProof}
 use Rattle.throughput.specs.declared.part_proof.PartProof.{PartProof}
 use Rattle.run_texts.specs.Heads.{header_at}

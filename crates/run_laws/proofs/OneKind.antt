@@ -19,7 +19,7 @@ use Rattle.run_laws.specs.CertKinds.{name, number, decimal, nothing as no_word, 
 use Rattle.run_laws.specs.HeadKinds.{IsHeadReason, IsHeadRefusedFor}
 use Rattle.run_laws.specs.KindHeads.{IsHeadReasonUnder, IsHeadRefusedUnder}
 use Rattle.run_laws.specs.KindTexts.{IsUnder, IsReasonUnder, IsRefusedUnder}
-use Rattle.run_laws.specs.LineRoles.{TextKind, Role, HeadRole, RowRole, verdict, links, modules, counts, gap, phases, scale, lower, upper, threshold, head_line, row_line, last, nothing, paper, head_of, head_count, order, StandsAt, key_of, AreBeforeRows, EndsWith, IsPast, BeginsNoRow, AreEnded, IsInOrder, counts_in, as_counts, IsOtherNet, IsHeadFault, row_form, IsRoleFault, IsBodyReason}
+use Rattle.run_laws.specs.LineRoles.{TextKind, Role, HeadRole, RowRole, verdict, links, modules, counts, gap, phases, scale, lower, upper, threshold, head_line, row_line, last, nothing, paper, head_of, head_count, order, StandsAt, key_of, AreBeforeRows, EndsWith, IsPast, AreEnded, IsInOrder, counts_in, as_counts, IsOtherNet, IsHeadFault, row_form, IsRoleFault, IsBodyReason}
 use Rattle.run_laws.specs.PaperKinds.{Says, IsReason, IsRefusedFor}
 use Rattle.run_laws.proofs.RowOrder.{begins_one, key_long}
 

@@ -1,5 +1,5 @@
 -- Why a certificate or routing is refused at a line.
-use Rattle.std.proofs.Common.{◌≡◌, ℕ, ◌+◌, Bool, true, false, cond, List, [], ◌∷◌, Option, Some, None, Result, Ok, Err, refl, subst, inl, inr, arith}
+use Rattle.std.proofs.Common.{◌≡◌, ℕ, Bool, true, false, cond, List, [], ◌∷◌, Option, Some, None, Err, refl, subst, inl, inr, arith}
 use Rattle.std.specs.Prelude.{codes}
 use Rattle.text_lines.specs.Lines.{Line}
 use Rattle.flow_model.specs.Routing.{Row}
@@ -20,7 +20,7 @@ use Rattle.cert_text.specs.declared.opening.Opening.{Opening}
 use Rattle.cert_text.specs.Reading.{Place, has_more, rows_from, closing}
 use Rattle.cert_text.specs.Papers.{modes_at, scale_at, opening_at, values_at, dual_at, routing_at, proof_at, form_of, header_of, header, routing_from, proof_from, header_by}
 use Rattle.cert_text.specs.Whole.{paper_at, paper_in}
-use Rattle.run_laws.specs.LineRoles.{TextKind, paper, path}
+use Rattle.run_laws.specs.LineRoles.{paper, path}
 use Rattle.run_laws.specs.PaperKinds.{Says, IsRefusedFor}
 use Rattle.run_laws.proofs.Steps.{done, Is, then_is, is_more}
 use Rattle.run_laws.proofs.LineReasons.{path_fault}

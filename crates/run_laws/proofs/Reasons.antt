@@ -1,5 +1,5 @@
 -- Why a text is refused at a line.
-use Rattle.std.proofs.Common.{◌≡◌, ◌≢◌, ◌⊎◌, ℕ, ◌+◌, ◌<◌, ◌≤◌, Bool, true, false, cond, List, [], ◌∷◌, ◌++◌, length, Result, Ok, Err, refl, sym, subst, ◌∙◌, append_assoc, length-append, inl, inr, arith}
+use Rattle.std.proofs.Common.{◌≡◌, ◌≢◌, ◌⊎◌, ℕ, ◌+◌, ◌<◌, Bool, true, false, cond, List, [], ◌∷◌, ◌++◌, length, Result, Ok, Err, refl, sym, subst, ◌∙◌, append_assoc, length-append, inl, inr, arith}
 use Rattle.std.specs.Prelude.{codes, ◌&&◌}
 use Rattle.text_lines.specs.Lines.{Line}
 use Rattle.flow_paths.specs.DualRows.{DualRows, Length, Potential}
@@ -16,7 +16,7 @@ use Rattle.cert_lines.specs.Rows.{length_row, potential_row}
 use Rattle.cert_text.specs.Reading.{Place, at_line, has_more, line_from, next_line, mode_line, rows_from, fixed_line, bytes_of, closing}
 use Rattle.cert_text.specs.Papers.{modes_at, scale_at, opening_at, values_at, dual_at, counted_at}
 use Rattle.cert_inverse.proofs.HeadTakes.{fixed_takes}
-use Rattle.run_laws.specs.LineRoles.{TextKind, Role, HeadRole, RowRole, verdict, links, modules, counts, gap, phases, scale, lower, upper, cell, node, head_line, row_line, last, nothing, head_count, order, row_count, HasRow, StandsAt, key_of, AreBeforeRows, EndsWith, IsPast, BeginsNoRow, AreEnded, IsInOrder, IsHeadFault, IsRoleFault, IsBodyReason}
+use Rattle.run_laws.specs.LineRoles.{TextKind, HeadRole, RowRole, verdict, links, modules, counts, gap, phases, scale, lower, upper, cell, node, head_line, row_line, last, nothing, head_count, order, row_count, HasRow, StandsAt, key_of, AreBeforeRows, EndsWith, IsPast, BeginsNoRow, AreEnded, IsInOrder, IsHeadFault, IsRoleFault, IsBodyReason}
 use Rattle.run_laws.proofs.Steps.{done, Is, then_is}
 use Rattle.run_laws.proofs.RowOrder.{order_one, up_to}
 use Rattle.run_laws.proofs.LineReasons.{verdict_fault, links_fault, modules_fault, counts_fault, gap_fault, phases_fault, scale_fault, lower_fault, upper_fault, cell_fault, node_fault, last_fault}

@@ -4,8 +4,6 @@ use Rattle.std.specs.Prelude.{codes, map}
 use Rattle.std.specs.List.{AllByRecursion}
 use Rattle.std.proofs.lemmas.List.Concat.{flat_map-cons}
 use Rattle.text_lines.specs.Lines.{Line, spelled, text_of}
-use Rattle.flow_model.specs.Routing.{Row}
-use Rattle.flow_paths.specs.DualRows.{DualRows}
 use Rattle.gap_fraction.specs.declared.fraction.TheConstants.{MAX_PART}
 use Rattle.mcf_limits.specs.declared.TheConstants.{MAX_LENGTH}
 use Rattle.cert_lines.specs.Sheet.{Sheet}
@@ -38,8 +36,8 @@ use Rattle.run_texts.proofs.PartFits.{made as total_made}
 use Rattle.run_inverse.proofs.LayerLaws.{threshold_takes, layer_takes}
 use Rattle.run_inverse.proofs.PartsTake.{flow_lines, totals_lines, header_take}
 use Rattle.run_laws.proofs.Steps.{done, failed, Is}
-use Rattle.run_laws.proofs.Short.{Stand, Short, PartOf, Read, Parses, Fits, FaultAt, stand_none, within, line_parses, rows_part, go_on, go_last}
-use Rattle.run_laws.proofs.ShortPapers.{Opened, OpenFits, opening_part, Scale, ScaleFits, no_scale, scale_part, Values, ValuesFit, nought, nought_fits, value_part, no_values, values_part, paths_part, DualFits, dual_made, dual_part, routing_made, routing_fits, proof_fits, figures}
+use Rattle.run_laws.proofs.Short.{Short, PartOf, Read, Parses, Fits, FaultAt, stand_none, within, line_parses, rows_part, go_on, go_last}
+use Rattle.run_laws.proofs.ShortPapers.{Opened, OpenFits, opening_part, Scale, ScaleFits, no_scale, scale_part, Values, ValuesFit, nought, nought_fits, value_part, no_values, values_part, paths_part, DualFits, dual_made, dual_part, routing_fits, proof_fits, figures}
 
 -- ---- parts
 

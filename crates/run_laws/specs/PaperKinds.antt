@@ -1,5 +1,5 @@
 -- What the kind of a refusal says of the line at which a certificate or a routing is refused.
-use Rattle.std.specs.Prelude.{◌≡◌, ◌⊎◌, ℕ, ◌+◌, List, [], ◌∷◌, ◌++◌, length, Some, None}
+use Rattle.std.specs.Prelude.{◌≡◌, ◌⊎◌, ◌+◌, List, [], ◌∷◌, ◌++◌, length, Some, None}
 use Rattle.text_lines.specs.Lines.{Line}
 use Rattle.cert_lines.specs.Sheet.{Sheets, sheet_for}
 use Rattle.cert_lines.specs.declared.refusal.CertKind.TheVariants.{NoHeader}
