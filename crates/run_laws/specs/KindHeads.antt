@@ -43,7 +43,7 @@ pub record IsHeadRefusedUnder (header : List ℕ) (kind : TextKind) (lines : Lis
   pub count : r.line ≡ length before + 1
   pub reason : IsHeadReasonUnder header kind lines line after r
 
--- a certificate with hop limits, or one of a total: the text begins as one does, or its first lines are refused so
+-- the text begins as a certificate with hop limits does, or as one of a total; its first lines are refused so
 abbrev pub IsHopsHeaded : List ℕ → Type 0
 IsHopsHeaded text = IsHeadedUnder (codes "mcf-hops") text
 

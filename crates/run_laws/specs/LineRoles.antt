@@ -18,13 +18,13 @@ use Rattle.cert_text.specs.declared.opening.Kind.{Kind}
 use Rattle.cert_text.specs.declared.opening.Kind.TheVariants.{Certificate, Routing}
 use Rattle.run_laws.specs.CertKinds.{Sorted, number, IsRight, IsLineFault, gap_form, phases_form, scale_form, value_form, path_form, length_form, potential_form, layer_form, threshold_form}
 
--- a certificate or a routing; a certificate with hop limits; a certificate of a total
+-- a certificate of `solve`, or a routing; a certificate with hop limits; a certificate of a total
 pub data TextKind : Type 0 where
   paper : Kind → TextKind
   hops : TextKind
   total : TextKind
 
--- what a line before the rows has to be; both parts of the lower fraction are up to a limit
+-- what a line before the rows has to be; of the lower fraction, neither part is above that number
 pub data HeadRole : Type 0 where
   verdict : HeadRole
   links : HeadRole
@@ -71,7 +71,7 @@ order cell = 1
 order node = 2
 order layer = 3
 
--- a text has rows of the first so many in that order
+-- how many kinds of rows a text may have: so many of the first ones in that order
 abbrev pub row_count : TextKind → ℕ
 row_count (paper Routing) = 1
 row_count (paper Certificate) = 3
@@ -105,7 +105,7 @@ EndsWith kind role lines =
     (front : List Line) × (line : Line) × (lines ≡ front ++ line ∷ []) × (head_count kind ≤ length front)
     × (begins (key_of role) line ≡ true)
 
--- the last of the lines is a row that comes in the order behind such rows
+-- the last of the lines is a row that comes later in that order than such a row
 abbrev pub IsPast : TextKind → RowRole → List Line → Type 0
 IsPast kind role lines = (later : RowRole) × (order role < order later) × HasRow kind later × EndsWith kind later lines
 

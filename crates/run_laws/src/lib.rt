@@ -1,7 +1,7 @@
 //! Laws of whole runs, over the contract of the top call: a run of accepted words and files answers in full. And what it means that a
-//! certificate, one with hop limits or of a total, a routing or a script is refused at a line: laws over their texts. Where a text stops
-//! is said by the texts that are written, and not by how one is read. What a kind says is said of the words of a line or of a token; into which words a line falls,
-//! and whether it has its form, is taken from the definitions that the readers are proved against.
+//! certificate, one with hop limits or of a total, a routing or a script is refused at a line: laws over their texts. Where a text
+//! stops is said by the texts that are written, and not by how one is read. What a kind says is said of the words of a line or of a
+//! token; into which words a line falls, and whether it has its form, is taken from the definitions that the readers are proved against.
 #![tactic(auto)]
 
 mod kinds;
