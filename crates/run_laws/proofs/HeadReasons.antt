@@ -1,5 +1,5 @@
 -- Why the first lines of a text are refused at a line.
-use Rattle.std.proofs.Common.{◌≡◌, ℕ, ◌+◌, Bool, true, false, cond, List, [], ◌∷◌, ◌++◌, length, Option, Some, None, Result, Ok, Err, refl, sym, ap, subst, ◌∙◌, inl, inr, arith}
+use Rattle.std.proofs.Common.{◌≡◌, ℕ, ◌+◌, Bool, true, false, cond, List, [], ◌∷◌, Option, Some, None, Result, Err, refl, sym, ap, subst, ◌∙◌, inl, inr, arith}
 use Rattle.std.specs.Prelude.{codes}
 use Rattle.text_lines.specs.Lines.{Line}
 use Rattle.unit_scale.specs.declared.modes.LinkMode.{LinkMode}
@@ -16,16 +16,17 @@ use Rattle.cert_text.specs.declared.opening.Kind.{Kind}
 use Rattle.cert_text.specs.declared.opening.Kind.TheVariants as kinds
 use Rattle.cert_text.specs.declared.opening.Opening.{Opening}
 use Rattle.cert_text.specs.declared.opening.CertHead.{CertHead}
-use Rattle.cert_text.specs.Reading.{Place, at_line, has_more, line_from, next_line}
+use Rattle.cert_text.specs.Reading.{Place, has_more, next_line}
 use Rattle.cert_text.specs.Papers.{form_of, header_of, header, header_by}
 use Rattle.cert_text.specs.Whole.{mode_in, link_mode_line, module_mode_line, verdict_at, modes_behind, said_head, opened_by, head_by, head_in}
 use Rattle.run_laws.specs.LineRoles.{TextKind, HeadRole, verdict, links, modules, head_line, paper, StandsAt}
 use Rattle.run_laws.specs.PaperKinds.{Says}
-use Rattle.run_laws.specs.HeadKinds.{SaysNothing, IsSilent, IsHeadRefusedFor}
+use Rattle.run_laws.specs.HeadKinds.{SaysNothing, IsSilent, IsHeadReason, IsHeadRefusedFor}
+use Rattle.run_laws.specs.Refusals.{Reason, HasReason}
 use Rattle.run_laws.proofs.Steps.{done, Is, then_is, is_more}
 use Rattle.run_laws.proofs.LineReasons.{no_verdict}
 use Rattle.run_laws.proofs.Heads.{Opened, options, opened_from, link_again, module_again}
-use Rattle.run_laws.proofs.Reasons.{At, Reached, Anything, no_more, not_last, at_next}
+use Rattle.run_laws.proofs.Reasons.{At, Reached, Anything, no_more, with_reason, next_of}
 
 -- ---- a line that is refused
 
@@ -71,35 +72,18 @@ no_modules form line kind e = (module_kind line kind e, λ mode same. both_never
 -- ---- lines behind the first one
 
 -- why one of them is refused
-pub record Why (lines : List Line) (kind : TextKind) (form : Form) (e : CertRefusal) : Type 0 where
-  pub before : List Line
-  pub line : Line
-  pub after : List Line
-  pub parts : lines ≡ before ++ line ∷ after
-  pub count : e.line ≡ length before + 1
-  pub fault : e.kind ≡ Syntax
-  pub silent : IsSilent kind form line after e.line
+abbrev pub IsHeadFault : TextKind → Form → Reason
+IsHeadFault kind form before line after e = (e.kind ≡ Syntax) × IsSilent kind form line after e.line
+
+abbrev pub Why : List Line → TextKind → Form → CertRefusal → Type 0
+Why lines kind form e = HasReason lines (IsHeadFault kind form) e
 
 module _ (lines : List Line) (kind : TextKind) (form : Form) where
-  line_why : {X : Type 0} (read : Line → Result X CertKind) (role : HeadRole) → ((line : Line) (k : CertKind) → read line ≡ Err k → Silent form role line k) → (at : ℕ) (rest : List Line) → At lines (record { at = at; rest = rest })
-      → StandsAt kind (head_line role) at → Is (Reached {X = X} lines (at + 1)) (Why lines kind form) (line_from read at rest)
-  line_why read role fault at [] h stands = absurd (no_line h.more)
-    where
-      no_line : false ≡ true → ⊥
-      no_line e = cc
-  line_why {X} read role fault at (line ∷ rest) h stands = by (has_more rest) refl (read line) refl
-    where
-      by : (b : Bool) → has_more rest ≡ b → (r : Result X CertKind) → read line ≡ r → Is (Reached {X = X} lines (at + 1)) (Why lines kind form) (cond b (at_line at r >>= λ x. done (x, record { at = at + 1; rest = rest })) (Err (record { line = at; kind = Syntax })))
-      by true m (Ok x) e = (at_next lines at line rest h m, refl)
-      by true m (Err k) e =
-          let s = fault line k e in
-          record { before = h.front; line = line; after = rest; parts = h.parts; count = h.at; fault = s.0; silent = inr (not_last rest m, role, stands, s.1) }
-      by false m r e = record { before = h.front; line = line; after = rest; parts = h.parts; count = h.at; fault = refl; silent = inl (no_more rest m) }
-
   pub next_why : {X : Type 0} (read : Line → Result X CertKind) (role : HeadRole) → ((line : Line) (k : CertKind) → read line ≡ Err k → Silent form role line k) → (n : ℕ) (p : Place) → At lines p → p.at ≡ n
       → StandsAt kind (head_line role) n → Is (Reached {X = X} lines (n + 1)) (Why lines kind form) (next_line read p)
-  unfolding next_line
-  next_why {X} read role fault n p h is stands = subst (λ (m : ℕ). Is (Reached {X = X} lines (m + 1)) (Why lines kind form) (line_from read p.at p.rest)) is (line_why read role fault p.at p.rest h (subst (StandsAt kind (head_line role)) (sym is) stands))
+  next_why read role fault n p h is stands =
+      next_of lines (IsHeadFault kind form) (λ before line at. (refl, inl refl)) read n p h is
+      (λ line after k more e. let s = fault line k e in (s.0, inr (more, role, subst (StandsAt kind (head_line role)) (sym is) stands, s.1)))
 
   pub go : {A B : Type 0} (ok : A → Type 0) (ok' : B → Type 0) (r : Result A CertRefusal) (g : A → Result B CertRefusal) → Is ok (Why lines kind form) r → ((x : A) → ok x → Is ok' (Why lines kind form) (g x)) → Is ok' (Why lines kind form) (r >>= g)
   go ok ok' r g h next = then_is ok (Why lines kind form) ok' (Why lines kind form) r g h (λ e w. w) next
@@ -145,9 +129,6 @@ header_why line rest = by (form_of line) refl
     by None e = record { before = []; line = line; after = rest; parts = refl; count = refl; reason = inl (refl, e, refl) }
     by (Some o) e = known o (has_more rest) refl e
 
-as_reason : (lines : List Line) (o : Opening) (e : CertRefusal) → Says lines o → Why lines (paper o.kind) o.form e → IsHeadRefusedFor lines e
-as_reason lines o e says w = record { before = w.before; line = w.line; after = w.after; parts = w.parts; count = w.count; reason = inr (w.fault, o, says, w.silent) }
-
 pub head_refused_for : (lines : List Line) (r : CertRefusal) → has_more lines ≡ true → head_in lines ≡ Err r → IsHeadRefusedFor lines r
 unfolding head_by opened_by
 head_refused_for [] r m e = absurd cc
@@ -158,4 +139,4 @@ head_refused_for (line ∷ rest) r m e =
     subst (Is head (IsHeadRefusedFor lines)) e
     (then_is any (IsHeadRefusedFor lines) head (IsHeadRefusedFor lines) (header lines >>= λ first. opened_from first.0 first.1) (λ x. done {A = CertHead} {E = CertRefusal} x.0.0)
     (then_is (Started lines) (IsHeadRefusedFor lines) any (IsHeadRefusedFor lines) (header lines) (λ first. opened_from first.0 first.1) (header_why line rest) (λ d k. k)
-    (λ x s. is_more any (Why lines (paper x.0.kind) x.0.form) any (IsHeadRefusedFor lines) (opened_from x.0 x.1) (opened_why lines x.0.kind x.0.form x.1 s.0 s.1) (λ d w. as_reason lines x.0 d s.2 w) (λ p k. k))) (λ d k. k) (λ x k. tt))
+    (λ x s. is_more any (Why lines (paper x.0.kind) x.0.form) any (IsHeadRefusedFor lines) (opened_from x.0 x.1) (opened_why lines x.0.kind x.0.form x.1 s.0 s.1) (λ d w. with_reason lines (IsHeadFault (paper x.0.kind) x.0.form) (IsHeadReason lines) (λ before line after d k. inr (k.0, x.0, s.2, k.1)) d w) (λ p k. k))) (λ d k. k) (λ x k. tt))

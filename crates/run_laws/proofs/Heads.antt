@@ -1,10 +1,10 @@
 -- Where the first lines of a text are refused, it stops to begin as a certificate or a routing does.
 use Rattle.std.proofs.Common.{Option, ◌≡◌, ℕ, ◌+◌, ◌<◌, ◌≤◌, Bool, true, false, cond, List, [], ◌∷◌, ◌++◌, length, Some, None, Result, Ok, Err, refl, sym, ap, subst, ◌∙◌, append_assoc, append-nil, inl, inr, arith}
-use Rattle.std.specs.Prelude.{codes, map}
+use Rattle.std.specs.Prelude.{codes}
 use Rattle.std.specs.List.{AllByRecursion}
 use Rattle.std.specs.Str.{bytes_eq}
 use Rattle.std.proofs.lemmas.List.Concat.{flat_map-cons}
-use Rattle.text_lines.specs.Lines.{Line, spelled, text_of, words_of, lines_of, IsLine}
+use Rattle.text_lines.specs.Lines.{Line, spelled, text_of, lines_of, IsLine}
 use Rattle.text_lines.proofs.Laws.{words_of-joined}
 use Rattle.unit_scale.specs.Modes.{module_word, module_mode_of}
 use Rattle.unit_scale.specs.declared.modes.LinkMode.{LinkMode}
@@ -26,7 +26,7 @@ use Rattle.cert_text.specs.declared.opening.CertHead.{CertHead}
 use Rattle.cert_text.specs.Reading.{Place, next_line, bytes_of, has_more}
 use Rattle.cert_text.specs.Papers.{header}
 use Rattle.cert_text.specs.Whole.{mode_in, link_mode_line, module_mode_line, verdict_at, modes_behind, said_head, opened_by, head_by, head_in}
-use Rattle.cert_text.proofs.LineSteps.{text_bytes, has_line}
+use Rattle.cert_text.proofs.LineSteps.{has_line}
 use Rattle.cert_text.proofs.Steps.{bind_ok, some_is}
 use Rattle.cert_inverse.specs.Inverse.{form_word, link_word_in, read_head}
 use Rattle.cert_inverse.proofs.Words.{same_bytes, one_takes}
@@ -36,14 +36,14 @@ use Rattle.cert_inverse.proofs.HeadAgain.{verdict_again}
 use Rattle.cert_inverse.proofs.Headers.{header_words, header_again, header_take}
 use Rattle.cert_inverse.proofs.PlacesAgain.{next_again}
 use Rattle.cert_inverse.proofs.Between.{text_of-both}
-use Rattle.run_laws.specs.Lines.{whole_lines, IsLineOf, StopsAt}
+use Rattle.run_laws.specs.Lines.{whole_lines, StopsAt}
 use Rattle.run_laws.specs.Heads.{verdict_lines, links_line, modules_line, head_lines, IsHeaded, refused_head}
 use Rattle.run_laws.proofs.Steps.{done, failed, Is, then_is}
 use Rattle.run_laws.proofs.Near.{Two, Goes, Both, Past, Steps, Any, AnyTwo, goes_then, next_steps, steps_then, steps_give}
 use Rattle.run_laws.proofs.NearPapers.{header_goes}
 use Rattle.run_laws.proofs.Short.{Stand, Short, Fits, FaultAt, stand_none, within, line_parses, go_on}
 use Rattle.run_laws.proofs.Stuck.{HeaderStands, header_at}
-use Rattle.run_laws.proofs.Stops.{stops_by, one_line, one_lines, clean_front, joined_lines, count_joined, count_words, split_lines}
+use Rattle.run_laws.proofs.Stopping.{AreRead, one_line, clean_front, split_lines, stops_at}
 
 -- ---- the same up to a line
 
@@ -336,30 +336,14 @@ headed_read text h =
     by [] e = absurd cc
     by (line ∷ rest) e = head_read h.head.kind h.head.form h.head.links h.head.modules h.closed line rest h.worded
 
-none_is : (text : List ℕ) (r : CertRefusal) → head_in (lines_of text) ≡ refused_head r → IsHeaded text → ⊥
-none_is text r e h = let k : refused_head r ≡ read_head h.head = sym e ∙ headed_read text h in absurd cc
-
-none_goes_on : (text : List ℕ) (r : CertRefusal) (before : List (List ℕ)) (line after more : List ℕ) → IsLineOf text r.line before line (10 ∷ after) → head_in (lines_of text) ≡ refused_head r
-    → IsHeaded ((whole_lines before ++ (line ++ 10 ∷ [])) ++ more) → ⊥
-none_goes_on text r before line after more stands e is =
-    let t : Two = record { number = r.line; line = words_of line; one = lines_of after; other = lines_of more; one_more = has_line after; other_more = has_line more } in
-    let front = map words_of before in
-    let one = ap head_in (sym (ap lines_of stands.parts ∙ split_lines before line after stands.lines stands.here)) ∙ e in
-    let other = same_refusal t front r (omega (arith, stands.count, count_words before)) (omega arith) one in
-    let text' = whole_lines before ++ (line ++ 10 ∷ more) in
-    let same : (whole_lines before ++ (line ++ 10 ∷ [])) ++ more ≡ text' = append_assoc (whole_lines before) (line ++ 10 ∷ []) more ∙ ap (λ (l : List ℕ). whole_lines before ++ l) (append_assoc line (10 ∷ []) more) in
-    none_is text' r (ap head_in (split_lines before line more stands.lines stands.here) ∙ other) (subst IsHeaded same is)
+are_read : AreRead IsHeaded head_in
+are_read = record { again = λ text is. (is.head, headed_read text is); same = same_refusal }
 
 pub head_stops : (text : List ℕ) (r : CertRefusal) → head_in (lines_of text) ≡ refused_head r → StopsAt IsHeaded text r.line
 head_stops text r e =
     let s = stuck (lines_of text) r e in
     let head = s.head in
-    let front = map joined s.front in
     let clean = subst (AllByRecursion IsLine) s.whole (clean_head head.kind head.form head.links head.modules s.closed) in
-    let whole : whole_lines front ++ text_of s.back ≡ text_of (head_lines head s.closed) ++ [] =
-    ap (λ (l : List ℕ). l ++ text_of s.back) (sym (joined_lines s.front)) ∙ text_of-both s.front s.back ∙ ap text_of (sym s.whole) ∙ sym (append-nil (text_of (head_lines head s.closed))) in
-    stops_by IsHeaded text r.line front (bytes_of s.rest)
-    (sym (text_bytes text) ∙ s.bytes ∙ ap (λ (l : List ℕ). l ++ bytes_of s.rest) (joined_lines s.front))
-    (one_lines s.front (clean_front s.front s.back clean)) (omega (arith, s.line, count_joined s.front))
+    let whole : text_of s.front ++ text_of s.back ≡ text_of (head_lines head s.closed) ++ [] = text_of-both s.front s.back ∙ ap text_of (sym s.whole) ∙ sym (append-nil (text_of (head_lines head s.closed))) in
+    stops_at IsHeaded head_in are_read text r e s.front s.rest (clean_front s.front s.back clean) s.bytes s.line
     (text_of s.back, record { head = head; closed = s.closed; worded = s.worded; more = []; spelled = whole })
-    (λ line after stands more k. none_goes_on text r front line after more stands e k) (none_is text r e)

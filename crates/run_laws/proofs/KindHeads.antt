@@ -22,9 +22,10 @@ use Rattle.cert_inverse.proofs.HeadAgain.{verdict_again}
 use Rattle.cert_inverse.proofs.PlacesAgain.{next_again}
 use Rattle.run_texts.specs.Heads.{header_at, run_head}
 use Rattle.run_laws.specs.Heads.{links_line, modules_line}
-use Rattle.run_laws.specs.KindHeads.{lines_under, IsHeadedUnder, options_refused, IsHeadRefusedUnder, IsHopsHeaded, IsTotalHeaded, IsHopsHeadRefusedFor, IsTotalHeadRefusedFor}
+use Rattle.run_laws.specs.KindHeads.{lines_under, IsHeadedUnder, options_refused, IsHeadReasonUnder, IsHopsHeaded, IsTotalHeaded, IsHopsHeadRefusedFor, IsTotalHeadRefusedFor}
 use Rattle.run_laws.specs.LineRoles.{TextKind, verdict, links, modules, hops, total, head_line, StandsAt}
 use Rattle.run_laws.specs.Lines.{StopsAt}
+use Rattle.run_laws.specs.Refusals.{HasReason}
 use Rattle.run_laws.proofs.Steps.{done, Is, then_is, is_more}
 use Rattle.run_laws.proofs.Near.{Two, Steps, Any, AnyTwo, next_steps, steps_then}
 use Rattle.run_laws.proofs.NearKinds.{same_under}
@@ -32,9 +33,9 @@ use Rattle.run_laws.proofs.Short.{Short, PartOf, Fits, stand_none, within, line_
 use Rattle.run_laws.proofs.ShortKinds.{stuck_under}
 use Rattle.run_laws.proofs.Stuck.{of_part}
 use Rattle.run_laws.proofs.LineReasons.{no_verdict}
-use Rattle.run_laws.proofs.Reasons.{At, Reached, Anything}
+use Rattle.run_laws.proofs.Reasons.{At, Reached, Anything, with_reason}
 use Rattle.run_laws.proofs.Heads.{options, HasWord, modes_steps, mode_lines, BehindHead, modes_on, link_again, module_again, clean_verdict, clean_links, clean_modules, lines_front}
-use Rattle.run_laws.proofs.HeadReasons.{Why, next_why, go, modes_why}
+use Rattle.run_laws.proofs.HeadReasons.{IsHeadFault, Why, next_why, go, modes_why}
 use Rattle.run_laws.proofs.KindReasons.{refused_by}
 use Rattle.run_laws.proofs.KindStops.{Reading, stops_so}
 
@@ -96,11 +97,10 @@ unfolding run_head
 head_reading header word same w known =
     let first : Line = word ∷ codes "1" ∷ [] in
     record {
+      read = record { again = λ text is. headed_again header word text w known is; same = λ t before r count le k. same_under header rest_head head_steps t before r count le k };
       spelled = λ x fits. record { closed = x.0; options = x.1; more = []; spelled = sym (append-nil (text_of (lines_under word x.0 x.1))) };
       clean = λ x fits. clean_under word x.0 x.1 w;
-      again = λ text is. headed_again header word text w known is;
       stuck = λ lines e k. stuck_under header first same behind_head (λ x. lines_under word x.0 x.1) (λ x. refl) (Fits {X = Said}) (true, options Directed Ignore) tt rest_head head_part lines e k;
-      same = λ t before r count le k. same_under header rest_head head_steps t before r count le k;
     }
 
 pub hops_head_stops : (text : List ℕ) (r : CertRefusal) → run_head (codes "mcf-hops 1") (lines_of text) ≡ options_refused r → StopsAt IsHopsHeaded text r.line
@@ -116,14 +116,15 @@ rest_why kind one two three lines p h is =
     go lines kind Second (Reached {X = Bool} lines 3) (Anything {X = NetOptions}) (next_line verdict_line p) (λ v. modes_behind Second v.1 >>= λ m. done m.0) (next_why lines kind Second verdict_line verdict (λ line k e. no_verdict line k e) 2 p h is one)
     (λ v hv. go lines kind Second (Anything {X = NetOptions × Place}) (Anything {X = NetOptions}) (modes_behind Second v.1) (λ m. done m.0) (modes_why lines kind Second 3 v.1 hv.0 hv.1 two three) (λ m hm. tt))
 
-head_refused : (header : List ℕ) (kind : TextKind) → StandsAt kind (head_line verdict) 2 → StandsAt kind (head_line links) 3 → StandsAt kind (head_line modules) 4 → (lines : List Line) (r : CertRefusal) → has_more lines ≡ true → run_head header lines ≡ Err r → IsHeadRefusedUnder header kind lines r
+head_refused : (header : List ℕ) (kind : TextKind) → StandsAt kind (head_line verdict) 2 → StandsAt kind (head_line links) 3 → StandsAt kind (head_line modules) 4 → (lines : List Line) (r : CertRefusal) → has_more lines ≡ true → run_head header lines ≡ Err r → HasReason lines (IsHeadReasonUnder header kind lines) r
 unfolding run_head
 head_refused header kind one two three lines r m e =
-    refused_by header (IsHeadRefusedUnder header kind) rest_head
+    let Refused = λ (ls : List Line) (d : CertRefusal). HasReason ls (IsHeadReasonUnder header kind ls) d in
+    refused_by header Refused rest_head
     (λ line rest no. record { before = []; line = line; after = rest; parts = refl; count = refl; reason = inl (refl, no, refl) })
     (λ line rest is none. record { before = []; line = line; after = rest; parts = refl; count = refl; reason = inr (refl, is, inl none) })
-    (λ line rest p is h at. is_more (Anything {X = NetOptions}) (Why (line ∷ rest) kind Second) (Anything {X = NetOptions}) (IsHeadRefusedUnder header kind (line ∷ rest)) (rest_head p) (rest_why kind one two three (line ∷ rest) p h at)
-    (λ d w. record { before = w.before; line = w.line; after = w.after; parts = w.parts; count = w.count; reason = inr (w.fault, is, w.silent) }) (λ x k. k))
+    (λ line rest p is h at. is_more (Anything {X = NetOptions}) (Why (line ∷ rest) kind Second) (Anything {X = NetOptions}) (Refused (line ∷ rest)) (rest_head p) (rest_why kind one two three (line ∷ rest) p h at)
+    (λ d w. with_reason (line ∷ rest) (IsHeadFault kind Second) (IsHeadReasonUnder header kind (line ∷ rest)) (λ before l after d k. inr (k.0, is, k.1)) d w) (λ x k. k))
     lines r m e
 
 pub hops_head_refused_for : (lines : List Line) (r : CertRefusal) → has_more lines ≡ true → run_head (codes "mcf-hops 1") lines ≡ Err r → IsHopsHeadRefusedFor lines r

@@ -26,11 +26,12 @@ use Rattle.run_texts.specs.PartRead.{threshold_line, totals_at, part_from, part_
 use Rattle.run_texts.proofs.HopsFit.{made as hops_made}
 use Rattle.run_texts.proofs.PartsFit.{Flows, Totals}
 use Rattle.run_texts.proofs.PartFits.{made as total_made}
-use Rattle.run_laws.specs.LineRoles.{TextKind, lower, upper, threshold, path, cell, node, layer, hops, total, head_line, HasRow, StandsAt}
-use Rattle.run_laws.specs.KindTexts.{IsRefusedUnder, IsHopsRefusedFor, IsTotalRefusedFor}
+use Rattle.run_laws.specs.LineRoles.{TextKind, lower, upper, threshold, path, cell, node, layer, hops, total, head_line, HasRow, StandsAt, IsBodyReason}
+use Rattle.run_laws.specs.KindTexts.{IsReasonUnder, IsHopsRefusedFor, IsTotalRefusedFor}
+use Rattle.run_laws.specs.Refusals.{HasReason}
 use Rattle.run_laws.proofs.Steps.{done, Is, then_is, is_more}
 use Rattle.run_laws.proofs.LineReasons.{not_fixed, lower_fault, upper_fault, threshold_fault, path_fault, layer_fault}
-use Rattle.run_laws.proofs.Reasons.{At, Why, no_more, Reached, Among, Behind, Anything, HasHead, next_why, go, rows_on, at_rows, scale_why, values_why, opening_why, dual_why, closed_why}
+use Rattle.run_laws.proofs.Reasons.{At, Why, no_more, with_reason, Reached, Among, Behind, Anything, HasHead, next_why, go, rows_on, at_rows, scale_why, values_why, opening_why, dual_why, closed_why}
 
 abbrev Scale : Type 0
 Scale = ℕ × (ℕ × ℕ)
@@ -133,13 +134,14 @@ module _ {X : Type 0} (header : List ℕ) (Refused : List Line → CertRefusal �
       (then_is (Started line rest) (Refused (line ∷ rest)) (Anything {X = X}) (Refused (line ∷ rest)) (header_at header (line ∷ rest)) rest_at (header_why line rest) (λ d k. k) (λ p s. rest_why line rest p s.2 s.0 s.1))
 
 body_refused : {X : Type 0} (header : List ℕ) (sheet : Sheet) (kind : TextKind) (rest_at : Place → Result X CertRefusal) → ((lines : List Line) (p : Place) → At lines p → p.at ≡ 2 → Is (Anything {X = X}) (Why lines sheet kind) (rest_at p)) → (lines : List Line) (r : CertRefusal) → has_more lines ≡ true
-    → (header_at header lines >>= rest_at) ≡ Err r → IsRefusedUnder header sheet kind lines r
+    → (header_at header lines >>= rest_at) ≡ Err r → HasReason lines (IsReasonUnder header sheet kind lines) r
 body_refused {X} header sheet kind rest_at rest_why lines r m e =
-    refused_by header (IsRefusedUnder header sheet kind) rest_at
+    let Refused = λ (ls : List Line) (d : CertRefusal). HasReason ls (IsReasonUnder header sheet kind ls) d in
+    refused_by header Refused rest_at
     (λ line rest no. record { before = []; line = line; after = rest; parts = refl; count = refl; reason = inl (refl, no, refl) })
     (λ line rest is none. record { before = []; line = line; after = rest; parts = refl; count = refl; reason = inr (is, inl (none, refl)) })
-    (λ line rest p is h at. is_more (Anything {X = X}) (Why (line ∷ rest) sheet kind) (Anything {X = X}) (IsRefusedUnder header sheet kind (line ∷ rest)) (rest_at p) (rest_why (line ∷ rest) p h at)
-    (λ d w. record { before = w.before; line = w.line; after = w.after; parts = w.parts; count = w.count; reason = inr (is, w.reason) }) (λ x k. k))
+    (λ line rest p is h at. is_more (Anything {X = X}) (Why (line ∷ rest) sheet kind) (Anything {X = X}) (Refused (line ∷ rest)) (rest_at p) (rest_why (line ∷ rest) p h at)
+    (λ d w. with_reason (line ∷ rest) (IsBodyReason sheet kind) (IsReasonUnder header sheet kind (line ∷ rest)) (λ before l after d k. inr (is, k)) d w) (λ x k. k))
     lines r m e
 
 pub hops_refused_for : (sheet : Sheet) (lines : List Line) (r : CertRefusal) → has_more lines ≡ true → hops_in sheet lines ≡ Err r → IsHopsRefusedFor sheet lines r

@@ -38,6 +38,7 @@ pub mod Short
 pub mod ShortKinds
 pub mod ShortPapers
 pub mod Steps
+pub mod Stopping
 pub mod Stops
 pub mod Stuck
 pub mod TokenKinds

@@ -1,5 +1,5 @@
 -- A line is refused for one kind alone.
-use Rattle.std.proofs.Common.{◌≡◌, ◌⊎◌, ℕ, ◌+◌, ◌-◌, ◌<◌, ◌≤◌, Bool, true, false, List, [], ◌∷◌, ◌++◌, length, Option, Some, None, refl, sym, ap, subst, ◌∙◌, length-append, inl, inr, arith}
+use Rattle.std.proofs.Common.{◌≡◌, ◌≢◌, ◌⊎◌, ℕ, ◌+◌, ◌-◌, ◌<◌, ◌≤◌, Bool, true, false, List, [], ◌∷◌, ◌++◌, length, Option, Some, None, refl, sym, ap, subst, ◌∙◌, length-append, inl, inr, arith}
 use Rattle.std.specs.Prelude.{codes, map}
 use Rattle.std.specs.List.{AllByRecursion, join_with_byte}
 use Rattle.std.proofs.lemmas.Option.{slice_get_within}
@@ -17,10 +17,11 @@ use Rattle.cert_text.specs.Papers.{form_of}
 use Rattle.cert_inverse.proofs.Words.{same_bytes}
 use Rattle.run_laws.specs.CertKinds.{name, number, decimal, nothing as no_word, Sorted, is_decimal, IsRight, IsWrong, IsLineFault}
 use Rattle.run_laws.specs.HeadKinds.{IsHeadReason, IsHeadRefusedFor}
-use Rattle.run_laws.specs.KindHeads.{IsHeadReasonUnder, IsHeadRefusedUnder}
-use Rattle.run_laws.specs.KindTexts.{IsUnder, IsReasonUnder, IsRefusedUnder}
+use Rattle.run_laws.specs.KindHeads.{IsHeadReasonUnder}
+use Rattle.run_laws.specs.KindTexts.{IsUnder, IsReasonUnder}
 use Rattle.run_laws.specs.LineRoles.{TextKind, Role, HeadRole, RowRole, verdict, links, modules, counts, gap, phases, scale, lower, upper, threshold, head_line, row_line, last, nothing, paper, head_of, head_count, order, StandsAt, key_of, AreBeforeRows, EndsWith, IsPast, AreEnded, IsInOrder, counts_in, as_counts, IsOtherNet, IsHeadFault, row_form, IsRoleFault, IsBodyReason}
 use Rattle.run_laws.specs.PaperKinds.{Says, IsReason, IsRefusedFor}
+use Rattle.run_laws.specs.Refusals.{Reason, HasReason}
 use Rattle.run_laws.proofs.RowOrder.{begins_one, key_long}
 
 -- ---- the first word that is wrong
@@ -227,36 +228,35 @@ no_header : (before : List Line) (line : Line) (after : List Line) (o : Opening)
 no_header [] line after o count none says = let e : None ≡ Some o = sym none ∙ says in absurd cc
 no_header (x ∷ before) line after o count none says = absurd (omega (arith, count))
 
-reason_one : (sheets : Sheets) (lines before : List Line) (line : Line) (after : List Line) (r e : CertRefusal) → lines ≡ before ++ line ∷ after → r.line ≡ length before + 1 → r.line ≡ e.line
+-- reasons of one line have one kind, where those of one line between the same others have
+one_reason : (lines : List Line) (Why : Reason)
+    → ((before : List Line) (line : Line) (after : List Line) (r e : CertRefusal) → lines ≡ before ++ line ∷ after → r.line ≡ length before + 1 → r.line ≡ e.line → Why before line after r → Why before line after e → r.kind ≡ e.kind)
+    → (r e : CertRefusal) → HasReason lines Why r → HasReason lines Why e → r.line ≡ e.line → r.kind ≡ e.kind
+one_reason lines Why one r e h i same =
+    let s = same_parts h.before i.before h.line i.line h.after i.after (omega (arith, h.count, i.count, same)) (sym h.parts ∙ i.parts) in
+    one h.before h.line h.after r e h.parts h.count same h.reason
+    (subst (λ (b : List Line). Why b h.line h.after e) (sym s.before) (subst (λ (l : Line). Why i.before l h.after e) (sym s.line) (subst (λ (a : List Line). Why i.before i.line a e) (sym s.after) i.reason)))
+
+paper_one : (sheets : Sheets) (lines before : List Line) (line : Line) (after : List Line) (r e : CertRefusal) → lines ≡ before ++ line ∷ after → r.line ≡ length before + 1 → r.line ≡ e.line
     → IsReason sheets lines before line after r → IsReason sheets lines before line after e → r.kind ≡ e.kind
-reason_one sheets lines before line after r e parts count same (inl h) (inl i) = h.2 ∙ sym i.2
-reason_one sheets lines before line after r e parts count same (inl h) (inr (o, says, i)) = absurd (no_header before line after o (sym h.0 ∙ count) h.1 (subst (λ (l : List Line). Says l o) parts says))
-reason_one sheets lines before line after r e parts count same (inr (o, says, h)) (inl i) = absurd (no_header before line after o (sym i.0 ∙ sym same ∙ count) i.1 (subst (λ (l : List Line). Says l o) parts says))
-reason_one sheets lines before line after r e parts count same (inr (o, says, h)) (inr (p, says', i)) =
+paper_one sheets lines before line after r e parts count same (inl h) (inl i) = h.2 ∙ sym i.2
+paper_one sheets lines before line after r e parts count same (inl h) (inr (o, says, i)) = absurd (no_header before line after o (sym h.0 ∙ count) h.1 (subst (λ (l : List Line). Says l o) parts says))
+paper_one sheets lines before line after r e parts count same (inr (o, says, h)) (inl i) = absurd (no_header before line after o (sym i.0 ∙ sym same ∙ count) i.1 (subst (λ (l : List Line). Says l o) parts says))
+paper_one sheets lines before line after r e parts count same (inr (o, says, h)) (inr (p, says', i)) =
     body_one (sheet_for sheets o.form) (paper o.kind) before line after r e count same h
     (subst (λ (q : Opening). IsBodyReason (sheet_for sheets q.form) (paper q.kind) before line after e) (sym (says_one lines o p says says')) i)
 
 pub kind_one : (sheets : Sheets) (lines : List Line) (r e : CertRefusal) → IsRefusedFor sheets lines r → IsRefusedFor sheets lines e → r.line ≡ e.line → r.kind ≡ e.kind
-kind_one sheets lines r e h i same =
-    let s = same_parts h.before i.before h.line i.line h.after i.after (omega (arith, h.count, i.count, same)) (sym h.parts ∙ i.parts) in
-    reason_one sheets lines h.before h.line h.after r e h.parts h.count same h.reason
-    (subst (λ (b : List Line). IsReason sheets lines b h.line h.after e) (sym s.before)
-    (subst (λ (l : Line). IsReason sheets lines i.before l h.after e) (sym s.line) (subst (λ (a : List Line). IsReason sheets lines i.before i.line a e) (sym s.after) i.reason)))
+kind_one sheets lines r e h i same = one_reason lines (IsReason sheets lines) (paper_one sheets lines) r e h i same
+
+head_paper_one : (lines before : List Line) (line : Line) (after : List Line) (r e : CertRefusal) → lines ≡ before ++ line ∷ after → r.line ≡ length before + 1 → r.line ≡ e.line → IsHeadReason lines before line after r → IsHeadReason lines before line after e → r.kind ≡ e.kind
+head_paper_one lines before line after r e parts count same (inl h) (inl i) = h.2 ∙ sym i.2
+head_paper_one lines before line after r e parts count same (inl h) (inr (_, o, says, i)) = absurd (no_header before line after o (sym h.0 ∙ count) h.1 (subst (λ (l : List Line). Says l o) parts says))
+head_paper_one lines before line after r e parts count same (inr (_, o, says, h)) (inl i) = absurd (no_header before line after o (sym i.0 ∙ sym same ∙ count) i.1 (subst (λ (l : List Line). Says l o) parts says))
+head_paper_one lines before line after r e parts count same (inr h) (inr i) = h.0 ∙ sym i.0
 
 pub head_kind_one : (lines : List Line) (r e : CertRefusal) → IsHeadRefusedFor lines r → IsHeadRefusedFor lines e → r.line ≡ e.line → r.kind ≡ e.kind
-head_kind_one lines r e h i same = by h.reason i.reason
-  where
-    none : (o : Opening) → form_of h.line ≡ None → r.line ≡ 1 → Says lines o → ⊥
-    none o unknown first says = no_header h.before h.line h.after o (sym first ∙ h.count) unknown (subst (λ (l : List Line). Says l o) h.parts says)
-
-    none' : (o : Opening) → form_of i.line ≡ None → e.line ≡ 1 → Says lines o → ⊥
-    none' o unknown first says = no_header i.before i.line i.after o (sym first ∙ i.count) unknown (subst (λ (l : List Line). Says l o) i.parts says)
-
-    by : IsHeadReason lines h.line h.after r → IsHeadReason lines i.line i.after e → r.kind ≡ e.kind
-    by (inl a) (inl b) = a.2 ∙ sym b.2
-    by (inl a) (inr b) = absurd (none b.1 a.1 a.0 b.2)
-    by (inr a) (inl b) = absurd (none' a.1 b.1 b.0 a.2)
-    by (inr a) (inr b) = a.0 ∙ sym b.0
+head_kind_one lines r e h i same = one_reason lines (IsHeadReason lines) (head_paper_one lines) r e h i same
 
 -- ---- a text of one header
 
@@ -264,26 +264,26 @@ first_under : (header : List ℕ) (before : List Line) (line : Line) (after : Li
 first_under header [] line after count h = h
 first_under header (x ∷ before) line after count h = absurd (omega (arith, count))
 
+-- where the first line is no header, no line follows one
+not_under : (header : List ℕ) (lines before : List Line) (line : Line) (after : List Line) → lines ≡ before ++ line ∷ after → 1 ≡ length before + 1 → join_with_byte 32 line ≢ header → IsUnder header lines → ⊥
+not_under header lines before line after parts count other is = other (first_under header before line after count (subst (IsUnder header) parts is))
+
 under_one : (header : List ℕ) (sheet : Sheet) (kind : TextKind) (lines before : List Line) (line : Line) (after : List Line) (r e : CertRefusal) → lines ≡ before ++ line ∷ after → r.line ≡ length before + 1 → r.line ≡ e.line
     → IsReasonUnder header sheet kind lines before line after r → IsReasonUnder header sheet kind lines before line after e → r.kind ≡ e.kind
 under_one header sheet kind lines before line after r e parts count same (inl h) (inl i) = h.2 ∙ sym i.2
-under_one header sheet kind lines before line after r e parts count same (inl h) (inr i) = absurd (h.1 (first_under header before line after (sym h.0 ∙ count) (subst (IsUnder header) parts i.0)))
-under_one header sheet kind lines before line after r e parts count same (inr h) (inl i) = absurd (i.1 (first_under header before line after (sym i.0 ∙ sym same ∙ count) (subst (IsUnder header) parts h.0)))
+under_one header sheet kind lines before line after r e parts count same (inl h) (inr i) = absurd (not_under header lines before line after parts (sym h.0 ∙ count) h.1 i.0)
+under_one header sheet kind lines before line after r e parts count same (inr h) (inl i) = absurd (not_under header lines before line after parts (sym i.0 ∙ sym same ∙ count) i.1 h.0)
 under_one header sheet kind lines before line after r e parts count same (inr h) (inr i) = body_one sheet kind before line after r e count same h.1 i.1
 
-pub kind_one_under : (header : List ℕ) (sheet : Sheet) (kind : TextKind) (lines : List Line) (r e : CertRefusal) → IsRefusedUnder header sheet kind lines r → IsRefusedUnder header sheet kind lines e → r.line ≡ e.line → r.kind ≡ e.kind
-kind_one_under header sheet kind lines r e h i same =
-    let s = same_parts h.before i.before h.line i.line h.after i.after (omega (arith, h.count, i.count, same)) (sym h.parts ∙ i.parts) in
-    under_one header sheet kind lines h.before h.line h.after r e h.parts h.count same h.reason
-    (subst (λ (b : List Line). IsReasonUnder header sheet kind lines b h.line h.after e) (sym s.before)
-    (subst (λ (l : Line). IsReasonUnder header sheet kind lines i.before l h.after e) (sym s.line) (subst (λ (a : List Line). IsReasonUnder header sheet kind lines i.before i.line a e) (sym s.after) i.reason)))
+pub kind_one_under : (header : List ℕ) (sheet : Sheet) (kind : TextKind) (lines : List Line) (r e : CertRefusal) → HasReason lines (IsReasonUnder header sheet kind lines) r → HasReason lines (IsReasonUnder header sheet kind lines) e → r.line ≡ e.line → r.kind ≡ e.kind
+kind_one_under header sheet kind lines r e h i same = one_reason lines (IsReasonUnder header sheet kind lines) (under_one header sheet kind lines) r e h i same
 
--- the first lines of one
-pub head_one_under : (header : List ℕ) (kind : TextKind) (lines : List Line) (r e : CertRefusal) → IsHeadRefusedUnder header kind lines r → IsHeadRefusedUnder header kind lines e → r.line ≡ e.line → r.kind ≡ e.kind
-head_one_under header kind lines r e h i same = by h.reason i.reason
-  where
-    by : IsHeadReasonUnder header kind lines h.line h.after r → IsHeadReasonUnder header kind lines i.line i.after e → r.kind ≡ e.kind
-    by (inl a) (inl b) = a.2 ∙ sym b.2
-    by (inl a) (inr b) = absurd (a.1 (first_under header h.before h.line h.after (sym a.0 ∙ h.count) (subst (IsUnder header) h.parts b.1)))
-    by (inr a) (inl b) = absurd (b.1 (first_under header i.before i.line i.after (sym b.0 ∙ i.count) (subst (IsUnder header) i.parts a.1)))
-    by (inr a) (inr b) = a.0 ∙ sym b.0
+head_under_one : (header : List ℕ) (kind : TextKind) (lines before : List Line) (line : Line) (after : List Line) (r e : CertRefusal) → lines ≡ before ++ line ∷ after → r.line ≡ length before + 1 → r.line ≡ e.line
+    → IsHeadReasonUnder header kind lines before line after r → IsHeadReasonUnder header kind lines before line after e → r.kind ≡ e.kind
+head_under_one header kind lines before line after r e parts count same (inl h) (inl i) = h.2 ∙ sym i.2
+head_under_one header kind lines before line after r e parts count same (inl h) (inr i) = absurd (not_under header lines before line after parts (sym h.0 ∙ count) h.1 i.1)
+head_under_one header kind lines before line after r e parts count same (inr h) (inl i) = absurd (not_under header lines before line after parts (sym i.0 ∙ sym same ∙ count) i.1 h.1)
+head_under_one header kind lines before line after r e parts count same (inr h) (inr i) = h.0 ∙ sym i.0
+
+pub head_one_under : (header : List ℕ) (kind : TextKind) (lines : List Line) (r e : CertRefusal) → HasReason lines (IsHeadReasonUnder header kind lines) r → HasReason lines (IsHeadReasonUnder header kind lines) e → r.line ≡ e.line → r.kind ≡ e.kind
+head_one_under header kind lines r e h i same = one_reason lines (IsHeadReasonUnder header kind lines) (head_under_one header kind lines) r e h i same

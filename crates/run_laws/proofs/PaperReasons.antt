@@ -20,11 +20,11 @@ use Rattle.cert_text.specs.declared.opening.Opening.{Opening}
 use Rattle.cert_text.specs.Reading.{Place, has_more, rows_from, closing}
 use Rattle.cert_text.specs.Papers.{modes_at, scale_at, opening_at, values_at, dual_at, routing_at, proof_at, form_of, header_of, header, routing_from, proof_from, header_by}
 use Rattle.cert_text.specs.Whole.{paper_at, paper_in}
-use Rattle.run_laws.specs.LineRoles.{paper, path}
-use Rattle.run_laws.specs.PaperKinds.{Says, IsRefusedFor}
+use Rattle.run_laws.specs.LineRoles.{paper, path, IsBodyReason}
+use Rattle.run_laws.specs.PaperKinds.{Says, IsReason, IsRefusedFor}
 use Rattle.run_laws.proofs.Steps.{done, Is, then_is, is_more}
 use Rattle.run_laws.proofs.LineReasons.{path_fault}
-use Rattle.run_laws.proofs.Reasons.{At, Why, no_more, Reached, Behind, Anything, HasHead, go, rows_on, at_rows, modes_why, scale_why, values_why, opening_why, dual_why, closed_why}
+use Rattle.run_laws.proofs.Reasons.{At, Why, no_more, with_reason, Reached, Behind, Anything, HasHead, go, rows_on, at_rows, modes_why, scale_why, values_why, opening_why, dual_why, closed_why}
 
 -- ---- what follows the header
 
@@ -97,16 +97,6 @@ header_why sheets line rest = by (form_of line) refl
     by None e = record { before = []; line = line; after = rest; parts = refl; count = refl; reason = inl (refl, e, refl) }
     by (Some o) e = known o (has_more rest) refl e
 
-as_reason : (sheets : Sheets) (lines : List Line) (o : Opening) (e : CertRefusal) → Says lines o → Why lines (sheet_for sheets o.form) (paper o.kind) e → IsRefusedFor sheets lines e
-as_reason sheets lines o e says w = record {
-  before = w.before;
-  line = w.line;
-  after = w.after;
-  parts = w.parts;
-  count = w.count;
-  reason = inr (o, says, w.reason);
-}
-
 pub refused_for : (sheets : Sheets) (lines : List Line) (r : CertRefusal) → has_more lines ≡ true → paper_in sheets lines ≡ Err r → IsRefusedFor sheets lines r
 unfolding paper_in
 refused_for sheets [] r m e = absurd cc
@@ -115,4 +105,4 @@ refused_for sheets (line ∷ rest) r m e =
     (then_is (Started (line ∷ rest)) (IsRefusedFor sheets (line ∷ rest)) (Anything {X = Paper}) (IsRefusedFor sheets (line ∷ rest)) (header (line ∷ rest)) (λ first. paper_at (sheet_for sheets first.0.form) first.0.kind first.1)
     (header_why sheets line rest) (λ d k. k)
     (λ x s. is_more (Anything {X = Paper}) (Why (line ∷ rest) (sheet_for sheets x.0.form) (paper x.0.kind)) (Anything {X = Paper}) (IsRefusedFor sheets (line ∷ rest)) (paper_at (sheet_for sheets x.0.form) x.0.kind x.1)
-    (paper_why (line ∷ rest) (sheet_for sheets x.0.form) x.0.kind x.1 s.0 s.1) (λ d w. as_reason sheets (line ∷ rest) x.0 d s.2 w) (λ p k. k)))
+    (paper_why (line ∷ rest) (sheet_for sheets x.0.form) x.0.kind x.1 s.0 s.1) (λ d w. with_reason (line ∷ rest) (IsBodyReason (sheet_for sheets x.0.form) (paper x.0.kind)) (IsReason sheets (line ∷ rest)) (λ before l after d k. inr (x.0, s.2, k)) d w) (λ p k. k)))

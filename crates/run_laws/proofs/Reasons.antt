@@ -17,6 +17,7 @@ use Rattle.cert_text.specs.Reading.{Place, at_line, has_more, line_from, next_li
 use Rattle.cert_text.specs.Papers.{modes_at, scale_at, opening_at, values_at, dual_at, counted_at}
 use Rattle.cert_inverse.proofs.HeadTakes.{fixed_takes}
 use Rattle.run_laws.specs.LineRoles.{TextKind, HeadRole, RowRole, verdict, links, modules, counts, gap, phases, scale, lower, upper, cell, node, head_line, row_line, last, nothing, head_count, order, row_count, HasRow, StandsAt, key_of, AreBeforeRows, EndsWith, IsPast, BeginsNoRow, AreEnded, IsInOrder, IsHeadFault, IsRoleFault, IsBodyReason}
+use Rattle.run_laws.specs.Refusals.{Reason, HasReason}
 use Rattle.run_laws.proofs.Steps.{done, Is, then_is}
 use Rattle.run_laws.proofs.RowOrder.{order_one, up_to}
 use Rattle.run_laws.proofs.LineReasons.{verdict_fault, links_fault, modules_fault, counts_fault, gap_fault, phases_fault, scale_fault, lower_fault, upper_fault, cell_fault, node_fault, last_fault}
@@ -27,15 +28,6 @@ pub record At (lines : List Line) (p : Place) : Type 0 where
   pub parts : lines ≡ front ++ p.rest
   pub at : p.at ≡ length front + 1
   pub more : has_more p.rest ≡ true
-
--- why a line behind the first one is refused
-pub record Why (lines : List Line) (sheet : Sheet) (kind : TextKind) (e : CertRefusal) : Type 0 where
-  pub before : List Line
-  pub line : Line
-  pub after : List Line
-  pub parts : lines ≡ before ++ line ∷ after
-  pub count : e.line ≡ length before + 1
-  pub reason : IsBodyReason sheet kind before line after e
 
 pub no_more : (lines : List Line) → has_more lines ≡ false → lines ≡ []
 no_more [] h = refl
@@ -59,6 +51,35 @@ at_next lines at line rest h more = record {
 -- the place of that number was reached
 abbrev pub Reached : {X : Type 0} → List Line → ℕ → X × Place → Type 0
 Reached lines n y = At lines y.1 × (y.1.at ≡ n)
+
+-- a reason, told as another one
+pub with_reason : (lines : List Line) (P Q : Reason) → ((before : List Line) (line : Line) (after : List Line) (e : CertRefusal) → P before line after e → Q before line after e) → (e : CertRefusal) → HasReason lines P e → HasReason lines Q e
+with_reason lines P Q f e h = record { before = h.before; line = h.line; after = h.after; parts = h.parts; count = h.count; reason = f h.before h.line h.after e h.reason }
+
+-- one line, where a text that ends in a line may be refused so
+module _ (lines : List Line) (Why : Reason) (cut : (before : List Line) (line : Line) (at : ℕ) → Why before line [] (record { line = at; kind = Syntax })) where
+  line_of : {X : Type 0} (read : Line → Result X CertKind) (at : ℕ) (rest : List Line) → (h : At lines (record { at = at; rest = rest }))
+      → ((line : Line) (after : List Line) (k : CertKind) → after ≢ [] → read line ≡ Err k → Why h.front line after (record { line = at; kind = k })) → Is (Reached {X = X} lines (at + 1)) (HasReason lines Why) (line_from read at rest)
+  line_of read at [] h bad = absurd (no_line h.more)
+    where
+      no_line : false ≡ true → ⊥
+      no_line e = cc
+  line_of {X} read at (line ∷ rest) h bad = by (has_more rest) refl (read line) refl
+    where
+      by : (b : Bool) → has_more rest ≡ b → (r : Result X CertKind) → read line ≡ r
+          → Is (Reached {X = X} lines (at + 1)) (HasReason lines Why) (cond b (at_line at r >>= λ x. done (x, record { at = at + 1; rest = rest })) (Err (record { line = at; kind = Syntax })))
+      by true m (Ok x) e = (at_next lines at line rest h m, refl)
+      by true m (Err k) e = record { before = h.front; line = line; after = rest; parts = h.parts; count = h.at; reason = bad line rest k (not_last rest m) e }
+      by false m r e = record { before = h.front; line = line; after = rest; parts = h.parts; count = h.at; reason = subst (λ (after : List Line). Why h.front line after (record { line = at; kind = Syntax })) (sym (no_more rest m)) (cut h.front line at) }
+
+  pub next_of : {X : Type 0} (read : Line → Result X CertKind) (n : ℕ) (p : Place) → (h : At lines p) → p.at ≡ n
+      → ((line : Line) (after : List Line) (k : CertKind) → after ≢ [] → read line ≡ Err k → Why h.front line after (record { line = p.at; kind = k })) → Is (Reached {X = X} lines (n + 1)) (HasReason lines Why) (next_line read p)
+  unfolding next_line
+  next_of {X} read n p h is bad = subst (λ (m : ℕ). Is (Reached {X = X} lines (m + 1)) (HasReason lines Why) (line_from read p.at p.rest)) is (line_of read p.at p.rest h bad)
+
+-- why a line behind the first one is refused
+abbrev pub Why : List Line → Sheet → TextKind → CertRefusal → Type 0
+Why lines sheet kind e = HasReason lines (IsBodyReason sheet kind) e
 
 -- rows of the first so many kinds are behind: none of them may stand at the next line, but behind one that comes later
 pub record Passed (kind : TextKind) (n : ℕ) (front rest : List Line) : Type 0 where
@@ -99,24 +120,10 @@ abbrev Rows : TextKind → RowRole → List Line → List Line → Type 0
 Rows kind role front rest = Passed kind (order role) front rest ⊎ EndsWith kind role front
 
 module _ (lines : List Line) (sheet : Sheet) (kind : TextKind) where
-  line_why : {X : Type 0} (read : Line → Result X CertKind) (role : HeadRole) → ((line : Line) (k : CertKind) → read line ≡ Err k → IsHeadFault sheet role line k) → (at : ℕ) (rest : List Line)
-      → At lines (record { at = at; rest = rest }) → StandsAt kind (head_line role) at → Is (Reached {X = X} lines (at + 1)) (Why lines sheet kind) (line_from read at rest)
-  line_why read role fault at [] h stands = absurd (no_line h.more)
-    where
-      no_line : false ≡ true → ⊥
-      no_line e = cc
-  line_why {X} read role fault at (line ∷ rest) h stands = by (has_more rest) refl (read line) refl
-    where
-      by : (b : Bool) → has_more rest ≡ b → (r : Result X CertKind) → read line ≡ r
-          → Is (Reached {X = X} lines (at + 1)) (Why lines sheet kind) (cond b (at_line at r >>= λ x. done (x, record { at = at + 1; rest = rest })) (Err (record { line = at; kind = Syntax })))
-      by true m (Ok x) e = (at_next lines at line rest h m, refl)
-      by true m (Err k) e = record { before = h.front; line = line; after = rest; parts = h.parts; count = h.at; reason = inr (not_last rest m, head_line role, stands, tt, fault line k e) }
-      by false m r e = record { before = h.front; line = line; after = rest; parts = h.parts; count = h.at; reason = inl (no_more rest m, refl) }
-
   pub next_why : {X : Type 0} (read : Line → Result X CertKind) (role : HeadRole) → ((line : Line) (k : CertKind) → read line ≡ Err k → IsHeadFault sheet role line k) → (n : ℕ) (p : Place) → At lines p → p.at ≡ n
       → StandsAt kind (head_line role) n → Is (Reached {X = X} lines (n + 1)) (Why lines sheet kind) (next_line read p)
-  unfolding next_line
-  next_why {X} read role fault n p h is stands = subst (λ (m : ℕ). Is (Reached {X = X} lines (m + 1)) (Why lines sheet kind) (line_from read p.at p.rest)) is (line_why read role fault p.at p.rest h (subst (StandsAt kind (head_line role)) (sym is) stands))
+  next_why read role fault n p h is stands =
+      next_of lines (IsBodyReason sheet kind) (λ before line at. inl (refl, refl)) read n p h is (λ line after k more e. inr (more, head_line role, subst (StandsAt kind (head_line role)) (sym is) stands, tt, fault line k e))
 
   pub go : {A B : Type 0} (ok : A → Type 0) (ok' : B → Type 0) (r : Result A CertRefusal) (g : A → Result B CertRefusal) → Is ok (Why lines sheet kind) r → ((x : A) → ok x → Is ok' (Why lines sheet kind) (g x)) → Is ok' (Why lines sheet kind) (r >>= g)
   go ok ok' r g h next = then_is ok (Why lines sheet kind) ok' (Why lines sheet kind) r g h (λ e w. w) next

@@ -1,116 +1,23 @@
 -- Where the text of a certificate or routing is refused, it stops to begin one.
-use Rattle.std.proofs.Common.{◌≡◌, ◌⊎◌, ℕ, ◌+◌, Bool, true, false, eqb, List, [], ◌∷◌, ◌++◌, length, refl, sym, ap, subst, ◌∙◌, append_assoc, inl, inr, arith}
-use Rattle.std.specs.Prelude.{map}
+use Rattle.std.proofs.Common.{◌≡◌, ℕ, List, ◌++◌, sym, ap, subst, ◌∙◌, inl, inr}
 use Rattle.std.specs.List.{AllByRecursion}
-use Rattle.std.proofs.lemmas.Bool.Decides.{nat_tests}
-use Rattle.std.proofs.lemmas.List.{append-nil}
-use Rattle.std.proofs.lemmas.List.Concat.{flat_map-cons}
-use Rattle.std.proofs.lemmas.List.Elements.{All-from_recursion}
-use Rattle.std.proofs.lemmas.List.Splits.{slice_split_at}
-use Rattle.text_lines.specs.Lines.{Line, spelled, text_of, words_of, lines_of, IsInside, IsLine}
+use Rattle.text_lines.specs.Lines.{text_of, lines_of, IsLine}
 use Rattle.cert_lines.specs.Sheet.{Sheets, sheet_for}
 use Rattle.cert_lines.specs.declared.form.Form.{Form}
 use Rattle.cert_lines.specs.declared.form.Form.TheVariants.{First, Second}
 use Rattle.cert_lines.specs.declared.refusal.CertRefusal.{CertRefusal}
-use Rattle.cert_text.specs.Reading.{bytes_of}
 use Rattle.cert_text.specs.Whole.{paper_in}
-use Rattle.cert_text.proofs.LineSteps.{text_bytes, has_line}
-use Rattle.cert_judge.specs.Fits.{HasLinkWord, read}
+use Rattle.cert_judge.specs.Fits.{HasLinkWord}
 use Rattle.cert_inverse.specs.Inverse.{AreCitable, IsCitable, paper_text}
-use Rattle.cert_inverse.proofs.HeadTakes.{joined}
 use Rattle.cert_inverse.proofs.Headers.{forms_are}
 use Rattle.cert_inverse.proofs.Between.{text_of-both}
 use Rattle.cert_inverse.proofs.TextAgain.{paper_clean, text_is_of_lines}
 use Rattle.cert_inverse.proofs.Exactly.{exactly}
-use Rattle.run_laws.specs.Lines.{whole_lines, IsOneLine, Begins, IsLineOf, StopsAt}
+use Rattle.run_laws.specs.Lines.{StopsAt}
 use Rattle.run_laws.specs.Papers.{IsPaper, IsWorded, refused}
-use Rattle.run_laws.proofs.Near.{Two}
 use Rattle.run_laws.proofs.NearPapers.{same_refusal}
-use Rattle.run_laws.proofs.Stuck.{IsStuck, stuck}
-
--- ---- lines and bytes
-
-is_ten : (b : ℕ) → eqb b 10 ≡ true → b ≡ 10
-is_ten b h = grind (arith, nat_tests)
-
-no_feed : (word : List ℕ) → AllByRecursion IsInside word → IsOneLine word
-no_feed [] h = tt
-no_feed (b ∷ word) h = (h.0.1, no_feed word h.1)
-
-both : (xs ys : List ℕ) → IsOneLine xs → IsOneLine ys → IsOneLine (xs ++ ys)
-both [] ys h k = k
-both (x ∷ xs) ys h k = (h.0, both xs ys h.1 k)
-
-pub one_line : (line : Line) → IsLine line → IsOneLine (joined line)
-one_line [] h = absurd h
-one_line (word ∷ []) h = no_feed word h.0
-one_line (word ∷ next ∷ words) h = both word (32 ∷ joined (next ∷ words)) (no_feed word h.0) (refl, one_line (next ∷ words) h.1)
-
-pub one_lines : (lines : List Line) → AllByRecursion IsLine lines → AllByRecursion IsOneLine (map joined lines)
-one_lines [] h = tt
-one_lines (line ∷ lines) h = (one_line line h.0, one_lines lines h.1)
-
-pub clean_front : (front back : List Line) → AllByRecursion IsLine (front ++ back) → AllByRecursion IsLine front
-clean_front [] back h = tt
-clean_front (line ∷ front) back h = (h.0, clean_front front back h.1)
-
-pub joined_lines : (lines : List Line) → text_of lines ≡ whole_lines (map joined lines)
-joined_lines [] = refl
-joined_lines (line ∷ lines) = flat_map-cons spelled line lines ∙ ap (λ (l : List ℕ). spelled line ++ l) (joined_lines lines) ∙ sym (flat_map-cons (λ (l : List ℕ). l ++ 10 ∷ []) (joined line) (map joined lines))
-
-pub count_joined : (lines : List Line) → length (map joined lines) ≡ length lines
-count_joined [] = refl
-count_joined (line ∷ lines) = omega (arith, count_joined lines)
-
-pub count_words : (lines : List (List ℕ)) → length (map words_of lines) ≡ length lines
-count_words [] = refl
-count_words (line ∷ lines) = omega (arith, count_words lines)
-
--- the first line of bytes: with its line feed, or all of them
-record Cut (bytes : List ℕ) : Type 0 where
-  line : List ℕ
-  here : IsOneLine line
-  ends : (bytes ≡ line) ⊎ ((after : List ℕ) × (bytes ≡ line ++ 10 ∷ after))
-
-cut : (bytes : List ℕ) → Cut bytes
-cut [] = record { line = []; here = tt; ends = inl refl }
-cut (b ∷ bytes) = by (cut bytes) (eqb b 10) refl
-  where
-    with_one : eqb b 10 ≡ false → Cut bytes → Cut (b ∷ bytes)
-    with_one h c = record {
-      line = b ∷ c.line;
-      here = (h, c.here);
-      ends = elim c.ends as (λ _. (b ∷ bytes ≡ b ∷ c.line) ⊎ ((after : List ℕ) × (b ∷ bytes ≡ (b ∷ c.line) ++ 10 ∷ after))) [
-        | inl e ↦ inl (ap (λ (l : List ℕ). b ∷ l) e)
-        | inr e ↦ inr (e.0, ap (λ (l : List ℕ). b ∷ l) e.1)
-      ];
-    }
-
-    by : Cut bytes → (t : Bool) → eqb b 10 ≡ t → Cut (b ∷ bytes)
-    by c true h = record { line = []; here = tt; ends = inr (bytes, ap (λ (x : ℕ). x ∷ bytes) (is_ten b h)) }
-    by c false h = with_one h c
-
--- the lines of a text, from its lines on
-pub split_lines : (before : List (List ℕ)) (line after : List ℕ) → AllByRecursion IsOneLine before → IsOneLine line → lines_of (whole_lines before ++ (line ++ 10 ∷ after)) ≡ map words_of before ++ (words_of line ∷ lines_of after)
-split_lines [] line after h here = ap (map words_of) (slice_split_at (λ b. eqb b 10) line 10 after (All-from_recursion (λ b. eqb b 10 ≡ false) line here) refl)
-split_lines (first ∷ before) line after h here =
-    let more = whole_lines before ++ (line ++ 10 ∷ after) in
-    let e : whole_lines (first ∷ before) ++ (line ++ 10 ∷ after) ≡ first ++ 10 ∷ more =
-    ap (λ (l : List ℕ). l ++ (line ++ 10 ∷ after)) (flat_map-cons (λ (l : List ℕ). l ++ 10 ∷ []) first before)
-    ∙ append_assoc (first ++ 10 ∷ []) (whole_lines before) (line ++ 10 ∷ after) ∙ append_assoc first (10 ∷ []) more in
-    let s = slice_split_at (λ b. eqb b 10) first 10 more (All-from_recursion (λ b. eqb b 10 ≡ false) first h.0) refl in
-    ap lines_of e ∙ ap (map words_of) s ∙ ap (λ (l : List Line). words_of first ∷ l) (split_lines before line after h.1 here)
-
--- ---- the text begins so
-
--- the text, cut before the line that is refused
-record IsBegun (sheets : Sheets) (text : List ℕ) (number : ℕ) : Type 0 where
-  before : List (List ℕ)
-  rest : List ℕ
-  parts : text ≡ whole_lines before ++ rest
-  lines : AllByRecursion IsOneLine before
-  count : number ≡ length before + 1
-  begun : Begins (IsPaper sheets) (whole_lines before)
+use Rattle.run_laws.proofs.Stuck.{stuck}
+use Rattle.run_laws.proofs.Stopping.{AreRead, clean_front, stops_at}
 
 citable_in : (sheets : Sheets) (form : Form) → AreCitable sheets → HasLinkWord (sheet_for sheets form) → IsCitable (sheet_for sheets form)
 citable_in sheets First own w = own.old w
@@ -119,68 +26,18 @@ citable_in sheets Second own w = own.new
 new_worded : (sheets : Sheets) → AreCitable sheets → HasLinkWord sheets.new
 new_worded sheets own = own.new.clear.full_modes.0
 
-begins : (sheets : Sheets) (text : List ℕ) (r : CertRefusal) → AreCitable sheets → IsWorded sheets text r.line → IsStuck sheets (lines_of text) r → IsBegun sheets text r.line
-begins sheets text r own worded s =
+are_read : (sheets : Sheets) → AreCitable sheets → AreRead (IsPaper sheets) (paper_in sheets)
+are_read sheets own = record { again = λ text is. (is.0, (exactly sheets text is.0 own).1 is.1); same = λ t before r count le k. same_refusal sheets t before r count le k }
+
+pub stops : (sheets : Sheets) (text : List ℕ) (r : CertRefusal) → AreCitable sheets → IsWorded sheets text r.line → paper_in sheets (lines_of text) ≡ refused r → StopsAt (IsPaper sheets) text r.line
+stops sheets text r own worded e =
+    let s = stuck sheets (lines_of text) r own.forms e in
     let sheet = sheet_for sheets s.form in
     let word : HasLinkWord sheet = elim s.said as (λ _. HasLinkWord sheet) [
       | inl new ↦ subst (λ (f : Form). HasLinkWord (sheet_for sheets f)) (sym new) (new_worded sheets own)
       | inr said ↦ worded s.form said.0 said.1
     ] in
     let clean = subst (AllByRecursion IsLine) s.whole (paper_clean sheet s.form s.paper (forms_are sheets s.form own.forms) (citable_in sheets s.form own word) s.fits) in
-    let front = map joined s.front in
-    let whole : whole_lines front ++ text_of s.back ≡ paper_text sheet s.paper =
-    ap (λ (l : List ℕ). l ++ text_of s.back) (sym (joined_lines s.front)) ∙ text_of-both s.front s.back ∙ ap text_of (sym s.whole) ∙ sym (text_is_of_lines sheet s.paper) in
-    record {
-      before = front;
-      rest = bytes_of s.rest;
-      parts = sym (text_bytes text) ∙ s.bytes ∙ ap (λ (l : List ℕ). l ++ bytes_of s.rest) (joined_lines s.front);
-      lines = one_lines s.front (clean_front s.front s.back clean);
-      count = omega (arith, s.line, count_joined s.front);
-      begun = (text_of s.back, (s.paper, (s.form, record { worded = word; fits = s.fits; spelled = whole })));
-    }
-
--- ---- and none goes on so
-
-none_is : (sheets : Sheets) (text : List ℕ) (r : CertRefusal) → AreCitable sheets → paper_in sheets (lines_of text) ≡ refused r → IsPaper sheets text → ⊥
-none_is sheets text r own e (paper, is) =
-    let k : refused r ≡ read paper = sym e ∙ (exactly sheets text paper own).1 is in
-    absurd cc
-
-none_goes_on : (sheets : Sheets) (text : List ℕ) (r : CertRefusal) (before : List (List ℕ)) (line after more : List ℕ) → AreCitable sheets → IsLineOf text r.line before line (10 ∷ after) → paper_in sheets (lines_of text) ≡ refused r
-    → IsPaper sheets ((whole_lines before ++ (line ++ 10 ∷ [])) ++ more) → ⊥
-none_goes_on sheets text r before line after more own stands e is =
-    let t : Two = record { number = r.line; line = words_of line; one = lines_of after; other = lines_of more; one_more = has_line after; other_more = has_line more } in
-    let front = map words_of before in
-    let one = ap (paper_in sheets) (sym (ap lines_of stands.parts ∙ split_lines before line after stands.lines stands.here)) ∙ e in
-    let other = same_refusal sheets t front r (omega (arith, stands.count, count_words before)) (omega arith) one in
-    let text' = whole_lines before ++ (line ++ 10 ∷ more) in
-    let same : (whole_lines before ++ (line ++ 10 ∷ [])) ++ more ≡ text' = append_assoc (whole_lines before) (line ++ 10 ∷ []) more ∙ ap (λ (l : List ℕ). whole_lines before ++ l) (append_assoc line (10 ∷ []) more) in
-    none_is sheets text' r own (ap (paper_in sheets) (split_lines before line more stands.lines stands.here) ∙ other) (subst (IsPaper sheets) same is)
-
--- ---- both
-
--- a text that begins so and does not go on stops there, with its line or cut off
-pub stops_by : (IsText : List ℕ → Type 0) (text : List ℕ) (number : ℕ) (before : List (List ℕ)) (rest : List ℕ) → text ≡ whole_lines before ++ rest → AllByRecursion IsOneLine before → number ≡ length before + 1 → Begins IsText (whole_lines before)
-    → ((line after : List ℕ) → IsLineOf text number before line (10 ∷ after) → (more : List ℕ) → IsText ((whole_lines before ++ (line ++ 10 ∷ [])) ++ more) → ⊥) → (IsText text → ⊥) → StopsAt IsText text number
-stops_by IsText text number before rest parts lines count begun bad none = by (cut rest)
-  where
-    stands : (line after : List ℕ) → IsOneLine line → rest ≡ line ++ after → IsLineOf text number before line after
-    stands line after here is = record { parts = parts ∙ ap (λ (l : List ℕ). whole_lines before ++ l) is; lines = lines; here = here; count = count }
-
-    by : Cut rest → StopsAt IsText text number
-    by c = elim c.ends as (λ _. StopsAt IsText text number) [
-      | inl is ↦ inr (record { before = before; line = c.line; stands = stands c.line [] c.here (is ∙ sym (append-nil c.line)); begun = begun; none = none })
-      | inr is ↦ inl (record {
-        before = before;
-        line = c.line;
-        after = is.0;
-        stands = stands c.line (10 ∷ is.0) c.here is.1;
-        begun = begun;
-        refused = λ (more, k). bad c.line is.0 (stands c.line (10 ∷ is.0) c.here is.1) more k;
-      })
-    ]
-
-pub stops : (sheets : Sheets) (text : List ℕ) (r : CertRefusal) → AreCitable sheets → IsWorded sheets text r.line → paper_in sheets (lines_of text) ≡ refused r → StopsAt (IsPaper sheets) text r.line
-stops sheets text r own worded e =
-    let b = begins sheets text r own worded (stuck sheets (lines_of text) r own.forms e) in
-    stops_by (IsPaper sheets) text r.line b.before b.rest b.parts b.lines b.count b.begun (λ line after stands more k. none_goes_on sheets text r b.before line after more own stands e k) (none_is sheets text r own e)
+    let whole : text_of s.front ++ text_of s.back ≡ paper_text sheet s.paper = text_of-both s.front s.back ∙ ap text_of (sym s.whole) ∙ sym (text_is_of_lines sheet s.paper) in
+    stops_at (IsPaper sheets) (paper_in sheets) (are_read sheets own) text r e s.front s.rest (clean_front s.front s.back clean) s.bytes s.line
+    (text_of s.back, (s.paper, (s.form, record { worded = word; fits = s.fits; spelled = whole })))

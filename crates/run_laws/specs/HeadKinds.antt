@@ -1,5 +1,5 @@
 -- What the kind of a refusal says of the line at which the first lines of a text are refused.
-use Rattle.std.specs.Prelude.{◌≡◌, ◌≢◌, ◌⊎◌, ℕ, ◌+◌, ◌<◌, Bool, List, [], ◌∷◌, ◌++◌, length, None}
+use Rattle.std.specs.Prelude.{◌≡◌, ◌≢◌, ◌⊎◌, ℕ, ◌<◌, Bool, List, [], length, None}
 use Rattle.std.specs.List.{join_with_byte}
 use Rattle.text_lines.specs.Lines.{Line}
 use Rattle.unit_scale.specs.declared.modes.LinkMode.{LinkMode}
@@ -14,6 +14,7 @@ use Rattle.cert_inverse.specs.Inverse.{link_word_in}
 use Rattle.run_laws.specs.Heads.{links_line, modules_line}
 use Rattle.run_laws.specs.LineRoles.{TextKind, HeadRole, verdict, links, modules, head_line, paper, StandsAt}
 use Rattle.run_laws.specs.PaperKinds.{Says}
+use Rattle.run_laws.specs.Refusals.{Reason, HasReason}
 
 -- a line that has to be so says no verdict; or no mode of links for which the form has a word; or no mode of
 -- modules
@@ -30,17 +31,12 @@ abbrev pub IsSilent : TextKind → Form → Line → List Line → ℕ → Type 
 IsSilent kind form line after number =
     (after ≡ []) ⊎ ((after ≢ []) × (role : HeadRole) × StandsAt kind (head_line role) number × SaysNothing form role line)
 
--- a refusal of that line: it is the first and no header; or the first is one, and this is no line of a head
-abbrev pub IsHeadReason : List Line → Line → List Line → CertRefusal → Type 0
-IsHeadReason lines line after r =
+-- a refusal of the line between these: it is the first and no header; or the first is one, and this is no line of a head
+abbrev pub IsHeadReason : List Line → Reason
+IsHeadReason lines before line after r =
     ((r.line ≡ 1) × (form_of line ≡ None) × (r.kind ≡ NoHeader))
     ⊎ ((r.kind ≡ Syntax) × (o : Opening) × Says lines o × IsSilent (paper o.kind) o.form line after r.line)
 
--- the refusal is of this line, for such a reason
-pub record IsHeadRefusedFor (lines : List Line) (r : CertRefusal) : Type 0 where
-  pub before : List Line
-  pub line : Line
-  pub after : List Line
-  pub parts : lines ≡ before ++ line ∷ after
-  pub count : r.line ≡ length before + 1
-  pub reason : IsHeadReason lines line after r
+-- the refusal is of a line of the text, for such a reason
+abbrev pub IsHeadRefusedFor : List Line → CertRefusal → Type 0
+IsHeadRefusedFor lines r = HasReason lines (IsHeadReason lines) r

@@ -1,5 +1,5 @@
 -- The first lines of certificates with hop limits and of totals, and what a refusal of them says.
-use Rattle.std.specs.Prelude.{◌≡◌, ◌≢◌, ◌⊎◌, ℕ, ◌+◌, Bool, List, [], ◌∷◌, ◌++◌, length, codes, Result, Err}
+use Rattle.std.specs.Prelude.{◌≡◌, ◌≢◌, ◌⊎◌, ℕ, Bool, List, [], ◌∷◌, ◌++◌, codes, Result, Err}
 use Rattle.std.specs.List.{join_with_byte}
 use Rattle.text_lines.specs.Lines.{Line, text_of}
 use Rattle.unit_scale.specs.declared.options.NetOptions.{NetOptions}
@@ -11,6 +11,7 @@ use Rattle.run_laws.specs.Heads.{links_line, modules_line}
 use Rattle.run_laws.specs.HeadKinds.{IsSilent}
 use Rattle.run_laws.specs.KindTexts.{hops_header, total_header, IsUnder}
 use Rattle.run_laws.specs.LineRoles.{TextKind, hops, total}
+use Rattle.run_laws.specs.Refusals.{Reason, HasReason}
 
 -- the first lines with a header of that word, a verdict, and how links and modules are read, in the words of form 2
 abbrev pub lines_under : List ℕ → Bool → NetOptions → List Line
@@ -28,20 +29,11 @@ pub record IsHeadedUnder (word : List ℕ) (text : List ℕ) : Type 0 where
 abbrev pub options_refused : CertRefusal → Result NetOptions CertRefusal
 options_refused r = Err r
 
--- a refusal of that line: it is the first and not this header; or the first is, and this is no line of a head
-abbrev pub IsHeadReasonUnder : List ℕ → TextKind → List Line → Line → List Line → CertRefusal → Type 0
-IsHeadReasonUnder header kind lines line after r =
+-- a refusal of the line between these: it is the first and not this header; or the first is, and this is no line of a head
+abbrev pub IsHeadReasonUnder : List ℕ → TextKind → List Line → Reason
+IsHeadReasonUnder header kind lines before line after r =
     ((r.line ≡ 1) × (join_with_byte 32 line ≢ header) × (r.kind ≡ NoHeader))
     ⊎ ((r.kind ≡ Syntax) × IsUnder header lines × IsSilent kind Second line after r.line)
-
--- the refusal is of this line, for such a reason
-pub record IsHeadRefusedUnder (header : List ℕ) (kind : TextKind) (lines : List Line) (r : CertRefusal) : Type 0 where
-  pub before : List Line
-  pub line : Line
-  pub after : List Line
-  pub parts : lines ≡ before ++ line ∷ after
-  pub count : r.line ≡ length before + 1
-  pub reason : IsHeadReasonUnder header kind lines line after r
 
 -- the text begins as a certificate with hop limits does, or as one of a total; its first lines are refused so
 abbrev pub IsHopsHeaded : List ℕ → Type 0
@@ -51,7 +43,7 @@ abbrev pub IsTotalHeaded : List ℕ → Type 0
 IsTotalHeaded text = IsHeadedUnder (codes "mcf-throughput") text
 
 abbrev pub IsHopsHeadRefusedFor : List Line → CertRefusal → Type 0
-IsHopsHeadRefusedFor lines r = IsHeadRefusedUnder hops_header hops lines r
+IsHopsHeadRefusedFor lines r = HasReason lines (IsHeadReasonUnder hops_header hops lines) r
 
 abbrev pub IsTotalHeadRefusedFor : List Line → CertRefusal → Type 0
-IsTotalHeadRefusedFor lines r = IsHeadRefusedUnder total_header total lines r
+IsTotalHeadRefusedFor lines r = HasReason lines (IsHeadReasonUnder total_header total lines) r

@@ -1,5 +1,5 @@
 -- Texts of certificates with hop limits and of totals, and what a refusal of one says.
-use Rattle.std.specs.Prelude.{◌≡◌, ◌≢◌, ◌⊎◌, ℕ, ◌+◌, List, [], ◌∷◌, ◌++◌, length, codes, Result, Err}
+use Rattle.std.specs.Prelude.{◌≡◌, ◌≢◌, ◌⊎◌, ℕ, List, [], ◌∷◌, codes, Result, Err}
 use Rattle.std.specs.List.{join_with_byte}
 use Rattle.text_lines.specs.Lines.{Line}
 use Rattle.cert_lines.specs.Sheet.{Sheet}
@@ -10,6 +10,7 @@ use Rattle.throughput.specs.declared.part_proof.PartProof.{PartProof}
 use Rattle.run_texts.specs.HopsText.{hops_text, FitsHops}
 use Rattle.run_texts.specs.PartText.{part_text, FitsPart}
 use Rattle.run_laws.specs.LineRoles.{TextKind, hops, total, IsBodyReason}
+use Rattle.run_laws.specs.Refusals.{Reason, HasReason}
 
 -- this is the text of some certificate with hop limits
 abbrev pub IsHopsText : Sheet → List ℕ → Type 0
@@ -39,23 +40,14 @@ IsUnder header [] = ⊥
 IsUnder header (line ∷ lines) = join_with_byte 32 line ≡ header
 
 -- a refusal of the line between these: it is the first and not this header; or the first is, and this is wrong
-abbrev pub IsReasonUnder : List ℕ → Sheet → TextKind → List Line → List Line → Line → List Line → CertRefusal → Type 0
+abbrev pub IsReasonUnder : List ℕ → Sheet → TextKind → List Line → Reason
 IsReasonUnder header sheet kind lines before line after r =
     ((r.line ≡ 1) × (join_with_byte 32 line ≢ header) × (r.kind ≡ NoHeader))
     ⊎ (IsUnder header lines × IsBodyReason sheet kind before line after r)
 
--- the refusal is of this line, for such a reason
-pub record IsRefusedUnder (header : List ℕ) (sheet : Sheet) (kind : TextKind) (lines : List Line) (r : CertRefusal) : Type 0 where
-  pub before : List Line
-  pub line : Line
-  pub after : List Line
-  pub parts : lines ≡ before ++ line ∷ after
-  pub count : r.line ≡ length before + 1
-  pub reason : IsReasonUnder header sheet kind lines before line after r
-
--- a text of a certificate with hop limits, or of a total, is refused so
+-- the refusal is of a line of the text, for such a reason: of a certificate with hop limits, or of one of a total
 abbrev pub IsHopsRefusedFor : Sheet → List Line → CertRefusal → Type 0
-IsHopsRefusedFor sheet lines r = IsRefusedUnder hops_header sheet hops lines r
+IsHopsRefusedFor sheet lines r = HasReason lines (IsReasonUnder hops_header sheet hops lines) r
 
 abbrev pub IsTotalRefusedFor : Sheet → List Line → CertRefusal → Type 0
-IsTotalRefusedFor sheet lines r = IsRefusedUnder total_header sheet total lines r
+IsTotalRefusedFor sheet lines r = HasReason lines (IsReasonUnder total_header sheet total lines) r

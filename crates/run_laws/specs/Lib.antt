@@ -19,6 +19,7 @@ pub mod LineRoles
 pub mod Lines
 pub mod PaperKinds
 pub mod Papers
+pub mod Refusals
 pub mod Routings
 pub mod ScriptKinds
 pub mod Scripts

@@ -10,13 +10,13 @@ use Rattle.cert_lines.specs.Sheet.{Sheet}
 use Rattle.cert_lines.specs.declared.net_line.TheConstants.{MAX_COUNT}
 use Rattle.cert_lines.specs.declared.refusal.CertKind.{CertKind}
 use Rattle.cert_lines.specs.declared.refusal.CertKind.TheVariants.{Syntax, OtherNet}
-use Rattle.cert_lines.specs.declared.refusal.CertRefusal.{CertRefusal}
 use Rattle.cert_lines.specs.Forms.{begins}
 use Rattle.cert_lines.specs.HeadLines.{count_words}
 use Rattle.cert_lines.specs.Spelling.{verdict_words, links_words, modules_words}
 use Rattle.cert_text.specs.declared.opening.Kind.{Kind}
 use Rattle.cert_text.specs.declared.opening.Kind.TheVariants.{Certificate, Routing}
 use Rattle.run_laws.specs.CertKinds.{Sorted, number, IsRight, IsLineFault, gap_form, phases_form, scale_form, value_form, path_form, length_form, potential_form, layer_form, threshold_form}
+use Rattle.run_laws.specs.Refusals.{Reason}
 
 -- a certificate of `solve`, or a routing; a certificate with hop limits; a certificate of a total
 pub data TextKind : Type 0 where
@@ -174,7 +174,7 @@ IsRoleFault sheet nothing line kind = kind ≡ Syntax
 
 -- what is wrong with the line between these, behind the first one: it is the last, without a line feed; or it has one, and
 -- is not what it has to be
-abbrev pub IsBodyReason : Sheet → TextKind → List Line → Line → List Line → CertRefusal → Type 0
+abbrev pub IsBodyReason : Sheet → TextKind → Reason
 IsBodyReason sheet kind before line after r =
     ((after ≡ []) × (r.kind ≡ Syntax))
     ⊎ ((after ≢ []) × (role : Role) × StandsAt kind role r.line × IsInOrder kind role before line
