@@ -166,6 +166,11 @@ def test_the_head_of_a_column_has_the_unit_of_its_numbers(tmp_path: Path):
     assert "--bytes reads each of them as eight bits" in refusal(links, "-", "--to", "net")
 
 
+def test_a_unit_for_files_that_say_none_is_said_to_mean_nothing_where_all_say_theirs():
+    _, said = convert("small.graph", "small.0000.demands", "-", "--to", "net", "--from-unit", "Gbit")
+    assert "note: small.graph says its unit, so --from-unit means nothing" in said
+
+
 def test_the_head_of_a_column_that_is_not_read_says_no_unit(tmp_path: Path):
     table = tmp_path / "modules.csv"
     table.write_text("source,target,modules,traffic (Mbit/s)\nA,B,1 5 4 7,3\n")

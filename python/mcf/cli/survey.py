@@ -160,7 +160,7 @@ def surveys_of(words: argparse.Namespace, kinds: list[str], program: Program, ne
     if words.csv:
         write(words.csv, survey_table(surveys, alone).encode("latin-1", "replace"))
     if words.html:
-        title = words.title or words.matrix or Path(os.fsencode(words.net).decode("utf-8", "replace")).stem
+        title = words.title or words.matrix or ("network" if words.net == "-" else Path(os.fsencode(words.net).decode("utf-8", "replace")).stem)
         write(words.html, survey_page(title, figures.scaled, surveys, alone).encode("utf-8", "replace"))
     if words.csv != "-" and words.html != "-":
         for text in [*(sentence(one) for one in surveys), *(grown_sentence(*one) for one in alone)]:

@@ -167,7 +167,7 @@ def in_one_unit(sources: list[Source], task: Task, notes: Notes) -> list[Source]
     given = Fraction(UNITS[task.from_unit]) if task.from_unit else None
     linked = next((s for s in sources if s.links), None)
     if given:
-        _require_unsaid([s for s in sources if s.links or s.matrices], given)
+        _require_unsaid([s for s in sources if s.links or s.matrices], given, notes)
     sources = [replace(s, bits=given) if s.bits is None and given and not _is_of(s, linked) else s for s in sources]
     numbers = [s for s in sources if s.links or s.matrices]
     own = next((s.bits for s in numbers if s.links), None)
@@ -184,11 +184,19 @@ def in_one_unit(sources: list[Source], task: Task, notes: Notes) -> list[Source]
     return [_in_unit(s, wanted, own, linked, notes) if s in numbers else s for s in sources]
 
 
-def _require_unsaid(sources: list[Source], given: Fraction) -> None:
-    """Refuses a unit for files that say none, where the columns of all of them do, and one another unit."""
-    other = next((source for source in sources if source.bits != given), None)
-    if other is not None and all(source.said for source in sources):
-        raise Refused(f"{other.path}: column {told(other.said)} says its unit, and --from-unit another one").at(other.path)
+def _require_unsaid(sources: list[Source], given: Fraction, notes: Notes) -> None:
+    """Refuses a unit for files that say none, or says that it means nothing, where all files say theirs, and one another unit."""
+    if all(source.said or _says_unit(source) for source in sources):
+        other = next((source for source in sources if source.bits != given), None)
+        if other and other.said:
+            raise Refused(f"{other.path}: column {told(other.said)} says its unit, and --from-unit another one").at(other.path)
+        if other:
+            notes.say("note", f"{other.path} says its unit, so --from-unit means nothing")
+
+
+def _says_unit(source: Source) -> bool:
+    """Whether a file of one of the formats that are no tables says its unit, or its format has one."""
+    return source.bits is not None and (source.kind in ("native", "xml", "graph") or source.by_number)
 
 
 def _is_of(source: Source, linked: Source | None) -> bool:
