@@ -142,26 +142,6 @@ def test_networks_are_read_alike(program: Program, root: Path, tmp_path: Path, o
         assert alike(first, second), f"mcf says {first.strip()}, check_twice {second.strip()}"
 
 
-@pytest.mark.parametrize("changed", ["0.0000001 3 2", "17592186044417 3 2", "0.5 3 65"])
-@pytest.mark.parametrize("old,new,file", [
-    ("mcf-", "mcf", "cert"), ("verdict ", "verdict un", "cert"), ("links ", "links un", "cert"), ("modules ", "modules  ", "cert"),
-    ("modules largest\n", "modules largest", "cert"), ("\nnet ", "\nnets ", "net"), ("phases ", "phases x", "net"), ("\nend\n", "\nend", "net"),
-    ("\nlower ", "\nlower 9", "net"), ("path D2 ", "path D3 ", "net"), ("path D2 ", "path  D2 ", "net"),
-])
-@pytest.mark.parametrize("command", ["solve", "hops", "throughput"])
-def test_a_refused_network_goes_before_all_behind_the_options(program: Program, root: Path, tmp_path: Path, command: str, old: str, new: str,
-                                                               file: str, changed: str) -> None:
-    net = tmp_path / "net"
-    save_text(net, NET)
-    text = program.solve(net, "--phases", "2", command=command)
-    nodes = "".join(f"  N{at}\n" for at in range(80))
-    save_text(net, NET.replace("  C ( )\n", f"  C ( )\n{nodes}").replace("0.5 3 2", changed, 1))
-    assert old in text
-    first, second = judged(program, root, tmp_path, net, text.replace(old, new, 1))
-    due = "cert" if "65" in changed and command != "hops" else file
-    assert first.startswith(f"refused {due} ") and second == f"refused {due}\n"
-
-
 @pytest.mark.parametrize("nodes,links,demands", [(512, 512, 10), (513, 513, 1), (2, 4096, 1), (2, 4097, 1), (2, 2, 32768), (2, 2, 32769)])
 def test_sizes_at_the_limits(program: Program, root: Path, tmp_path: Path, nodes: int, links: int, demands: int) -> None:
     net = tmp_path / "net"
@@ -265,6 +245,27 @@ def test_damaged_texts_of_the_other_kinds_are_judged_alike(program: Program, roo
         seen[words[1] if words[0] == "invalid" else words[0]] += 1
     assert set(seen) >= {"valid", "refused", "C1", "C2", "C3", "C5", "C6", "C7", "C9", "C10"}, seen
     assert seen["refused"] < 190, "most of the damages would be those of form"
+
+
+BEHIND = [("mcf-", "mcf", "cert"), ("verdict ", "verdict un", "cert"), ("links ", "links un", "cert"), ("modules ", "modules  ", "cert"),
+          ("modules largest\n", "modules largest", "cert"), ("\nnet ", "\nnets ", "net"), ("phases ", "phases x", "net"),
+          ("\nlower ", "\nlower 9", "net"), ("path D2 ", "path D3 ", "net"), ("path D2 ", "path  D2 ", "net"), ("\nend\n", "\nend", "net")]
+
+
+@pytest.mark.parametrize("command", ["solve", "hops", "throughput"])
+@pytest.mark.parametrize("changed", ["0.0000001 3 2", "17592186044417 3 2", "0.5 3 65"])
+def test_a_refused_network_goes_before_all_behind_the_options(program: Program, root: Path, tmp_path: Path, command: str, changed: str) -> None:
+    judge, net, cert = names_of(root)["judge"], tmp_path / "net", tmp_path / "cert"
+    save_text(net, NET)
+    text = program.solve(net, "--phases", "2", command=command)
+    nodes = "".join(f"  N{at}\n" for at in range(80))
+    save_text(net, NET.replace("  C ( )\n", f"  C ( )\n{nodes}").replace("0.5 3 2", changed, 1))
+    for old, new, file in BEHIND:
+        assert old in text
+        save_text(cert, text.replace(old, new, 1))
+        due = "cert" if "65" in changed and command != "hops" else file
+        assert program.check(net, cert, command=judge_of(load_text(cert))).text.startswith(f"refused {due} ")
+        assert judge(load_text(net), load_text(cert)) == (f"refused {due}", 3)
 
 
 @pytest.mark.parametrize("old,new", [
