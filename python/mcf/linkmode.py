@@ -37,6 +37,15 @@ def link_mode(name: str, data: bytes) -> LinkMode:
     return LinkMode(_USUAL, f"links are read as {_USUAL}; a comment in line {line} of {name} says {word}: --links {word} reads them so")
 
 
+def otherwise(name: str, data: bytes, mode: str, by: str) -> str | None:
+    """The sentence that a certificate or routing reads links otherwise than its network file says; none where the file does not say it."""
+    try:
+        said = native.links_of(name, data)
+    except Refused:
+        return None
+    return None if said in (None, mode) else f"links are read as {mode}, as {by} says, and not as {said}, as {name} says"
+
+
 def _mentioned(data: bytes) -> tuple[int, str]:
     """The line of the first comment that has a word for how links are meant, and that word."""
     for comment in _COMMENT.finditer(data):

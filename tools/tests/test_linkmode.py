@@ -68,3 +68,17 @@ def test_a_desk_reads_links_as_the_file_says(program: Program, tmp_path: Path, a
         running.done()
         bounds, told = running.bounds(), running.end()[1]
     assert bounds[0].startswith(fits) and told.startswith(said.format(net))
+
+
+def test_answers_that_read_links_otherwise_than_the_file_are_told(program: Program, root: Path, tmp_path: Path) -> None:
+    net, cert = tmp_path / "a.net", tmp_path / "a.cert"
+    net.write_text(meta("bidirected"), "ascii")
+    said = f"links are read as undirected, as {cert} says, and not as bidirected, as {net} says"
+    for mode, count in (("undirected", 1), ("bidirected", 0)):
+        cert.write_text(program.solve(net, "--links", mode), "ascii")
+        for tool, *more in (("report",), ("show",), ("survey", "--grow", "0.1")):
+            done = subprocess.run([root / "tools" / tool, net, cert, *more, "--mcf", program.path], capture_output=True, text=True, check=False)
+            assert (done.returncode, done.stderr) == (0, f"{tool}: {said}\n" * count)
+    cert.write_text(program.solve(net), "ascii")
+    done = subprocess.run([root / "tools/report", net, cert, "--quiet", "--mcf", program.path], capture_output=True, text=True, check=False)
+    assert (done.returncode, done.stdout, done.stderr) == (0, "", "")

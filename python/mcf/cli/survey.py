@@ -19,6 +19,7 @@ from mcf.ranges import status
 
 if TYPE_CHECKING:
     from mcf import Program
+    from mcf.report.work import Source
     from mcf.survey.cases import Settings
 
 EXAMPLES = """
@@ -130,7 +131,7 @@ def run(words: argparse.Namespace, kinds: list[str]) -> int:
     listed = listed_in(reader.source(words.list)) if words.list else None
     texts = [(one.name, one.text.encode("latin-1")) for one in answered(given, listed, words.matrix)]
     with texts_as_files(*texts) as (net, certificate):
-        return surveys_of(words, kinds, program, net, certificate)
+        return surveys_of(words, kinds, program, net, certificate, given)
 
 
 def _growths(words: list[str]) -> list[Fraction]:
@@ -142,16 +143,17 @@ def _growths(words: list[str]) -> list[Fraction]:
         raise why.led("--grow: ").at(kind="usage") from None
 
 
-def surveys_of(words: argparse.Namespace, kinds: list[str], program: Program, net: str, certificate: str) -> int:
-    """Makes the surveys of two files, writes them, and says the status."""
+def surveys_of(words: argparse.Namespace, kinds: list[str], program: Program, net: str, certificate: str, given: tuple[Source, Source]) -> int:
+    """Makes the surveys of two files, whose texts are of those that were given, writes them, and says the status."""
     with needed():
-        from mcf.report.work import judged_figures
+        from mcf.report.work import judged_figures, tell_links
         from mcf.survey.cases import Ground, based, survey
         from mcf.survey.page import survey_page
         from mcf.survey.values import growth_values, survey_values
         from mcf.survey.words import grown, grown_sentence, sentence, survey_table
     growths = _growths(words.grow)
     figures, judgement = judged_figures(program, net, certificate)
+    tell_links(*given, figures, "survey")
     ground = Ground(program, net, certificate, figures, judgement)
     settings = settings_of(words, growths[0] if kinds and growths else Fraction(1))
     base = based(ground, settings) if kinds or words.gap or words.exact else ground.base

@@ -10,6 +10,7 @@ from pathlib import Path
 
 from mcf import Program, TextError, jsons, judge_of, load_text, output, scale
 from mcf.judged import Judged, NotValid, judge
+from mcf.linkmode import otherwise
 from mcf.matrices import answers, is_batch, matrices, unit_of, with_demands
 from mcf.network import Network
 from mcf.output import contents
@@ -125,7 +126,16 @@ def write_report(program: Program, words: argparse.Namespace, title: str, say: C
     other = reader.source(words.net2) if words.net2 else net
     pairs = [(net, first)] + ([(other, reader.source(words.second))] if words.second else [])
     both = [reader.shown(*answered(pair, listed, words.matrix)) for pair in pairs]
+    for (one, answer), found in zip(pairs, both):
+        tell_links(one, answer, found.figures, "report", words.quiet)
     _write_sides(_beside(both), words, title, say)
+
+
+def tell_links(net: Source, answer: Source, figures: Figures, tool: str, quiet: bool = False) -> None:
+    """Says that an answer reads links otherwise than the network's file says, where it does."""
+    said = otherwise(net.name, net.text.encode("latin-1"), figures.text.links, answer.name)
+    if said and not quiet:
+        jsons.note(said, tool)
 
 
 def require_batch(answer: Source, words: argparse.Namespace) -> None:
@@ -200,6 +210,8 @@ def _write_batch(reader: Reader, net: Source, batch: Source, listed: dict[str, s
     if words.second or words.paths:
         raise TextError(f"{batch.name}: is of batch, and {'--paths' if words.paths else 'a second file'} takes --matrix NAME")
     rows = summaries(reader, net, batch, listed)
+    if rows:
+        tell_links(net, batch, rows[0].figures, "report", words.quiet)
     without = [name for name in listed or () if name not in {row.matrix for row in rows}]
     sentence = batch_sentence(rows, without)
     if words.html:

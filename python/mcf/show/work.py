@@ -15,7 +15,7 @@ from ..matrices import answers, is_batch, unit_of
 from ..network import Network
 from ..program import Program
 from ..ranges import Range
-from ..report.work import Reader, Shown, Source, listed_in, matrix_of
+from ..report.work import Reader, Shown, Source, listed_in, matrix_of, tell_links
 from .lines import CERTIFICATES, Case, cases_of, kind_of_text
 
 
@@ -95,6 +95,7 @@ def _judged(reader: Reader, found: Found, file: Source) -> Found:
         if why.kind != "invalid":
             raise
         return replace(found, judged=_line(file.text, why), condition=why.code, why=str(why))
+    tell_links(found.net, file, shown.figures, "show")
     return replace(found, shown=shown, judged=shown.said)
 
 
