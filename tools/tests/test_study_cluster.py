@@ -121,6 +121,11 @@ def test_a_worker_that_is_away_for_long_gives_way_to_another_one(monkeypatch: py
         assert replaced == said, moment
 
 
+def test_rules_on_several_processes_say_nothing_but_what_was_found(tmp_path: Path, program: Program) -> None:
+    out, why = ran(tmp_path, net_file(tmp_path), "--failures", "links", "--routing", "ecmp,hops", program=program, status=1, jobs=2)
+    assert out.count("\n") == 2 and why == ""
+
+
 def test_a_client_that_is_killed_goes_on_where_it_was(tmp_path: Path, program: Program, alone: list[dict[str, str]]) -> None:
     child = started(tmp_path, program, "--jobs", "2")
     until(tmp_path, 5, child)
