@@ -284,6 +284,10 @@ def test_edits_are_kept_in_a_file_and_gone_on_with(program: Program, tmp_path: P
         assert running.bounds() == bounds and "doubled, 10 to 20 – more" in part(running.news(), "edits")
     file.write_text("set AB 20 show\nset XY 3\n")
     assert refused(program, NET, CERT, "--save", file) == (2, "", f"desk: {file}: line 2: the network has no link XY\n")
+    for word, why in (("1.5", "1.5: the numbers of this network are whole, and those of edits have to be so too"),
+                      ("17592186044416", "a capacity may be at most 17592186044416 here"), ("0,5", "'0,5' is no number")):
+        file.write_text(f"set AB 20 show\nadd AB {word}\n")
+        assert f": line 2: {why}" in refused(program, NET, CERT, "--save", file)[2]
 
 
 def test_comments_of_a_saved_file_are_not_lost(program: Program, tmp_path: Path):
@@ -318,14 +322,14 @@ def test_names_have_bytes_that_are_blanks_and_ends_of_lines_elsewhere(program: P
         running.done()
         running.post("/edit", link=AB, what="double")
         running.post("/name", edit=1, name="pour là")
-        bounds = running.bounds()
+        assert all(running.bounds())
         running.post("/failures")
         assert "Å" in part(running.news(), "failures") and "Malà" in part(running.news(), "failures")
     assert file.read_text() == "set Malà 20 show # pour là\n"
     with desk(program, net, "--save", file) as running:
         running.enter()
         running.done()
-        assert "doubled, 10 to 20 – pour là" in part(running.news(), "edits") and running.bounds()[1] >= bounds[1]
+        assert "doubled, 10 to 20 – pour là" in part(running.news(), "edits") and all(running.bounds())
 
 
 def test_files_whose_names_are_no_text(program: Program, tmp_path: Path):

@@ -6,12 +6,12 @@ import re
 from collections.abc import Mapping, Sequence
 from dataclasses import dataclass, field, replace
 from fractions import Fraction
+from typing import Protocol
 
 from ..errors import TextError
 from ..given import decimal_word, name_of
 from ..limits import MAX_SCRIPT_BYTES
 from ..network import Network
-from ..numbers import fraction_of
 from ..output import one_line
 
 NAME_LENGTH = 200
@@ -111,10 +111,24 @@ def _latin(name: str) -> str:
     return name.encode("utf-8", "replace").decode("latin-1")
 
 
-def read_script(text: str, network: Network, installed: Sequence[Fraction]) -> History:
+class Sizes(Protocol):
+    """The capacities that the program takes for a network, each refused by a TextError where it does not."""
+
+    @property
+    def installed(self) -> tuple[Fraction, ...]:
+        """Those of the file."""
+
+    def capacity_of(self, word: str) -> Fraction:
+        """That of a word."""
+
+    def require_capacity(self, value: Fraction) -> None:
+        """Refuses one that is too great."""
+
+
+def read_script(text: str, network: Network, sizes: Sizes) -> History:
     """The edits of a script, named by the comments behind and before them. TextError, with the line, where the program would refuse it."""
     history, now = History(), {link.id: at for at, link in enumerate(network.links)}
-    capacities = dict(enumerate(installed))
+    capacities = dict(enumerate(sizes.installed))
     words: list[str] = []
     comments: list[str] = []
     for number, line in enumerate(text.split("\n"), 1):
@@ -122,7 +136,10 @@ def read_script(text: str, network: Network, installed: Sequence[Fraction]) -> H
         count = len(history.done)
         words += _WORD.findall(front)
         while words and (command := _whole(words, number)):
-            _apply(command, now, capacities, history, number)
+            try:
+                _apply(command, now, capacities, history, sizes)
+            except TextError as why:
+                raise TextError(f"line {number}: {why}") from None
         comments += [clean] if (clean := comment.strip(_BLANKS)) else []
         if len(history.done) > count:
             _name(history, comments)
@@ -152,21 +169,19 @@ def _whole(words: list[str], line: int) -> list[str] | None:
     return command
 
 
-def _apply(command: list[str], links: Mapping[str, int], capacities: dict[int, Fraction], history: History, line: int) -> None:
-    """Does a command of a script."""
+def _apply(command: list[str], links: Mapping[str, int], capacities: dict[int, Fraction], history: History, sizes: Sizes) -> None:
+    """Does a command of a script; TextError where the program would not."""
     what, *rest = command
     if what == "show":
         return
     if rest[0] not in links:
-        raise TextError(f"line {line}: the network has no link {name_of(rest[0])[:80]}")
+        raise TextError(f"the network has no link {name_of(rest[0])[:80]}")
     link = links[rest[0]]
     before = capacities[link]
-    try:
-        value = fraction_of(rest[1]) if len(rest) > 1 else Fraction(0)
-    except TextError as why:
-        raise TextError(f"line {line}: {why}") from None
+    value = sizes.capacity_of(rest[1]) if len(rest) > 1 else Fraction(0)
     after = {"set": value, "add": before + value, "sub": before - value, "close": Fraction(0)}[what]
     if after < 0:
-        raise TextError(f"line {line}: sub of more than the capacity of {name_of(rest[0])[:80]}")
+        raise TextError(f"sub of more than the capacity of {name_of(rest[0])[:80]}")
+    sizes.require_capacity(after)
     capacities[link] = after
     history.add(link, "close" if after == 0 else "double" if after == 2 * before else "set", before, after)

@@ -106,6 +106,6 @@ def _history(request: Request, ground: Ground) -> History:
     if not Path(request.save).exists():
         return History()
     try:
-        return read_script(contents(request.save).decode("latin-1"), ground.network, ground.installed)
+        return read_script(contents(request.save).decode("latin-1"), ground.network, ground)
     except TextError as why:
         raise why.led(f"{request.save}: ") from None
