@@ -36,7 +36,8 @@ def number_of(value: object, what: str, most: int = MAX_UNITS) -> Fraction:
     if (exact * MILLION).denominator != 1:
         raise ValueError(f"{what}: {brief(value)} has more than {MAX_DECIMALS} decimals; round it, or give all numbers in a smaller unit")
     if exact > most:
-        raise ValueError(f"{what}: {brief(value)} is more than {most}; give all numbers in a greater unit")
+        mend = "; give all numbers in a greater unit" if most == MAX_UNITS else ""
+        raise ValueError(f"{what}: {brief(value)} is more than {most}{mend}")
     return exact
 
 
