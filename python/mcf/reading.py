@@ -9,7 +9,7 @@ from typing import Any
 
 from .commands import ask
 from .convert import native
-from .convert.model import Notes
+from .convert.model import Notes, elsewhere
 from .convert.model import Refused as NoNetwork
 from .convert.numbers import UNITS
 from .convert.work import Task, convert
@@ -93,7 +93,7 @@ def _mode(path: str, data: bytes) -> str:
 def _by_options(sentence: str) -> str:
     """What the converter says, with the words of its command line as the options of `mcf.read`."""
     named = _TOOL_WORD.sub(lambda word: word[1].replace("-", "_") + ("=" if word[2] else ""), sentence)
-    return named.replace(" (--from FORMAT says which it is)", "")
+    return elsewhere(named.replace(" (--from FORMAT says which it is)", ""))
 
 
 def _converted(paths: list[str], options: dict[str, Any]) -> tuple[bytes, tuple[str, ...], bool]:

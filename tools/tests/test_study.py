@@ -717,6 +717,16 @@ def test_a_matrix_that_cannot_be_is_refused_by_its_line(tmp_path: Path, program:
     assert said in ran(tmp_path, net_file(tmp_path), "--matrices", "m.list", program=program, status=2)[1]
 
 
+def test_options_of_the_converter_are_called_so(tmp_path: Path) -> None:
+    """A study has no --decimal-comma, and a notebook neither."""
+    (tmp_path / "m.csv").write_text("source;target;amount\nA;B;1,5\n")
+    (tmp_path / "l.csv").write_text("source;target;capacity\nA;B;1,5\n")
+    with pytest.raises(TextError, match="m.csv line 2: amount: '1,5' .* .tools/convert --decimal-comma reads 1,5 as 1.5.$"):
+        _matrices_of(tmp_path / "m.csv")
+    with pytest.raises(mcf.Refused, match=".tools/convert --decimal-comma reads 1,5 as 1.5.$"):
+        mcf.read(tmp_path / "l.csv")
+
+
 def test_a_matrix_that_stands_in_two_files_is_refused(tmp_path: Path, program: Program) -> None:
     for name in ("a.list", "b.list"):
         (tmp_path / name).write_text("one (\n  D ( A B ) 1 4 UNLIMITED\n)\n")

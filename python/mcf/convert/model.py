@@ -3,6 +3,7 @@
 from __future__ import annotations
 
 import io
+import re
 import sys
 from dataclasses import dataclass, field
 from fractions import Fraction
@@ -11,9 +12,16 @@ from typing import TextIO
 from ..errors import TextError
 from ..output import one_line
 
+_OWN = re.compile(r"(?<!tools/convert )--(?=(?:bytes|columns|decimal-comma|from|unit)\b(?!-))")
+
 
 class Refused(TextError):
     """Why there is no answer, in one line for people."""
+
+
+def elsewhere(sentence: str) -> str:
+    """What is said of a file, for those who have not the converter's own options: it is named with them."""
+    return _OWN.sub("tools/convert --", sentence)
 
 
 class Spot(str):

@@ -21,7 +21,7 @@ from ..convert import assemble, files, native
 from ..convert.adjust import Changes, adjusted
 from ..convert.model import Matrix as Read
 from ..convert.model import Network as Written
-from ..convert.model import Notes, Refused, Source
+from ..convert.model import Notes, Refused, Source, elsewhere
 from ..convert.numbers import is_fine, plain
 from ..convert.work import Task, in_one_unit, read_bytes
 from ..errors import TextError
@@ -165,6 +165,14 @@ def in_numbers(name: str) -> list[tuple[int, str]]:
 
 
 def _of_file(path: str, data: bytes, many: bool, base: Source, how: How, told: Told) -> Iterator[tuple[Matrix, str]]:
+    """The matrices of a file with their rows; options of the converter in a refusal are called so, since a study has them not."""
+    try:
+        yield from _read(path, data, many, base, how, told)
+    except Refused as why:
+        raise TextError(elsewhere(str(why))).at(why.file, why.line, kind=why.kind, code=why.code) from None
+
+
+def _read(path: str, data: bytes, many: bool, base: Source, how: How, told: Told) -> Iterator[tuple[Matrix, str]]:
     """The matrices of a file with their rows; what is no matrix at all is left out where it is among others, which is said."""
     said = StringIO()
     notes = Notes(said)
