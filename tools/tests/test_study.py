@@ -118,7 +118,7 @@ def test_a_lost_node_takes_its_links_and_its_own_demands() -> None:
 @pytest.mark.parametrize("text, said", [
     ("group,link\nG,XY\n", "line 2: the network has no link 'XY'"), ("group,node\nG,XY\n", "line 2: the network has no node 'XY'"),
     ("group\nG\n", "line 1: the columns are group and link or node, and not group"), ("group,link\n,AB\n", "line 2: a group and a link or a node are due"),
-    ("group,link\nG,AB,AC\n", "line 2: 3 columns")])
+    ("group,link\nG,AB,AC\n", "line 2: 3 columns"), ("group,link\n", "has no rows behind its head")])
 def test_a_table_of_groups_is_read_or_refused_by_its_line(tmp_path: Path, text: str, said: str) -> None:
     (tmp_path / "g.csv").write_text(text)
     with pytest.raises(TextError, match=said):
@@ -128,6 +128,7 @@ def test_a_table_of_groups_is_read_or_refused_by_its_line(tmp_path: Path, text: 
 @pytest.mark.parametrize("text, said", [
     ("scenario,link,capacity\nS,AB,-1\n", "line 2: capacity: '-1' is no number"), ("scenario,link,capacity\nS,ZZ,1\n", "line 2: the network has no link 'ZZ'"),
     ("scenario,link,capacity\nS,AB,1\nS,AB,2\n", "line 3: scenario S gives link AB two capacities"),
+    ("scenario,link,capacity\n", "has no rows behind its head"), ("scenario;link;capacity\nS;AB;1,5\n", "tools/convert --decimal-comma reads 1,5 as 1.5"),
     ("scenario,link,capacity\nS,AB,0.1234567\n", "line 2: capacity 0.1234567 has more than 6 decimals")])
 def test_a_table_of_changes_is_read_or_refused_by_its_line(tmp_path: Path, text: str, said: str) -> None:
     (tmp_path / "c.csv").write_text(text)

@@ -8,7 +8,7 @@ from functools import cached_property
 from itertools import combinations
 
 from ..convert import files, tables
-from ..convert.model import Notes
+from ..convert.model import Notes, Refused, elsewhere
 from ..convert.numbers import Unit, is_fine, plain, rate
 from ..errors import TextError
 from ..given import name_of
@@ -129,7 +129,10 @@ def capacities(kind: str, name: str, given: Mapping[str, str]) -> Change:
 
 def _capacity(word: str, what: str, unit: Unit) -> str:
     """The shortest decimal of a capacity."""
-    value = rate(word, f"{what}: capacity", unit)
+    try:
+        value = rate(word, f"{what}: capacity", unit)
+    except Refused as why:
+        raise TextError(elsewhere(str(why))).at(why.file, why.line) from None
     if not is_fine(value):
         raise TextError(f"{what}: capacity {plain(value)} has more than {MAX_DECIMALS} decimals")
     if value > MAX_UNITS:
@@ -154,6 +157,8 @@ def _rows(path: str, due: tuple[str, ...], other: tuple[str, ...]) -> Rows:
     if lost or unknown or len(set(head)) < len(head):
         what = f"{files.label(path)} line 1: the columns are {', '.join(due)}{' and ' if other else ''}{' or '.join(other)}"
         raise TextError(f"{what}, and not {', '.join(head) or 'none'}")
+    if len(rows) == 1:
+        raise TextError(f"{files.label(path)}: has no rows behind its head")
     return [(line, dict(zip(head, map(_letters, words)))) for line, words in rows[1:]]
 
 
