@@ -109,6 +109,9 @@ def test_tools_has_launchers_and_no_code(root: Path) -> None:
 def test_each_tool_is_a_module_with_a_main(root: Path) -> None:
     assert modules_of(root, "cli") == [f"mcf.cli.{name}" for name in TOOLS]
     assert all(callable(importlib.import_module(f"mcf.cli.{name}").main) for name in TOOLS)
+    project = tomllib.loads((root / "python/pyproject.toml").read_text("utf-8"))["project"]
+    # (a release is made in the repository alone)
+    assert project["scripts"] == {f"mcf-{name}": f"mcf.cli.{name}:main" for name in TOOLS if name != "release"}
     project = tomllib.loads((root / "python/pyproject.toml").read_text())["project"]
     for name, entry in project["scripts"].items():
         module, _, function = entry.partition(":")
