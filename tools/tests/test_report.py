@@ -318,6 +318,7 @@ def test_percents_rounded_down_are_never_more_and_never_nothing(value: Fraction,
 def test_amounts_and_decimals():
     assert [shown.amount(Fraction(x)) for x in ("1234567.5", "0.0004", "0", "0.00006251", "3", "2.0006")] == [
         "1,234,567.5", "0.0004", "0", "0.000063", "3", "2.001"]
+    assert [shown.amount_carried(Fraction(x)) for x in ("3200/310", "0.0019", "0.00006259", "5")] == ["10.322", "0.001", "0.000062", "5"]
     assert [shown.decimal(Fraction(x)) for x in ("-0.0000004", "-1.5", "1/3")] == ["0.000000", "-1.500000", "0.333333"]
 
 

@@ -60,28 +60,38 @@ def joined(text: str) -> str:
 
 def amount(value: Fraction) -> str:
     """A load or a capacity with at most three decimals, or by its first two digits where it is less than a thousandth and not nothing."""
-    places = 3
-    while 0 < value * 1000 < 1 and value * 10 ** (places - 1) < 1:
-        places += 1
-    number = (value * 10**places + Fraction(1, 2)).__floor__()
-    rest = f"{number % 10**places:0{places}d}".rstrip("0")
-    return f"{number // 10**places:,}.{rest}" if rest else f"{number // 10**places:,}"
+    places = _places(value)
+    return _plain((value * 10**places + Fraction(1, 2)).__floor__(), places)
+
+
+def amount_carried(value: Fraction) -> str:
+    """What is carried, with as many decimals, rounded down."""
+    places = _places(value)
+    return _plain((value * 10**places).__floor__(), places)
 
 
 def amount_down(value: Fraction) -> str:
     """An amount with at most six decimals, rounded down."""
-    return _millionths((value * 10**6).__floor__())
+    return _plain((value * 10**6).__floor__(), 6)
 
 
 def amount_up(value: Fraction) -> str:
     """An amount with at most six decimals, rounded up."""
-    return _millionths((value * 10**6).__ceil__())
+    return _plain((value * 10**6).__ceil__(), 6)
 
 
-def _millionths(number: int) -> str:
-    """A number of millionths, with commas between thousands."""
-    rest = f"{number % 10**6:06d}".rstrip("0")
-    return f"{number // 10**6:,}.{rest}" if rest else f"{number // 10**6:,}"
+def _places(value: Fraction) -> int:
+    """How many decimals a load or a capacity has at most."""
+    places = 3
+    while 0 < value * 1000 < 1 and value * 10 ** (places - 1) < 1:
+        places += 1
+    return places
+
+
+def _plain(number: int, places: int) -> str:
+    """A number of parts of so many decimals, with commas between thousands, and without zeros behind."""
+    rest = f"{number % 10**places:0{places}d}".rstrip("0")
+    return f"{number // 10**places:,}.{rest}" if rest else f"{number // 10**places:,}"
 
 
 def decimal(value: Fraction, places: int = 6) -> str:

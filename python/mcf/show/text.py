@@ -11,7 +11,7 @@ from ..output import one_line
 from ..ranges import Answer, Range, fits
 from ..report.figures import Figures
 from ..report.sentences import growth, verdict
-from ..report.shown import amount, counted, name, percent
+from ..report.shown import amount, amount_carried, counted, name, percent
 from .lines import Case
 from .work import Found
 
@@ -135,7 +135,7 @@ def _links(figures: Figures) -> Table:
 def _demands(figures: Figures) -> Table:
     """The demands of a certificate or a routing: what is carried within all capacities."""
     part = Fraction(1) if figures.is_total else figures.lower
-    rows = [[_shown(one.demand), _shown(one.source), _shown(one.target), amount(one.amount), amount(one.amount * one.carried * part),
+    rows = [[_shown(one.demand), _shown(one.source), _shown(one.target), amount(one.amount), amount_carried(one.amount * one.carried * part),
              str(len(one.paths)), str(one.most_links)] for one in figures.demands]  # fmt: skip
     return ("demand", "source", "target", "amount", "carried", "paths", "most links"), rows
 
