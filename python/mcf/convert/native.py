@@ -115,7 +115,7 @@ def links_of(path: str, data: bytes) -> str | None:
         raise refused(Spot(path, 1), f"{NATIVE.decode()} is due")
     source = Source(path, "native", native=True)
     text = tokens(path, data.partition(b"\n")[2], 2)
-    behind = b"META" in data.partition(SECTIONS[0].encode())[2]
+    behind = data.find(b"META", data.find(SECTIONS[0].encode())) >= 0
     for _ in _sections(text, source, Notes(quiet=True)):
         if not behind:
             break
