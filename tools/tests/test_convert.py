@@ -171,6 +171,12 @@ def test_a_unit_for_files_that_say_none_is_said_to_mean_nothing_where_all_say_th
     assert "note: small.graph says its unit, so --from-unit means nothing" in said
 
 
+def test_behind_two_dashes_all_words_are_files(tmp_path: Path):
+    (tmp_path / "-x.net").write_text((EXAMPLES / "one-link.net").read_text())
+    done = subprocess.run([CONVERT, "--to", "links", "--", "-x.net", "-"], capture_output=True, cwd=tmp_path, text=True, check=False)
+    assert done.returncode == 0 and done.stdout.splitlines()[1] == "L1,A,B,10,0,0,0,"
+
+
 def test_the_head_of_a_column_that_is_not_read_says_no_unit(tmp_path: Path):
     table = tmp_path / "modules.csv"
     table.write_text("source,target,modules,traffic (Mbit/s)\nA,B,1 5 4 7,3\n")
@@ -185,7 +191,11 @@ def test_the_corner_of_a_square_has_the_unit_of_its_numbers(tmp_path: Path):
     square.write_text("Mbit/s,A,B\nA,0,250\nB,1.5G,0\n")
     text, said = convert(links, square, "-", "--to", "net")
     assert [row.split()[6] for row in rows(text, "DEMANDS")] == ["0.25", "1.5"]
-    assert f"read: {square}: numbers of column 'Mbit/s' in Mbit/s, as its head says" in said
+    assert f"read: {square}: numbers in Mbit/s, as the corner says" in said
+    links.write_text("source,target,capacity (Gbit/s)\nA,B,10\n")
+    assert refusal(links, square, "-", "--to", "net", "--from-unit", "Tbit").endswith("column 'capacity (Gbit/s)' says its unit, and --from-unit another one")
+    square.write_text("MB/s,A,B\nA,0,250\nB,1.5G,0\n")
+    assert "the corner 'MB/s' is of bytes" in refusal(links, square, "-", "--to", "net")
 
 
 def test_a_unit_that_is_not_known_is_named_where_no_other_is(tmp_path: Path):
@@ -234,7 +244,7 @@ def test_csv_links_and_a_square():
         "Utrecht-Zwolle ( Utrecht Zwolle ) 1 10.25 UNLIMITED",
         "Zwolle-Den_Haag ( Zwolle Den_Haag ) 1 5 UNLIMITED",
     ]
-    assert said == ["dropped: links.csv: column owner", "renamed: node 'Den Haag' is Den_Haag"]
+    assert said == ["dropped: links.csv: column owner", "read: square.csv: numbers in Mbit, as the corner says", "renamed: node 'Den Haag' is Den_Haag"]
 
 
 def test_csv_of_hours_becomes_a_list():

@@ -59,7 +59,7 @@ class Unit:
 
 @dataclass(frozen=True)
 class Form:
-    """How the numbers of files that leave it open are to be read; `said` is the head of a column that says their unit."""
+    """How the numbers of files that leave it open are to be read; `said` is the unit that the head says that is at `where`, if one does."""
 
     unit: Unit = Unit()
     columns: dict[str, str] = field(default_factory=dict)
@@ -67,6 +67,7 @@ class Form:
     capacity: str | None = None
     missing: str | None = None
     said: str = ""
+    where: str = ""
 
 
 def rate(word: str, what: str, unit: Unit, comma: bool = False) -> Fraction:

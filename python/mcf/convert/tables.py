@@ -169,8 +169,8 @@ def read(path: str, text: str, notes: Notes, form: Form) -> Source:
         if _kind(table.place):
             what = f"this may be a square of nodes or a table of {_kind(table.place)} (--columns makes it a table)"
             raise refused(Spot(path, line), what)
-        form = _form_of(path, head[0], form, notes)
-        return replace(_square(path, line, head, rows[1:], form), said=form.said)
+        form = _form_of(path, head[0], form, notes, corner=True)
+        return replace(_square(path, line, head, rows[1:], form), said=form.where)
     if "id" not in named and _is_demand_the_id(head, table.place):
         table.place = _places(head, named | {"amount": head[table.place["id"]]})
         _tell_amounts(head, table, notes)
@@ -179,7 +179,7 @@ def read(path: str, text: str, notes: Notes, form: Form) -> Source:
         raise refused(Spot(path, line), f"two columns are named {told(double)}")
     column = table.place.get(RATES.get(_kind(table.place), ""))
     table.form = form if column is None else _form_of(path, head[column], form, notes)
-    return replace(_read_by_columns(head, table, notes), columns=tuple(head), said=table.form.said)
+    return replace(_read_by_columns(head, table, notes), columns=tuple(head), said=table.form.where)
 
 
 def _read_by_columns(head: list[str], table: Table, notes: Notes) -> Source:
@@ -225,16 +225,17 @@ def _lower(word: str) -> str:
     return word.lower().replace(" ", "_").replace("-", "_")
 
 
-def _form_of(path: str, head: str, form: Form, notes: Notes) -> Form:
+def _form_of(path: str, head: str, form: Form, notes: Notes, corner: bool = False) -> Form:
     """How numbers are read whose column, or square, has that head: plain ones in the unit that it says, if it says one."""
     word = of_head(head)[1]
     unit = unit_of(word)
     if unit is None:
         return form
+    where = f"{'the corner' if corner else 'column'} {told(head)}"
     if unit.is_of_bytes and not form.unit.bytes:
-        raise Refused(f"{path}: column {told(head)} is of bytes: --bytes reads each of them as eight bits").at(path)
-    notes.say("read", f"{path}: numbers of column {told(head)} in {word}, as its head says")
-    return replace(form, unit=Unit(Fraction(unit.bits), True, form.unit.bytes), said=head)
+        raise Refused(f"{path}: {where} is of bytes: --bytes reads each of them as eight bits").at(path)
+    notes.say("read", f"{path}: numbers in {word}, as the corner says" if corner else f"{path}: numbers of {where} in {word}, as its head says")
+    return replace(form, unit=Unit(Fraction(unit.bits), True, form.unit.bytes), said=word, where=where)
 
 
 def _is_demand_the_id(head: list[str], place: dict[str, int]) -> bool:
@@ -291,7 +292,7 @@ def _capacity(table: Table, at: int, row: list[str], notes: Notes) -> Fraction |
     missing = table.form.missing
     if not missing:
         return None
-    unit = f" {of_head(table.form.said)[1]}" if table.form.said and NUMBER.fullmatch(missing) else ""
+    unit = f" {table.form.said}" if table.form.said and NUMBER.fullmatch(missing) else ""
     notes.say("added", f"{table.path} line {at}: no capacity, which becomes {missing}{unit}")
     return rate(missing, Spot(table.path, at, "capacity"), table.form.unit, table.form.comma)
 

@@ -15,7 +15,6 @@ from .edits import TIMES_DEMAND, Edit, edited
 from .gravity import with_gravity
 from .model import Network, Notes, Refused, Source
 from .numbers import UNITS, Form, Unit
-from .words import told
 
 FORMATS = ("native", "list", "xml", "graphml", "graph", "demands", "csv")
 TARGETS = ("net", "list", "graphml", "links", "nodes", "demands")
@@ -189,7 +188,7 @@ def _require_unsaid(sources: list[Source], given: Fraction, notes: Notes) -> Non
     if all(source.said or _says_unit(source) for source in sources):
         other = next((source for source in sources if source.bits != given), None)
         if other and other.said:
-            raise Refused(f"{other.path}: column {told(other.said)} says its unit, and --from-unit another one").at(other.path)
+            raise Refused(f"{other.path}: {other.said} says its unit, and --from-unit another one").at(other.path)
         if other:
             notes.say("note", f"{other.path} says its unit, so --from-unit means nothing")
 
