@@ -441,6 +441,11 @@ def test_with_json_the_end_is_one_object(program: Program):
     assert json.loads(out)["error"] == {"kind": "interrupted", "code": None, "file": None, "line": None, "sentence": "interrupted"}
 
 
+@pytest.mark.parametrize("word, why", [("x", "'x' is no number"), ("1001", "1001 is no whole number of millionths up to 1000"), ("0,1", "'0,1' is no number")])
+def test_a_gap_that_is_none_is_refused_before_anything_is_shown(program: Program, word: str, why: str):
+    assert refused(program, NET, "--gap", word) == (2, "", f"desk: argument --gap: {why} (desk --help has the words)\n")
+
+
 def test_a_port_that_is_taken_is_told_in_one_line(program: Program):
     with desk(program, NET, CERT) as running:
         status, out, err = refused(program, NET, CERT, "--port", str(running.port))

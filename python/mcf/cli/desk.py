@@ -23,6 +23,7 @@ import os
 from typing import NoReturn
 
 from mcf.arguments import Arguments
+from mcf.asked import millionths
 from mcf.errors import TextError
 from mcf.needs import needed
 from mcf.output import main_of
@@ -38,6 +39,12 @@ def port(word: str) -> int:
     return int(word)
 
 
+def gap(word: str) -> str:
+    """A gap that the program takes, as it was written."""
+    millionths(word)
+    return word
+
+
 def options() -> Arguments:
     """The grammar of the words."""
     parser = Arguments("desk", __doc__)
@@ -46,7 +53,7 @@ def options() -> Arguments:
     parser.add_argument("--save", metavar="FILE", help="keep the edits there, as a script of mcf whatif; go on with those that it has")
     parser.add_argument("--links", choices=LINKS, help="how links are read, where the network is solved first (as the file says, else undirected)")
     parser.add_argument("--modules", choices=MODULES, help="which modules count, likewise (largest)")
-    parser.add_argument("--gap", metavar="G", help="the gap of the first solve; that of the program without it")
+    parser.add_argument("--gap", type=gap, metavar="G", help="the gap of the first solve; that of the program without it")
     parser.add_argument("--port", type=port, default=0, metavar="N", help="the port (one that is free)")
     parser.add_argument("--no-browser", action="store_true", help="do not open the address in a browser")
     parser.add_argument("--title", help="the page's title; the network's file name without it")
