@@ -911,6 +911,10 @@ def test_a_notebook_has_the_options_of_the_command(program: Program, tmp_path: P
     assert len(frame) == 1 and frame["lower"][0] == Fraction(1000, 12)
     for words, said in (({"paths": 0}, "paths: 0 is not from 1 to 1000"), ({"lengths": "miles"}, "lengths: 'miles' is none of hops"),
                         ({"cost": "x"}, "cost: 'x' is none of routing"), ({"modules": "all"}, "modules: 'all' is none of"),
+                        ({"matrices": {1: {("A", "B"): 1}, "1": {("A", "B"): 2}}}, "matrix '1': another one has that name too"),
+                        ({"groups": {1: ["AB"], "1": ["AC"]}}, "group '1': another one has that name too"),
+                        ({"changes": {1: {"AB": 1}, 1.0: {"AB": 1}, "1": {"AB": 2}}}, "change '1': another one has that name too"),
+                        ({"matrices": {"m": {("A", "X"): 1}}}, "matrix 'm': demand 'A-X': 'X' is no node"),
                         ({"jobs": 0}, "jobs: 0 is less than 1"), ({"seconds": float("nan")}, "seconds: nan is no number"),
                         ({"round": 7}, "round: 7 is not from 0 to 6"), ({"jobs": 2, "scheduler": "tcp://x:1"}, "a scheduler has its own workers"),
                         ({"links": "both"}, "links: 'both' is none of"), ({"matrices": [tmp_path / "m.list"], "from_unit": "mile"}, "'mile' is none of")):

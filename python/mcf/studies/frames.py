@@ -7,10 +7,10 @@ import os
 import tempfile
 from collections.abc import Iterable, Mapping, Sequence
 from fractions import Fraction
-from typing import TYPE_CHECKING, Any
+from typing import TYPE_CHECKING, Any, TypeVar
 
 from ..commands import program_path
-from ..given import Number, decimal_word, number_of, word_of
+from ..given import Number, decimal_word, name_of, number_of, word_of
 from ..limits import MAX_DECIMALS
 from ..needs import needed
 from ..network import Network as Rows
@@ -25,6 +25,8 @@ if TYPE_CHECKING:
     import pandas
 
     from .store import Store
+
+_Value = TypeVar("_Value")
 
 
 def study(network: Network | Path, matrices: Mapping[str, Any] | Sequence[Path] | Path = (), *, failures: Iterable[str] | str = (),
@@ -128,10 +130,24 @@ def _matrices(network: Network, given: Mapping[str, Any] | Sequence[Path] | Path
         paths = [given] if isinstance(given, (str, os.PathLike)) else given
         return read([os.fspath(path) for path in paths], network, How(from_unit, decimals), store)
     found = []
-    for name, demands in given.items():
-        rows = demand_rows(network.with_demands(demands).rows.demands)
-        found.append(Matrix(word_of(name, "matrix"), digest_of(rows)))
+    for word, demands in _by_word(given, "matrix").items():
+        try:
+            rows = demand_rows(network.with_demands(demands).rows.demands)
+        except ValueError as why:
+            raise ValueError(f"matrix {name_of(word)!r}: {why}") from None
+        found.append(Matrix(word, digest_of(rows)))
         store.keep_texts([(found[-1].digest, rows)])
+    return found
+
+
+def _by_word(given: Mapping[str, _Value], what: str) -> dict[str, _Value]:
+    """What is given by names, by their words; ValueError where two names have one."""
+    found: dict[str, _Value] = {}
+    for name, value in given.items():
+        word = word_of(name, what)
+        if word in found:
+            raise ValueError(f"{what} {name!r}: another one has that name too")
+        found[word] = value
     return found
 
 
@@ -140,10 +156,10 @@ def _changes(network: Network, mode: str, failures: Iterable[str] | str, togethe
     """All changes."""
     rows, pairs = network.rows, Fibres(network.rows, fibres)
     pairs.require(mode)
-    more = groups(rows, {word_of(name, "group"): _members(rows, name, members) for name, members in (together or {}).items()}, pairs)
-    for name, sizes in (other or {}).items():
+    more = groups(rows, {word: _members(rows, name_of(word), members) for word, members in _by_word(together or {}, "group").items()}, pairs)
+    for word, sizes in _by_word(other or {}, "change").items():
         known = network._numbers(sizes, [link.id for link in rows.links], "link")
-        more.append(capacities("change", word_of(name, "change"), {link: size for first, size in known.items() for link in pairs.all_of([first])}))
+        more.append(capacities("change", word, {link: size for first, size in known.items() for link in pairs.all_of([first])}))
     return all_changes(rows, _known(failures, FAILURES, "failures"), more, pairs, intact)
 
 
