@@ -734,6 +734,19 @@ def test_a_matrix_that_stands_in_two_files_is_refused(tmp_path: Path, program: P
     assert ran(tmp_path, net_file(tmp_path), "--matrices", "a.list", "b.list", program=program, status=2)[1] == "study: matrix one stands in a.list and in b.list\n"
 
 
+def test_longest_paths_that_no_routing_keeps_to_are_said(tmp_path: Path, program: Program, monkeypatch: pytest.MonkeyPatch,
+                                                         capsys: pytest.CaptureFixture[str]) -> None:
+    net = net_file(tmp_path, TRIANGLE.replace("8 UNLIMITED", "8 1"))
+    (tmp_path / "m.list").write_text("one (\n  D ( A B ) 1 4 2\n  E ( A C ) 1 4 2\n)\ntwo (\n  D ( A B ) 1 4 2\n)\n")
+    said = "longest: {} a longest path, which no routing of a study keeps to"
+    assert ran(tmp_path, net, program=program, status=0)[1] == f"study: {said.format('1 demand has')}\n"
+    why = ran(tmp_path, net, "--matrices", "m.list", program=program, status=0)[1]
+    assert why == f"study: {said.format('matrix one: 2 demands have')} (and 1 more)\n"
+    monkeypatch.setenv("MCF", program.path)
+    mcf.study(net, jobs=1, progress=False)
+    assert capsys.readouterr().err == f"study: {said.format('1 demand has')}\n"
+
+
 def test_amounts_are_rounded_where_that_is_asked_for(tmp_path: Path, program: Program) -> None:
     (tmp_path / "m.list").write_text("one (\n  D ( A B ) 1 0.1234567 UNLIMITED\n)\n")
     text, why = ran(tmp_path, net_file(tmp_path), "--matrices", "m.list", "--round", "2", "--csv", "-", program=program)

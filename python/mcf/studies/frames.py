@@ -120,23 +120,23 @@ def _store(path: str) -> Store:
 def _matrices(network: Network, given: Mapping[str, Any] | Sequence[Path] | Path, from_unit: str | None, decimals: int | None,
               store: Store) -> list[Matrix]:
     """The matrices, whose texts are kept in the store."""
-    from .matrices import How, own
-    from .tool import read
+    from .matrices import How, Told
+    from .tool import own_demands, read, tell
     if not given:
-        matrix, rows = own(network.rows)
-        store.keep_texts([(matrix.digest, rows)])
-        return [matrix]
+        return own_demands(network, store)
     if not isinstance(given, Mapping):
         paths = [given] if isinstance(given, (str, os.PathLike)) else given
         return read([os.fspath(path) for path in paths], network, How(from_unit, decimals), store)
-    found = []
+    found, told = [], Told()
     for word, demands in _by_word(given, "matrix").items():
         try:
             rows = demand_rows(network.with_demands(demands).rows.demands)
         except ValueError as why:
             raise ValueError(f"matrix {name_of(word)!r}: {why}") from None
         found.append(Matrix(word, digest_of(rows)))
+        told.take_limits(found[-1], rows)
         store.keep_texts([(found[-1].digest, rows)])
+    tell(told)
     return found
 
 

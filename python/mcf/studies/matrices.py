@@ -25,8 +25,10 @@ from ..convert.model import Notes, Refused, Source, elsewhere
 from ..convert.numbers import is_fine, plain
 from ..convert.work import Task, in_one_unit, read_bytes
 from ..errors import TextError
+from ..given import name_of
 from ..limits import MAX_DECIMALS
 from ..network import Network
+from ..report.shown import counted
 from .scenarios import Matrix, demand_rows, digest_of
 
 _STAMP = re.compile(r"(?<!\d)(\d{4})-?(\d{2})-?(\d{2})(?:[T_ -]?(\d{2})[:-]?(\d{2})(?:[:-]?(\d{2}))?)?(?!\d)")
@@ -60,6 +62,14 @@ class Told:
         """The lines."""
         more = {verb: f" (and {count - 1:,} more)" if count > 1 else "" for verb, count in self.counts.items()}
         return tuple(line + more[verb] for verb, line in self.first.items())
+
+
+    def take_limits(self, matrix: Matrix, rows: str) -> None:
+        """Takes that demands have a longest path, if some have."""
+        count = rows.count("\n") - rows.count(" UNLIMITED\n")
+        of = f"matrix {name_of(matrix.name)}: " if matrix.name else ""
+        have = counted(count, "demand has a longest path", "demands have a longest path")
+        self.take(f"longest: {of}{have}, which no routing of a study keeps to\n" if count else "")
 
 
 def own(network: Network) -> tuple[Matrix, str]:
@@ -193,7 +203,9 @@ def _read(path: str, data: bytes, many: bool, base: Source, how: How, told: Told
     network = adjusted(network, Changes(decimals=how.decimals), notes) if how.decimals is not None else network
     for matrix in network.matrices:
         rows = _rows(path, matrix)
-        yield Matrix(_letters(matrix.name), digest_of(rows), _stamp(time) or _stamp(matrix.name)), rows
+        made = Matrix(_letters(matrix.name), digest_of(rows), _stamp(time) or _stamp(matrix.name))
+        told.take_limits(made, rows)
+        yield made, rows
     told.take("".join(f"{line}\n" for line in said.getvalue().splitlines() if not line.startswith(("dropped: " + path + ": META", "note: "))))
 
 

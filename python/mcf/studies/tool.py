@@ -92,10 +92,24 @@ def _tell_links(path: str, network: Network) -> None:
 def _matrices(words: Words, network: Network, store: Store) -> list[Matrix]:
     """The matrices, which go into the store; the network's own demands where no others are asked for."""
     if not words.matrices:
-        matrix, rows = own(network.rows)
-        store.keep_texts([(matrix.digest, rows)])
-        return [matrix]
+        return own_demands(network, store)
     return read(words.matrices, network, How(words.from_unit, words.round), store)
+
+
+def own_demands(network: Network, store: Store) -> list[Matrix]:
+    """The network's own demands, whose text goes into the store."""
+    told = Told()
+    matrix, rows = own(network.rows)
+    told.take_limits(matrix, rows)
+    store.keep_texts([(matrix.digest, rows)])
+    tell(told)
+    return [matrix]
+
+
+def tell(told: Told) -> None:
+    """Says what is noted of matrices."""
+    for line in told.lines():
+        say(line)
 
 
 def read(paths: Sequence[str], network: Network, how: How, store: Store) -> list[Matrix]:
@@ -104,8 +118,7 @@ def read(paths: Sequence[str], network: Network, how: How, store: Store) -> list
         raise TextError(f"from-unit: {how.from_unit!r} is none of {', '.join(UNITS)}")
     told = Told()
     found = read_matrices(paths, network.data, how, lambda key, rows: store.keep_texts([(key, rows)]), told)
-    for line in told.lines():
-        say(line)
+    tell(told)
     return found
 
 
