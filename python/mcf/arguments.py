@@ -23,7 +23,7 @@ class Arguments(argparse.ArgumentParser):
         # (`jsons` looks for it among the words before they are read, since what is wrong with them is told in the object too)
         self.add_argument(jsons.OPTION, action=_Nothing, nargs=0, help="say all as one JSON object on standard output (docs/study/json.md)")
 
-    def parse_intermixed_args(self, args: Sequence[str] | None = None, namespace: argparse.Namespace | None = None) -> argparse.Namespace:  # type: ignore[override]
+    def parse_intermixed_args(self, args: Sequence[str] | None = None, namespace: argparse.Namespace | None = None) -> argparse.Namespace:
         """Options may stand among the words; behind `--`, which Python's way of mixing them does not know, there are none."""
         words = sys.argv[1:] if args is None else args
         return self.parse_args(words, namespace) if "--" in words else super().parse_intermixed_args(words, namespace)
