@@ -78,12 +78,13 @@ def certified() -> int:
     require_output(output, [given.net, *filter(None, [given.start])])
     if given.form == "trees" and (given.start or given.kind != "solve"):
         raise TextError("--form trees is for --kind solve alone, and begins from no paths")
+    program = find_program(given.mcf)
     name = STANDARD_INPUT if given.net == "-" else given.net
     with as_files(given.net, *filter(None, [given.start])) as files:
         given.net, given.start = files[0], files[1] if given.start else None
         if not given.links and not given.start:
             given.links = _links(name, given.net)
-        result = _result(given, output)
+        result = _result(program, given, output)
     jsons.put(kind=given.kind, output=output, judged=result.line, closed=result.closed, bounds=result.judged.range,
               gap=lambda: true_gap(*astuple(result.judged.range)), wanted=Fraction(result.wanted, 10**6), trouble=result.trouble,
               left=None if result.closed else result.left)
@@ -98,7 +99,7 @@ def _links(name: str, net: str) -> str:
     return read.mode
 
 
-def _result(given: argparse.Namespace, output: str) -> Result:
+def _result(program: Program, given: argparse.Namespace, output: str) -> Result:
     """A certificate that is valid, written, with what is said of it."""
     with needed():
         from mcf.lp.kinds import KINDS
@@ -106,7 +107,7 @@ def _result(given: argparse.Namespace, output: str) -> Result:
         from mcf.trees.form import chosen
     begun = time.monotonic()
     request = Request(given.net, given.links, given.modules, given.gap, given.seconds, given.start, KINDS[given.kind])
-    found = chosen(find_program(given.mcf), given.net, given.links or "undirected", given.modules or "largest", given.form,
+    found = chosen(program, given.net, given.links or "undirected", given.modules or "largest", given.form,
                    given.kind == "solve" and not given.start)
     if found.said and _tells(output):
         jsons.note(found.said, "certify")
