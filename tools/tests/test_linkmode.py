@@ -79,6 +79,9 @@ def test_answers_that_read_links_otherwise_than_the_file_are_told(program: Progr
         for tool, *more in (("report",), ("show",), ("survey", "--grow", "0.1")):
             done = subprocess.run([root / "tools" / tool, net, cert, *more, "--mcf", program.path], capture_output=True, text=True, check=False)
             assert (done.returncode, done.stderr) == (0, f"{tool}: {said}\n" * count)
+        with desk(program, net, cert) as running:
+            told = running.end()[1]
+            assert told.startswith(f"desk: {said}\n" * count) and told.count("links are read") == count
     cert.write_text(program.solve(net), "ascii")
     done = subprocess.run([root / "tools/report", net, cert, "--quiet", "--mcf", program.path], capture_output=True, text=True, check=False)
     assert (done.returncode, done.stdout, done.stderr) == (0, "", "")

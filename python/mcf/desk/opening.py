@@ -12,7 +12,7 @@ from .. import jsons
 from ..commands import ask, program_path
 from ..errors import Invalid, McfError, Refused, TextError, kind_of
 from ..inputs import is_word
-from ..linkmode import LinkMode, link_mode
+from ..linkmode import LinkMode, link_mode, otherwise
 from ..network import read_network
 from ..output import contents, require_output
 from ..report.shown import name
@@ -73,6 +73,8 @@ def opened(request: Request) -> tuple[Desk, Works]:
         data, made = cert, _shown(request.cert)
         files = {"net": request.net, "cert": request.cert}
         desk.add(_said(f"{request.cert} on {request.net}", lambda: works.judged(Work(), made, "given", works.edited(), data), **files))
+        if said := otherwise(request.net, net, links, made):
+            jsons.note(said, "desk")
     return desk, works
 
 
