@@ -173,7 +173,7 @@ def _refusal(command: str, refused: re.Match[str], texts: Mapping[str, bytes], p
     line = int(refused[3]) if refused[3] else None
     sentence = sentence_of(said, command, texts, path)
     rows = texts.get(file, b"").split(b"\n", line)[:line] if line else []
-    if line and len(rows) == line and file in ("net", "list", "script"):
+    if line and len(rows) == line and file in ("net", "list", "script") and rows[-1].strip():
         sentence += f"; the line is {name_of(rows[-1].decode('latin-1')).strip()[:200]!r}"
     return Refused(kind, file, line, sentence, said)
 

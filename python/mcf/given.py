@@ -34,7 +34,8 @@ def number_of(value: object, what: str, most: int = MAX_UNITS) -> Fraction:
     if exact < 0:
         raise ValueError(f"{what}: {brief(value)} is negative")
     if (exact * MILLION).denominator != 1:
-        raise ValueError(f"{what}: {brief(value)} has more than {MAX_DECIMALS} decimals; round it, or give all numbers in a smaller unit")
+        mend = ", or give all numbers in a smaller unit" if most == MAX_UNITS else ""
+        raise ValueError(f"{what}: {brief(value)} has more than {MAX_DECIMALS} decimals; round it{mend}")
     if exact > most:
         mend = "; give all numbers in a greater unit" if most == MAX_UNITS else ""
         raise ValueError(f"{what}: {brief(value)} is more than {most}{mend}")

@@ -611,6 +611,10 @@ def test_an_option_out_of_range_is_usage(triangle: Network, options: dict[str, o
 def test_gaps_are_exact(triangle: Network) -> None:
     with pytest.raises(ValueError, match="^gap: 1001 is more than 1000$"):
         triangle.solve(gap=1001)
+    with pytest.raises(ValueError, match="^gap: 0.30000000000000004 has more than 6 decimals; round it$"):
+        triangle.solve(gap=0.1 + 0.2)
+    with pytest.raises(mcf.Refused, match="since each has amount 0 or ends in its own node, mostly in a file that has links alone$"):
+        triangle.scaled_demands(0).solve()
     texts = {triangle.solve(gap=gap).text for gap in (0.1, "0.1", Decimal("0.10"), Fraction(1, 10))}  # type: ignore[arg-type]
     assert len(texts) == 1 and "gap 0.100000\n" in texts.pop()
     for gap, kind in ((Fraction(1, 3), ValueError), (-1, ValueError), (1001, ValueError), (float("nan"), ValueError)):
