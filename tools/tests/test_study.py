@@ -699,6 +699,24 @@ def test_what_is_hidden_in_a_folder_is_no_matrix(tmp_path: Path) -> None:
         assert sorted(matrix.name for matrix in _matrices_of(tmp_path / source)) == ["a", "c"]
 
 
+def test_links_of_an_archive_are_read_or_refused(tmp_path: Path) -> None:
+    """tar writes the second name of a file as a link."""
+    (tmp_path / "day").mkdir()
+    (tmp_path / "day/a.csv").write_text("source,target,amount\nA,B,4\n")
+    (tmp_path / "day/b.csv").hardlink_to(tmp_path / "day/a.csv")
+    (tmp_path / "day/c.csv").symlink_to("b.csv")
+    (tmp_path / "day/d").symlink_to(".")
+    for kind in ("", ":gz"):
+        with tarfile.open(tmp_path / "day.tar", f"w{kind}") as packed:
+            packed.add(tmp_path / "day", "day")
+        assert [matrix.name for matrix in _matrices_of(tmp_path / "day.tar")] == ["a", "b", "c"]
+    (tmp_path / "day/e.csv").symlink_to("nowhere")
+    with tarfile.open(tmp_path / "day.tar", "w") as packed:
+        packed.add(tmp_path / "day", "day")
+    with pytest.raises(TextError, match="day.tar: day/e.csv is a link to what is not in the archive"):
+        _matrices_of(tmp_path / "day.tar")
+
+
 def test_lists_and_tables_are_read_as_batch_and_convert_read_them(tmp_path: Path, program: Program) -> None:
     net = net_file(tmp_path)
     (tmp_path / "day.list").write_text("late (\n  D ( A B ) 1 4 UNLIMITED\n)\nearly (\n  D ( A B ) 1 8 UNLIMITED\n)\n")

@@ -16,6 +16,7 @@ from dataclasses import dataclass, field
 from datetime import datetime
 from io import BufferedIOBase, BytesIO, StringIO
 from pathlib import Path, PurePath, PurePosixPath
+from typing import IO
 
 from ..convert import assemble, files, native
 from ..convert.adjust import Changes, adjusted
@@ -140,10 +141,20 @@ def _of_tar(path: str) -> Iterator[tuple[str, bytes, bool]]:
     """The files of a tar, packed or not, in the order in which they stand there."""
     with tarfile.open(path) as packed:
         for info in packed:
-            member = packed.extractfile(info) if info.isfile() and not _is_hidden(PurePosixPath(info.name)) else None
+            member = None if _is_hidden(PurePosixPath(info.name)) else _opened(packed, info)
             if member is not None:
                 yield f"{path}/{info.name}", _unpacked(f"{path}/{info.name}", member.read(files.MAX_BYTES + 1)), True
         _require_end(packed)
+
+
+def _opened(packed: tarfile.TarFile, info: tarfile.TarInfo) -> IO[bytes] | None:
+    """The file of a member, also where that is another name of one; None where it is no file. ReadError where what it names is not there."""
+    if not (info.isfile() or info.islnk() or info.issym()):
+        return None
+    try:
+        return packed.extractfile(info)
+    except KeyError:
+        raise tarfile.ReadError(f"{info.name} is a link to what is not in the archive") from None
 
 
 def _require_end(packed: tarfile.TarFile) -> None:
