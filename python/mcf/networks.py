@@ -173,14 +173,8 @@ class Network:
         return f"<mcf.Network: {len(rows.nodes)} nodes, {len(rows.links)} links, {len(rows.demands)} demands{mode}>"
 
     def save(self, path: Path) -> None:
-        """Writes a network file, whole or not at all, which `mcf check` and all tools read; its section META says how links are read, where
-        that is not the usual way. TextError where it cannot be written."""
-        from .linkmode import link_mode
-        data = self.data
-        if link_mode("", data).mode != self.mode:
-            head, _, rest = write_network(self.rows).encode("latin-1").partition(b"\n")
-            data = b"%s\nMETA (\n  links = %s\n)\n%s" % (head, self.mode.encode(), rest)
-        write(os.fspath(path), data)
+        """Writes a network file, whole or not at all, which `mcf check` and all tools read. TextError where it cannot be written."""
+        write(os.fspath(path), self.data)
 
     # -- changed
 

@@ -254,16 +254,6 @@ def test_a_network_file_is_handed_on_as_it_stands(program: Program, root: Path, 
     assert (tmp_path / "b.net").read_bytes() == text
 
 
-@pytest.mark.parametrize("mode", ["undirected", "directed", "bidirected"])
-def test_a_saved_network_says_how_its_links_are_read(program: Program, tmp_path: Path, mode: str) -> None:
-    network = Network(Network.from_frames(LINKS, DEMANDS).rows, mode)
-    file = tmp_path / "a.net"
-    network.save(file)
-    assert mcf.read(file) == network and mcf.read(file).mode == mode and (b"META" in file.read_bytes()) == (mode != "undirected")
-    mcf.read(file).without(links=["B-C"]).save(file)
-    assert mcf.read(file).mode == mode and mcf.check(file, mcf.read(file).solve())
-
-
 @pytest.mark.parametrize("text, kind, line", [
     (b"?SNDlib native format; type: network; version: 1.0\nNODES (\n A\n)\nLINKS (\n L ( A X ) 1 0 0 0 ( )\n)\nDEMANDS ( )\n", "N6", 6),
     (b"?SNDlib native format; type: network; version: 1.0\nNODES (\n A\n", "N3", 4), (b"<network", "convert", None), (b"", "convert", None)])
