@@ -7,6 +7,8 @@ from dataclasses import dataclass
 
 from .convert import native
 from .convert.model import Refused
+from .errors import TextError
+from .output import contents
 
 _COMMENT = re.compile(rb"^[ \t]*#[^\n]*", re.MULTILINE)
 _USUAL = "undirected"
@@ -44,6 +46,14 @@ def otherwise(name: str, data: bytes, mode: str, by: str) -> str | None:
     except Refused:
         return None
     return None if said in (None, mode) else f"links are read as {mode}, as {by} says, and not as {said}, as {name} says"
+
+
+def link_mode_of_file(name: str, path: str) -> LinkMode:
+    """The same of a file at a path; one that cannot be read is left to the program, which says why."""
+    try:
+        return link_mode(name, contents(path))
+    except TextError:
+        return LinkMode(_USUAL)
 
 
 def _mentioned(data: bytes) -> tuple[int, str]:

@@ -39,9 +39,9 @@ from mcf import LINK_MODES, MODULES, Program, TextError, find_program, jsons, tr
 from mcf.arguments import Arguments
 from mcf.asked import millionths, seconds
 from mcf.inputs import STANDARD_INPUT, as_files
-from mcf.linkmode import link_mode
+from mcf.linkmode import link_mode_of_file
 from mcf.needs import needed
-from mcf.output import contents, main_of, require_output, write, writing
+from mcf.output import main_of, require_output, write, writing
 
 if TYPE_CHECKING:
     from mcf.lp.run import Request, Result
@@ -93,7 +93,7 @@ def certified() -> int:
 
 def _links(name: str, net: str) -> str:
     """How links are read where nothing was asked: as the file says, which is told."""
-    read = link_mode(name, contents(net))
+    read = link_mode_of_file(name, net)
     if read.said:
         jsons.note(read.said, "certify")
     return read.mode

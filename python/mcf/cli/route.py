@@ -25,9 +25,9 @@ from mcf import LINK_MODES, MODULES, find_program, jsons
 from mcf.arguments import Arguments
 from mcf.asked import seconds
 from mcf.inputs import STANDARD_INPUT, as_files
-from mcf.linkmode import LinkMode, link_mode
+from mcf.linkmode import LinkMode, link_mode_of_file
 from mcf.needs import needed
-from mcf.output import contents, main_of, require_output, write
+from mcf.output import main_of, require_output, write
 from mcf.ranges import shortfall
 from mcf.route.lengths import COSTS, LENGTHS, METHODS
 
@@ -84,7 +84,7 @@ def routed() -> int:
     program = find_program(given.mcf)
     name = STANDARD_INPUT if given.net == "-" else given.net
     with as_files(given.net) as (net,):
-        read = LinkMode(given.links) if given.links else link_mode(name, contents(net))
+        read = LinkMode(given.links) if given.links else link_mode_of_file(name, net)
         if read.said:
             jsons.note(read.said, "route")
         question = Question(net, given.by, read.mode, given.modules, given.lengths, given.cost, given.paths, given.seconds, not given.no_best)

@@ -118,11 +118,11 @@ def write_report(program: Program, words: argparse.Namespace, title: str, say: C
     """Writes the page and the tables that are asked for, and says the sentences."""
     reader = Reader(program)
     net, first = reader.source(words.net), reader.source(words.certificate)
+    require_batch(first, words)
     listed = listed_in(reader.source(words.list)) if words.list else None
     if is_batch(first.text) and words.matrix is None:
         _write_batch(reader, net, first, listed, words, title, say)
         return
-    require_batch(first, words)
     other = reader.source(words.net2) if words.net2 else net
     pairs = [(net, first)] + ([(other, reader.source(words.second))] if words.second else [])
     both = [reader.shown(*answered(pair, listed, words.matrix)) for pair in pairs]
