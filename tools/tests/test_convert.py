@@ -247,6 +247,16 @@ def test_csv_links_and_a_square():
     assert said == ["dropped: links.csv: column owner", "read: square.csv: numbers in Mbit, as the corner says", "renamed: node 'Den Haag' is Den_Haag"]
 
 
+def test_a_name_that_is_no_utf8_is_no_part_of_a_table(tmp_path: Path):
+    """A table with such a byte is read as Windows-1252, where the name would be another one; in a network file it stays."""
+    net = tmp_path / "a.net"
+    net.write_bytes(b"?SNDlib native format; type: network; version: 1.0\nNODES (\n  x\n  y\n)\nLINKS (\n  L ( x y ) 1 0 0 0 ( )\n)\n"
+                    b"DEMANDS (\n  D\xff ( x y ) 1 1 UNLIMITED\n)\n")
+    assert refusal(net, "-", "--to", "demands").startswith("convert: line 2 of the table has a name that is no UTF-8")
+    done = subprocess.run([CONVERT, net, "-", "--to", "net"], capture_output=True, check=False)
+    assert done.returncode == 0 and b"  D\xff ( x y )" in done.stdout
+
+
 def test_csv_of_hours_becomes_a_list():
     text, said = convert(
         "--net", "links.csv", "hours.csv", "-", "--to", "list", "--from-unit", "Mbit", "--merge", "--scale", "1.1"

@@ -379,8 +379,18 @@ def text(network: Network, what: str, notes: Notes) -> str:
         rows = [("matrix", "demand", *DEMAND_ROLES[2:]), *(_demand_row(m.name, d) for m in network.matrices for d in m.demands)]
     out = io.StringIO()
     csv.writer(out, lineterminator="\n").writerows([cell_of(word) for word in row] for row in rows)
+    _require_utf8(out.getvalue())
     _tell_left_out(network, what, notes)
     return out.getvalue()
+
+
+def _require_utf8(table: str) -> None:
+    """Refuses names whose bytes are no UTF-8: a table with one would be read in another encoding, and the name as another one."""
+    try:
+        table.encode("utf-8")
+    except UnicodeEncodeError as fault:
+        line = table.count("\n", 0, fault.start) + 1
+        raise Refused(f"line {line} of the table has a name that is no UTF-8, which would be read otherwise: rename it") from None
 
 
 def _tell_left_out(network: Network, what: str, notes: Notes) -> None:
