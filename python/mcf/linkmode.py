@@ -31,8 +31,8 @@ def link_mode(name: str, data: bytes) -> LinkMode:
         said = native.links_of(name, data)
     except Refused:
         return LinkMode(_USUAL)
-    if said not in (None, _USUAL):
-        return LinkMode(said or _USUAL, f"links are read as {said}, as {name} says")
+    if said is not None and said != _USUAL:
+        return LinkMode(said, f"links are read as {said}, as {name} says")
     line, word = (0, _USUAL) if said else _mentioned(data)
     if word == _USUAL:
         return LinkMode(_USUAL)

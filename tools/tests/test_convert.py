@@ -252,7 +252,7 @@ def test_a_name_that_is_no_utf8_is_no_part_of_a_table(tmp_path: Path):
     net = tmp_path / "a.net"
     net.write_bytes(b"?SNDlib native format; type: network; version: 1.0\nNODES (\n  x\n  y\n)\nLINKS (\n  L ( x y ) 1 0 0 0 ( )\n)\n"
                     b"DEMANDS (\n  D\xff ( x y ) 1 1 UNLIMITED\n)\n")
-    assert refusal(net, "-", "--to", "demands").startswith("convert: line 2 of the table has a name that is no UTF-8")
+    assert refusal(net, "-", "--to", "demands").startswith("convert: a name in line 2 of the table is no UTF-8")
     done = subprocess.run([CONVERT, net, "-", "--to", "net"], capture_output=True, check=False)
     assert done.returncode == 0 and b"  D\xff ( x y )" in done.stdout
 

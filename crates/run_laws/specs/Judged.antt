@@ -21,6 +21,6 @@ pub record IsPaperStop (rows : NetRows) (text : List ℕ) (number : ℕ) : Type 
   pub scaled : scaled_of rows (options_of head) ≡ Ok net
   pub stops : StopsAt (IsPaper (sheets_of rows net)) text number
 
--- the text stops there to begin as a certificate or a routing does, or to be one of the network
+-- with that line the text begins no certificate or routing any more, or is none of the network any more
 abbrev pub StopsFor : NetRows → List ℕ → ℕ → Type 0
 StopsFor rows text number = StopsAt IsHeaded text number ⊎ IsPaperStop rows text number

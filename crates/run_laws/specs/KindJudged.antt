@@ -20,7 +20,7 @@ pub record HoldsInNet (header : List ℕ) (rows : NetRows) (text : List ℕ) (Ho
   pub scaled : scaled_of rows options ≡ Ok net
   pub is : Holds (sheet_of rows net)
 
--- the text stops there to begin as such a certificate does, or to be one of the network
+-- with that line the text begins no such certificate any more, or is none of the network any more
 abbrev pub HopsStopsFor : NetRows → List ℕ → ℕ → Type 0
 HopsStopsFor rows text number =
     StopsAt IsHopsHeaded text number

@@ -1,4 +1,4 @@
--- Where a text stops to be one of some kind: the first line with which it begins none.
+-- Where a text can no longer be one of some kind: the first line with which it begins none.
 use Rattle.std.specs.Prelude.{◌≡◌, ◌⊎◌, ℕ, ◌+◌, List, [], ◌∷◌, ◌++◌, ◌==◌, length, false}
 use Rattle.std.specs.List.{AllByRecursion, flat_map}
 
@@ -38,6 +38,6 @@ pub record IsCutLine (IsText : List ℕ → Type 0) (text : List ℕ) (number : 
   pub begun : Begins IsText (whole_lines before)
   pub none : ¬ (IsText text)
 
--- the text stops in the line of this number to be one of the kind
+-- with the line of this number the text can no longer be one of the kind
 abbrev pub StopsAt : (List ℕ → Type 0) → List ℕ → ℕ → Type 0
 StopsAt IsText text number = IsBadLine IsText text number ⊎ IsCutLine IsText text number

@@ -47,8 +47,9 @@ pub fn heads_stop_there()
         → StopsAt IsHeaded text r.line }
 {}
 
-/// The same of a text that is judged on the rows of a network: its first lines stop to begin one of
-/// any network, or it stops to be one of this network, under the options that its first lines say.
+/// The same of a text that is judged on the rows of a network: with that line its first lines begin
+/// none of any network any more, or it is none of this network any more, under the options that its
+/// first lines say.
 pub fn judged_texts_stop_there()
     ensures { (rows : NetRows) (text : List ℕ) (r : CertRefusal) → AreNetRows rows
         → rows.skipped ≤ MAX_COUNT → IsJudgement rows text (CertRefused r)

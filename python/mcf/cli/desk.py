@@ -23,7 +23,7 @@ import os
 from typing import NoReturn
 
 from mcf.arguments import Arguments
-from mcf.asked import millionths
+from mcf.asked import gap
 from mcf.errors import TextError
 from mcf.needs import needed
 from mcf.output import main_of
@@ -37,12 +37,6 @@ def port(word: str) -> int:
     if not (word.isascii() and word.isdigit() and int(word[:6]) <= 65535):
         raise argparse.ArgumentTypeError(f"{word!r} is no port from 0 to 65535")
     return int(word)
-
-
-def gap(word: str) -> str:
-    """A gap that the program takes, as it was written."""
-    millionths(word)
-    return word
 
 
 def options() -> Arguments:

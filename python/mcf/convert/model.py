@@ -98,8 +98,8 @@ class Matrix:
 class Source:
     """What one file has.
 
-    `bits` is the unit of its numbers in bits per second, where the file says it, and `said` the head that does; `links_mode` how its links are meant, where it says that,
-    and `mentioned` the line of a comment that has a word for it.
+    `bits` is the unit of its numbers in bits per second, where the file says it, and `said` the head that does; `links_mode` how its links
+    are meant, where it says that, and `mentioned` the line of a comment that has a word for it.
     """
 
     path: str

@@ -390,7 +390,7 @@ def _require_utf8(table: str) -> None:
         table.encode("utf-8")
     except UnicodeEncodeError as fault:
         line = table.count("\n", 0, fault.start) + 1
-        raise Refused(f"line {line} of the table has a name that is no UTF-8, which would be read otherwise: rename it") from None
+        raise Refused(f"a name in line {line} of the table is no UTF-8, so another one would be read: rename it, or write a network file") from None
 
 
 def _tell_left_out(network: Network, what: str, notes: Notes) -> None:

@@ -12,6 +12,7 @@ from concurrent.futures import Future, ThreadPoolExecutor
 from contextlib import contextmanager
 from dataclasses import dataclass, replace
 from fractions import Fraction
+from itertools import compress
 from pathlib import Path
 
 from tqdm import tqdm
@@ -105,15 +106,17 @@ class Ground:
         """A link's capacity, modules included."""
         return link.installed(self.figures.scaled.modules)
 
-    def may_have(self, capacity: Fraction) -> bool:
-        """Whether a capacity is within the limits of the program, in the network's unit."""
-        return capacity <= self.figures.scaled.in_file_unit(MAX_UNITS)
+    def within_limits(self, factor: int) -> tuple[tuple[Link, ...], tuple[Link, ...]]:
+        """The links whose capacity times a factor is within the limits of the program, and the others."""
+        most = self.figures.scaled.in_file_unit(MAX_UNITS)
+        fitting = [self.installed(link) * factor <= most for link in self.links]
+        return tuple(compress(self.links, fitting)), tuple(link for link, fits in zip(self.links, fitting) if not fits)
 
 
 def survey(ground: Ground, kind: str, settings: Settings, base: Range) -> Survey:
     """The cases of a kind, `failure` or `double`: failures by what is carried at least, doublings likewise and the greatest first."""
     factor = {"failure": 0, "double": 2}[kind]
-    links = tuple(link for link in ground.links if ground.may_have(ground.installed(link) * factor))
+    links, left = ground.within_limits(factor)
     kept = _kept(ground, kind, links, factor)
     routed = list(_routed(ground, links, factor, kept, settings)) if settings.solves else kept
     growth = settings.growth
@@ -121,7 +124,6 @@ def survey(ground: Ground, kind: str, settings: Settings, base: Range) -> Survey
         Case(kind, link, ground.installed(link), old.divided(growth), new.divided(growth))
         for link, old, new in zip(links, kept, routed)
     ]
-    left = tuple(link for link in ground.links if not ground.may_have(ground.installed(link) * factor))
     return Survey(ground.figures, kind, base.divided(growth), in_order(cases, greatest_first=kind == "double"), settings, left)
 
 
@@ -196,6 +198,7 @@ def _range(words: Iterable[str]) -> Range:
 def _routed(ground: Ground, links: tuple[Link, ...], factor: int, kept: list[Range], settings: Settings) -> Iterator[Range]:
     """The bounds of each case routed anew; where the old paths are as good already, nothing is solved."""
     gap = _gap(ground, settings)
+    places = {link.id: at for at, link in enumerate(ground.links)}
     if factor == 0 and settings.solver == "solve":
         swept = _swept(ground, (0, 1), "sweepsolve", *_modes(ground), *settings.options, "--", ground.net)
         kept = [old.both(new) for old, new in zip(kept, swept)] if swept else kept
@@ -203,7 +206,7 @@ def _routed(ground: Ground, links: tuple[Link, ...], factor: int, kept: list[Ran
     with ThreadPoolExecutor(settings.jobs) as pool:
         try:
             for link, old in zip(links, kept):
-                tasks.append(None if old.within(gap) else pool.submit(_solved, ground, link, factor, settings))
+                tasks.append(None if old.within(gap) else pool.submit(_solved, ground, places[link.id], factor, settings))
             for task, old in tqdm(zip(tasks, kept), total=len(tasks), unit="link", disable=True if settings.quiet else None):
                 yield task.result().both(old) if task else old
         except BaseException:
@@ -219,9 +222,9 @@ def _end(pool: ThreadPoolExecutor, tasks: list[Future[Range] | None]) -> None:
         time.sleep(0.05)
 
 
-def _solved(ground: Ground, link: Link, factor: int, settings: Settings) -> Range:
+def _solved(ground: Ground, at: int, factor: int, settings: Settings) -> Range:
     """The bounds of the network with one link changed."""
-    network = changed(ground.figures.scaled.network, ground.links.index(link), ground.installed(link) * factor)
+    network = changed(ground.figures.scaled.network, at, ground.installed(ground.links[at]) * factor)
     return _judged(ground, network, settings)
 
 
