@@ -1,5 +1,6 @@
 #!/usr/bin/python3 -B
-"""The linear programs that are usually solved for large networks, each in a process of its own, which is ended at a limit.
+"""The linear programs that are usually solved for large networks, each in a process of its own, which is ended once it has had so many
+seconds of a processor, so that a busy machine or a pause takes nothing from it.
 
 Two forms: a flow of each source on each arc; and a flow of each pair on each of four short paths. Two solvers: the interior point method
 of HiGHS, and CLP as it chooses itself.
@@ -42,6 +43,8 @@ from mcf.trees.problem import Problem, problem_of  # noqa: E402
 MEGABYTE = 1e6
 # how often the memory of a program that runs is read, in seconds
 LOOKS = 0.5
+# the limit that a solver is told, in seconds by the clock: the process is ended long before
+ENDLESS = 1e7
 
 
 @dataclass(frozen=True)
@@ -130,24 +133,24 @@ def over_paths(problem: Problem) -> Linear:
     return Linear(within_rows, np.zeros(used.sum()), hstack([each, csc_matrix((len(root), 1))]).tocsc(), wanted[root, end] / top)
 
 
-def by_highs(linear: Linear, limit: float) -> float | None:
-    """The fraction by HiGHS; None where the time is not enough."""
+def by_highs(linear: Linear) -> float | None:
+    """The fraction by HiGHS; None where it finds no optimum."""
     cost = np.append(np.zeros(linear.fill.shape[1] - 1), 1.0)
-    found = linprog(cost, linear.fill, linear.room, linear.each, linear.right, method="highs-ipm", options={"time_limit": limit})
+    found = linprog(cost, linear.fill, linear.room, linear.each, linear.right, method="highs-ipm")
     return 1 / found.fun if found.status == 0 else None
 
 
-def by_clp(linear: Linear, limit: float) -> float | None:
+def by_clp(linear: Linear) -> float | None:
     """The fraction by CLP, likewise."""
     cost = np.append(np.zeros(linear.fill.shape[1] - 1), 1.0)
     with Model(load_clp()) as model:
         model.load(vstack([linear.fill, linear.each]).tocsc(), cost, np.full(len(cost), np.inf), np.append(linear.room, linear.right),
                    np.append(np.full(len(linear.room), -np.inf), linear.right))
-        return 1 / model.cost if model.solve_anew(limit) else None
+        return 1 / model.cost if model.solve_anew(ENDLESS) else None
 
 
 FORMS: dict[str, Callable[[Problem], Linear]] = {"arcs": over_arcs, "paths": over_paths}
-SOLVERS: dict[str, Callable[[Linear, float], float | None]] = {"HiGHS": by_highs, "CLP": by_clp}
+SOLVERS: dict[str, Callable[[Linear], float | None]] = {"HiGHS": by_highs, "CLP": by_clp}
 ALL = tuple((form, solver) for form in FORMS for solver in SOLVERS)
 
 
@@ -157,17 +160,17 @@ def programs(file: Path, limit: float, which: tuple[tuple[str, str], ...] = ALL)
     return [(form, solver, within(problem, form, solver, limit)) for form, solver in which]
 
 
-def _solve(theirs: Connection, problem: Problem, form: str, solver: str, limit: float) -> None:
+def _solve(theirs: Connection, problem: Problem, form: str, solver: str) -> None:
     """Makes a program and solves it, and says its size and its fraction."""
     linear = FORMS[form](problem)
     theirs.send(linear.size)
-    theirs.send(SOLVERS[solver](linear, limit))
+    theirs.send(SOLVERS[solver](linear))
 
 
 def within(problem: Problem, form: str, solver: str, limit: float) -> Measured:
-    """What a program takes, in a process of its own that is ended at the limit; making the program is in it."""
+    """What a program takes, in a process of its own that is ended after so many seconds of a processor; making the program is in them."""
     ours, theirs = multiprocessing.Pipe(duplex=False)
-    process = multiprocessing.Process(target=_solve, args=(theirs, problem, form, solver, limit))
+    process = multiprocessing.Process(target=_solve, args=(theirs, problem, form, solver))
     begun = time.monotonic()
     process.start()
     theirs.close()
@@ -175,7 +178,8 @@ def within(problem: Problem, form: str, solver: str, limit: float) -> Measured:
     size: str | None = None
     seconds = megabytes = 0.0
     try:
-        while (clock := time.monotonic() - begun) < limit:
+        while seconds < limit:
+            clock = time.monotonic() - begun
             seconds, megabytes = sum(watched.cpu_times()[:2]), max(megabytes, watched.memory_info().rss / MEGABYTE)
             if not ours.poll(LOOKS):
                 continue
@@ -184,7 +188,7 @@ def within(problem: Problem, form: str, solver: str, limit: float) -> Measured:
                 size = told
             else:
                 return Measured(seconds, clock, megabytes, size, told, "no optimum")
-        return Measured(seconds, clock, megabytes, size, None, f"not done after {limit:.0f} s")
+        return Measured(seconds, time.monotonic() - begun, megabytes, size, None, f"not done after {limit:.0f} s")
     except (EOFError, psutil.Error):
         return Measured(seconds, time.monotonic() - begun, megabytes, size, None, "ended without an answer")
     finally:
@@ -205,7 +209,7 @@ def main() -> None:
     """The table."""
     parser = argparse.ArgumentParser(description=__doc__, formatter_class=argparse.RawDescriptionHelpFormatter)
     parser.add_argument("networks", nargs="+", metavar="NETWORK", help="files, or draw:SEED:NODES:LINKS:SHAPE:CAPACITIES")
-    parser.add_argument("--seconds", type=float, default=3600.0, help="the limit of each by the clock (3600)")
+    parser.add_argument("--seconds", type=float, default=3600.0, help="the limit of each, of a processor (3600)")
     parser.add_argument("--only", type=which_of, default=ALL, metavar="FORM/SOLVER,..", help="these alone")
     given = parser.parse_args()
     print("| Network | Form | Solver | Size | Processor, s | Clock, s | MB | Fraction |")

@@ -1,4 +1,4 @@
--- What was read of a text on a network.
+-- A certificate or routing that was read with a network's names fits that network.
 use Rattle.std.proofs.Common.{◌≡◌, ◌≤◌, ℕ, Bool, List, Option, Result, Ok, Err, refl, ap, sym, subst}
 use Rattle.std.specs.Prelude.{IfOk}
 use Rattle.text_lines.specs.Lines.{lines_of}

@@ -97,7 +97,7 @@ passes options head x e = by (same_links head.links options.links) refl (same_mo
     by true p false q h = absurd cc
     by false p b q h = absurd cc
 
--- and one that says them passes
+-- a head passes the test for its own options
 passes_own : (head : CertHead) → under (options_of head) head ≡ Ok head
 passes_own head = ap (λ a. by_tests head a (same_modules head.modules head.modules)) (links_same head.links) ∙ ap (by_tests head true) (modules_same head.modules)
 

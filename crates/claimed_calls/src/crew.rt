@@ -8,17 +8,28 @@ use crate::job::Job;
 use crate::post::{End, Mate, Post, Seats};
 use std::alloc::{AllocError, Global};
 
-/// The threads beside the caller's, as it sees them: those that were taken on.
+// The most calls that are judged while a crew rests.
+const LONGEST_REST: u32 = 64;
+
+/// The threads beside the caller's, as it sees them: those that were taken on; how often it polls for a job before it lets others have its
+/// processor; for how many more calls that are judged the crew rests, and for how many it rested last.
 #[derive(Drop)]
 pub struct Crew<'a, J: Job> {
     ends: Vec<End<'a, J>>,
+    patience: u64,
+    rest: u32,
+    last_rest: u32,
 }
 
 impl<'a, J: Job> Crew<'a, J> {
-    /// Nobody.
-    pub fn new(alloc: Global) -> Self {
+    /// Nobody. `patience` is how often the caller's thread will poll for a job that is under way before it lets other threads have its
+    /// processor; a poll takes 10 to 60 nanoseconds.
+    pub fn new(alloc: Global, patience: u64) -> Self {
         Crew {
             ends: Vec::new(alloc),
+            patience,
+            rest: 0,
+            last_rest: 0,
         }
     }
 
@@ -28,7 +39,7 @@ impl<'a, J: Job> Crew<'a, J> {
         requires { AreAt post.now.table.shared.table_id seats.end.table_id seats.mate.table_id }
     {
         let Seats { end, mate } = seats;
-        self.ends.push(End::new(post, end))?;
+        self.ends.push(End::new(post, end, self.patience))?;
         Ok(Mate::new(post, mate))
     }
 
@@ -44,10 +55,33 @@ impl<'a, J: Job> Crew<'a, J> {
         self.ends.iter().position(|end| end.has_waited())
     }
 
+    /// Judges the last call of `work_beside`, whose jobs have to be such that each ends within the caller's patience if its thread has a
+    /// processor. Where one did not, its thread has none, since the machine is busy with others' work: the crew rests until one call more
+    /// has been judged or, where it was late the last time too, for twice as many calls as then, at most 64. No proof rests on it.
+    pub fn judge(&mut self) {
+        if self.rest > 0 {
+            self.rest -= 1;
+            return;
+        }
+        let before = self.last_rest.min(LONGEST_REST / 2);
+        let late = self.ends.iter().any(|end| end.was_late());
+        self.last_rest = if late {
+            (before * 2).max(1)
+        } else {
+            before / 2
+        };
+        self.rest = if late { self.last_rest } else { 0 };
+    }
+
+    /// Whether the crew rests: the caller's thread works on all jobs then. No proof rests on the answer.
+    pub fn rests(&self) -> bool {
+        self.rest > 0
+    }
+
     /// Works on each job: the first in the first thread that was taken on, and so on. The caller's thread calls `lead` meanwhile, and
-    /// then works on the jobs beyond the number of threads, on each whose thread has ended, and on each that its thread has not begun.
-    /// So it waits only for jobs that are under way. `false` where one of them was under way for minutes of processor time; that job is
-    /// lost.
+    /// then works on the jobs beyond the number of threads, on each whose thread has ended, and on each that its thread has not begun; on
+    /// all jobs while the crew rests. So it waits only for jobs that are under way. `false` where one of them was under way for minutes of
+    /// processor time; that job is lost.
     pub fn work_beside<T, F: FnMut() -> T>(
         &mut self,
         jobs: &mut [Option<J>],
@@ -60,6 +94,9 @@ impl<'a, J: Job> Crew<'a, J> {
         ensures lost { IsFalse result.0 → Contains jobs.new None }
         ensures lead { F.step lead.old result.1 lead.new }
     {
+        if self.rests() {
+            return (true, work_here(jobs, lead));
+        }
         work_from(&mut self.ends, jobs, lead)
     }
 }
@@ -84,6 +121,19 @@ fn work_all<J: Job>(jobs: &mut [Option<J>])
     for job in jobs.iter_mut() {
         work_one(job);
     }
+}
+
+// Works on all jobs here, after a call of `lead`.
+fn work_here<J: Job, T, F: FnMut() -> T>(jobs: &mut [Option<J>], lead: &mut F) -> T
+    requires jobs { (k : ℕ) (d : _) → k < length jobs.old → Waits J.asks (slice_index_or jobs.old k d) }
+    requires lead { F.pre lead.old }
+    ensures worked { (k : ℕ) (d : _) → k < length jobs.old
+        → IsWorked J.does (slice_index_or jobs.old k d) (slice_index_or jobs.new k d) }
+    ensures lead { F.step lead.old result lead.new }
+{
+    let made = lead();
+    work_all(jobs);
+    made
 }
 
 // Hands the job over; it stays here where the thread that is to take it has ended.
@@ -120,9 +170,7 @@ fn work_from<J: Job, T, F: FnMut() -> T>(
     ensures lead { F.step lead.old result.1 lead.new }
 {
     let Some((end, others)) = ends.split_first_mut() else {
-        let made = lead();
-        work_all(jobs);
-        return (true, made);
+        return (true, work_here(jobs, lead));
     };
     match jobs.split_first_mut() {
         Some((job, rest)) => hand_and_lead(end, others, job, rest, lead),

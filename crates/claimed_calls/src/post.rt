@@ -10,6 +10,7 @@ use crate::role::Role;
 use crate::waiting::{SOON, back_off};
 use atomic_table::{Seat, Table};
 use std::alloc::{AllocError, Global};
+use std::hint::spin_loop;
 use std::sync::atomic::{AtomicBool, Ordering};
 
 // The states of a post: no job is out; a job waits; it is done; the other thread has ended; or a job is under way.
@@ -49,13 +50,16 @@ pub struct Seats<J: Job> {
     ghost mate_is: { mate.me ≡ (Serves, []) },
 }
 
-/// The owner's side of a post: whether a job is out, and whether the last one had to be waited for.
+/// The owner's side of a post: whether a job is out, how often the owner polls for it before it lets others have its processor, whether
+/// the last job had to be waited for, and whether it was still under way after these polls.
 #[derive(Drop)]
 pub(crate) struct End<'a, J: Job> {
     post: &'a Post<J>,
     seat: PostSeat<J>,
     out: bool,
+    patience: u64,
     has_waited: bool,
+    was_late: bool,
     ghost of: { seat.table_id ≡ post.now.table.shared.table_id },
     ghost is_end: { IsEnd out seat.me },
 }
@@ -86,7 +90,7 @@ impl<J: Job> Post<J> {
 }
 
 impl<'a, J: Job> End<'a, J> {
-    pub(crate) fn new(post: &'a Post<J>, seat: PostSeat<J>) -> Self
+    pub(crate) fn new(post: &'a Post<J>, seat: PostSeat<J>, patience: u64) -> Self
         requires table { seat.table_id ≡ post.now.table.shared.table_id }
         requires seat { seat.me ≡ (Gives, (0, None) ∷ []) }
     {
@@ -94,13 +98,20 @@ impl<'a, J: Job> End<'a, J> {
             post,
             seat,
             out: false,
+            patience,
             has_waited: false,
+            was_late: false,
         }
     }
 
     /// Whether the owner had to wait for the last job: it was not done when the owner first polled for it. No proof rests on the answer.
     pub(crate) fn has_waited(&self) -> bool {
         self.has_waited
+    }
+
+    /// Whether the last job was still under way after as many polls as the owner has patience for. No proof rests on the answer.
+    pub(crate) fn was_late(&self) -> bool {
+        self.was_late
     }
 
     /// Whether the other thread is still there. No proof rests on the answer.
@@ -118,6 +129,7 @@ impl<'a, J: Job> End<'a, J> {
             return Err(job);
         }
         self.has_waited = false;
+        self.was_late = false;
         let shared = &self.post.table.shared;
         drop(shared.exchange(&mut self.seat, 0, Some(job)));
         if shared.compare_exchange::<Leave>(&mut self.seat, 0, FREE, HANDED) == FREE {
@@ -168,13 +180,27 @@ impl<'a, J: Job> End<'a, J> {
         shared.exchange(&mut self.seat, 0, None)
     }
 
+    // Polls for the job that is out until it is done, as often as the owner has patience for; answers how often it was not. On a busy
+    // machine a thread that yields comes back only after the others' time, some milliseconds for each of them.
+    fn spin(&self) -> u64 {
+        for polls in 0..self.patience {
+            if self.is_done() {
+                return polls;
+            }
+            spin_loop();
+        }
+        self.patience
+    }
+
     // Waits for the result of the job that is under way. `None` where it was still under way at the last poll.
     fn wait_back(&mut self) -> Option<J>
         requires { self.old.out ≡ true }
         ensures { IfSome result (IsMade J.does self.old.seat.me) }
     {
+        let polls = self.spin();
+        self.was_late = !self.is_done();
+        self.has_waited = polls > 0 || self.was_late;
         'looks: for looks in 0..LOOKS {
-            self.has_waited = looks > 0;
             if self.is_done() {
                 if let Some(job) = self.take_back() {
                     return Some(job);

@@ -13,7 +13,7 @@ pub(crate) const SOON: u64 = 40_000;
 // Pauses between polls of a thread that has waited for longer: about a millisecond of processor time.
 const PAUSES: u32 = 20_000;
 
-/// Lets some time pass before a thread looks again.
+/// Lets some time pass before a thread polls again.
 pub(crate) fn back_off(looks: u64) {
     if looks < SPINS {
         spin_loop();

@@ -66,7 +66,7 @@ fn new_front(alloc: Global, nodes: u16) -> Result<Front, AllocError>
     })
 }
 
-// A tree for each node as a source, none of them told yet.
+// A tree for each node as a source, before any search.
 fn blank_trees(alloc: Global, nodes: u16) -> Result<Vec<Tree>, AllocError> {
     let mut trees = Vec::with_capacity(alloc, nodes as usize)?;
     for _ in 0..nodes {

@@ -63,7 +63,7 @@ impl Tree {
     }
 }
 
-// A step for each node, in the order of their numbers, none of them told yet.
+// A blank step for each node, in the order of their numbers; a search fills them in.
 fn blank_steps(alloc: Global, nodes: u16) -> Result<Vec<Kept>, AllocError> {
     let mut kept = Vec::with_capacity(alloc, nodes as usize)?;
     for node in 0..nodes {

@@ -1,4 +1,4 @@
--- A table of the row that a number names.
+-- A table that gives, for each number, the index of the only row with that number.
 use Rattle.std.proofs.Common.{◌≡◌, ◌≢◌, ℕ, ◌+◌, ◌<◌, ◌≤◌, Bool, true, false, cond, eqb, List, [], ◌∷◌, length, get_or, set, take, Option, Some, None, inl, inr, sym, ap, subst, ◌∙◌, arith, refl}
 use Rattle.std.specs.Prelude.{count_by, find}
 use Rattle.std.specs.Option.{option_or}

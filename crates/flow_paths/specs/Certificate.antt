@@ -108,7 +108,7 @@ pub record IsValid (net : Network) (proof : Proof) : Type 0 where
   pub printed : FractionsArePrinted net proof
   pub verdict : VerdictIsRight net proof
 
--- the row names a commodity and cells of the network, of which it has at most 511
+-- the row names a commodity and cells of the network, of which it has at most MAX_PATH_CELLS
 pub record IsRowOf (net : Network) (row : Row) : Type 0 where
   pub commodity : row.commodity < length net.commodities
   pub cells : All (λ c. c < length net.cells) row.walk

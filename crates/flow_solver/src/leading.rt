@@ -8,7 +8,7 @@ ghost use Rattle.flow_solver.specs.Leading.{CanGoOn, GoesOn};
 ghost use Rattle.flow_solver.specs.Reached.{IsMet, IsReached};
 ghost use Rattle.flow_solver.specs.Search.{phase_count};
 
-use crate::prepared::Run;
+use crate::prepared::{Prepared, Run};
 use crate::reached::{Reached, is_met, next};
 use crate::search::count_phases;
 use crate::share::Share;
@@ -19,6 +19,15 @@ use solver_run::SolveOptions;
 use std::alloc::{AllocError, Global};
 use std::sync::atomic::{AtomicBool, Ordering};
 use std::thread::Threads;
+
+// About two milliseconds on processors that pause for long between polls, and half a millisecond on others.
+const LEAST_POLLS: u64 = 40_000;
+
+// More polls than a search takes for each cell.
+const POLLS_OF_A_CELL: u64 = 16;
+
+// More polls than it takes to add a commodity's amount to the loads of its path.
+const POLLS_OF_A_COMMODITY: u64 = 64;
 
 // Whether the gap is open yet, and the budget has one phase more.
 fn goes_on(net: &Net, options: &SolveOptions, reached: &Reached) -> bool
@@ -32,6 +41,16 @@ fn goes_on(net: &Net, options: &SolveOptions, reached: &Reached) -> bool
         return false;
     }
     count_phases(&reached.search) < options.phases
+}
+
+// Polls for longer than a thread that has a processor takes to route the commodities of one source: it searches all cells, and adds the
+// amount of each commodity.
+fn patience(on: &Prepared<'_>) -> u64 {
+    let cells = on.net.cells().len() as u64;
+    let commodities = on.net.commodities().len() as u64 / (on.groups.count() as u64).max(1);
+    let by_cells = cells.saturating_mul(POLLS_OF_A_CELL);
+    let by_commodities = commodities.saturating_mul(POLLS_OF_A_COMMODITY);
+    by_cells.saturating_add(by_commodities).max(LEAST_POLLS)
 }
 
 // One phase or more with this crew, until the gap is met, the budget is spent or a thread has left.
@@ -50,7 +69,7 @@ fn phases_with<'a, G: Gate, R: Threads + Sync>(
         if !goes_on(run.on.net, run.options, &reached) {
             return Ok(reached);
         }
-        if whole && !crew.is_there() {
+        if whole && !crew.rests() && !crew.is_there() {
             return Ok(reached);
         }
     }
@@ -172,5 +191,6 @@ pub(crate) fn further<'a, G: Gate, R: Threads + Sync>(
 {
     let others = reached.search.hands.len() - 1;
     let closed = AtomicBool::new(false);
-    with_mates(run, others, Crew::new(run.alloc), &closed, reached)
+    let crew = Crew::new(run.alloc, patience(run.on));
+    with_mates(run, others, crew, &closed, reached)
 }

@@ -172,7 +172,7 @@ fn phase_over<G: Gate, R: Threads + Sync>(
     }
 }
 
-/// One phase more, by the spare hands. `Err`: out of memory, and then the search can't go on.
+/// Routes one more phase with the spare hands, which then are the hands that routed last. `Err`: out of memory, and then the search can't go on.
 pub(crate) fn route<G: Gate, R: Threads + Sync>(
     rt: &R,
     task: &Task<'_, G>,
@@ -339,6 +339,9 @@ pub(crate) fn route_with<'a, G: Gate, R: Threads + Sync>(
     search.room.rows = rows;
     let has_waited = crew.last_waited_for().is_some();
     let had_time = has_waited || has_routed(&search.hands);
-    search.pace = search.pace.after_routing(had_time);
+    if !crew.rests() {
+        search.pace = search.pace.after_routing(had_time);
+    }
+    crew.judge();
     Ok(())
 }

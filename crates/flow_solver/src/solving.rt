@@ -1,6 +1,6 @@
 //! From a network to a proof: a cut's, or that of all phases.
 
-ghost use Rattle.std.specs.Prelude.{◌≡◌, ℕ, ◌<◌, ◌≤◌, ◌↔◌, true, false, IsTrue, IfOk};
+ghost use Rattle.std.specs.Prelude.{◌≡◌, ℕ, ◌<◌, ◌≤◌, ◌↔◌, true, false, IsTrue, IfOk, max, min};
 ghost use Rattle.flow_model.specs.Least.{HasNoCut};
 ghost use Rattle.dijkstra_paths.specs.Reach.{IsFirstCut};
 ghost use Rattle.flow_paths.specs.Certificate.{FractionsArePrinted};
@@ -159,7 +159,8 @@ fn cut_off(
 // The options with at most one worker a processor, but with two where several are asked for.
 fn with_fewer_workers(options: &SolveOptions, processors: u16) -> SolveOptions
     requires { 1 ≤ options.now.workers }
-    ensures { IsWithFewer options.now result }
+    ensures fewer { IsWithFewer options.now result }
+    ensures workers { result.workers ≡ min options.now.workers (max processors 2) }
 {
     SolveOptions {
         gap: options.gap,

@@ -25,8 +25,7 @@ pub enum Scripted {
     Ready(Plan, Script),
 }
 
-/// The steps of the text with the plan of the certificate, or the first refusal of the text, where all of it is judged. What
-/// memory the steps take is taken here.
+/// Reads the whole script: its steps, with the plan of the certificate, or its first refusal. Running the steps needs no further memory.
 pub fn read_script(
     alloc: Global,
     rows: &RawNet<'_>,

@@ -115,7 +115,7 @@ module _ (rows : NetRows) (net : ScaledNet) (first : Proof) (others : List Proof
 
 -- ---- what is answered
 
--- want of memory, or the best of both, answers behind a valid second certificate
+-- out of memory, or the best of both, answers behind a valid second certificate
 pub both_came : (rows : NetRows) (net : ScaledNet) (first second : Proof) (text : List ℕ) (answer : Answer) → IsSecondText rows net.options text (with_net net (Valid second))
     → OrWant (WritesBest rows net first (second ∷ [])) answer → OrWant (OnSecond rows net first text) answer
 both_came rows net first second text answer is (inl memory) = inl memory

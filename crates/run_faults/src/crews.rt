@@ -14,6 +14,9 @@ use std::thread::Threads;
 // Turns that a job waits for the others at most.
 const TURNS: u32 = 10_000_000;
 
+// Polls of the caller's thread before it lets others have its processor.
+const PATIENCE: u64 = 1_000;
+
 // A number that is doubled once `jobs` jobs have begun.
 #[derive(Drop)]
 struct Doubling<'a> {
@@ -144,7 +147,7 @@ fn meet<'a, 'c, R: Threads + Sync>(
 ) -> Result<bool, AllocError>
     requires { AreAt post.now.table.shared.table_id seats.end.table_id seats.mate.table_id }
 {
-    let mut crew = Crew::new(alloc);
+    let mut crew = Crew::new(alloc, PATIENCE);
     let first = crew.take_on(post, seats)?;
     let ((), worked) = thread::join(
         rt,
@@ -170,7 +173,7 @@ fn jobs_that_no_thread_takes_are_worked_on_here(rt: HostRuntime) -> Result<(), F
     let alloc = rt.alloc();
     let begun = AtomicU64::new(0);
     let (one, at_one) = Post::new(alloc)?;
-    let mut crew = Crew::new(alloc);
+    let mut crew = Crew::new(alloc, PATIENCE);
     let _nobody = crew.take_on(&one, at_one)?;
     assert!(rt; work_on(alloc, &mut crew, &begun, 1)?);
     assert!(rt; crew.is_there());
@@ -182,9 +185,43 @@ fn a_call_beside_comes_before_jobs_that_no_thread_takes(rt: HostRuntime) -> Resu
     let alloc = rt.alloc();
     let begun = AtomicU64::new(0);
     let (one, at_one) = Post::new(alloc)?;
-    let mut crew = Crew::new(alloc);
+    let mut crew = Crew::new(alloc, PATIENCE);
     let _nobody = crew.take_on(&one, at_one)?;
     assert!(rt; work_beside_a_call(alloc, &mut crew, &begun)?);
+    Ok(())
+}
+
+// Whether the crew has worked on three jobs a hundred times, at each of which it was judged. Then it is told to go.
+fn lead_often<'a>(
+    alloc: Global,
+    crew: &mut Crew<'_, Doubling<'a>>,
+    begun: &'a AtomicU64,
+    closed: &AtomicBool,
+) -> bool {
+    let mut worked = true;
+    for _ in 0..100 {
+        worked = worked && matches!(work_on(alloc, crew, begun, 1), Ok(true));
+        crew.judge();
+    }
+    closed.store(true, Ordering::SeqCst);
+    worked
+}
+
+// With no patience each job that is under way when the caller's thread polls is late, so that the crew rests ever again.
+#[test]
+fn a_crew_that_rests_works_on_all_jobs(rt: HostRuntime) -> Result<(), Fail> {
+    let alloc = rt.alloc();
+    let begun = AtomicU64::new(0);
+    let closed = AtomicBool::new(false);
+    let (one, at_one) = Post::new(alloc)?;
+    let mut crew = Crew::new(alloc, 0);
+    let first = crew.take_on(&one, at_one)?;
+    let ((), worked) = thread::join(
+        &rt,
+        || first.stay(&closed),
+        || lead_often(alloc, &mut crew, &begun, &closed),
+    );
+    assert!(rt; worked);
     Ok(())
 }
 
@@ -195,7 +232,7 @@ fn a_thread_that_was_told_to_go_is_not_there(rt: HostRuntime) -> Result<(), Fail
     let begun = AtomicU64::new(0);
     let closed = AtomicBool::new(true);
     let (one, at_one) = Post::new(alloc)?;
-    let mut crew = Crew::new(alloc);
+    let mut crew = Crew::new(alloc, PATIENCE);
     let first = crew.take_on(&one, at_one)?;
     thread::join(&rt, || first.stay(&closed), || ());
     assert!(rt; !crew.is_there());

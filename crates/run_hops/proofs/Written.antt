@@ -70,7 +70,7 @@ dual-small net limits lengths P Q d small far near named layered w = record {
 
 -- ---- distances
 
--- a walk is no longer than its cells
+-- a walk is at most 2^52 long for each of its cells
 walk-high : (cells : List Cell) (lengths : List ℕ) (u v : ℕ) (walk : List ℕ) → AreLengths cells lengths → PositiveWalk cells u v walk → walk_length lengths walk ≤ length walk * 2 ^ 52
 walk-high cells lengths u v [] long w = omega arith
 walk-high cells lengths u v (c ∷ walk) long w = omega (arith, length-first lengths c walk, long.high c w.1.0 w.1.1 w.1.2, walk-high cells lengths w.0 v walk long w.2)

@@ -94,7 +94,7 @@ verdict_low : (closed : Bool) → (if closed then 0 else 1) ≤ 1
 verdict_low true = omega arith
 verdict_low false = omega arith
 
--- want of memory, or a status of 0 or 1
+-- out of memory, or a status of 0 or 1
 abbrev pub Low : Answer → Type 0
 Low answer = Memories answer ⊎ (answer.status ≤ 1)
 

@@ -211,7 +211,7 @@ cert_read rows text certified is only =
     let a = certified_by rows text certified (not_told certified only) is in
     record { net = a.0; proof = a.1; head = a.2.head_of; head_read = a.2.head_read; scaled = a.2.scaled; rest_read = a.2.rest_read; on = a.3 }
 
--- a certificate is told, and not want of memory
+-- a certificate is told, and the run is not out of memory
 certificate_full : (rows : NetRows) (script text : List ℕ) (old new : ShelfView) (answer : Answer) → answer.status ≤ 1 → OrMemory (OnCertificate rows script text) old new answer → OnCertificate rows script text old new answer
 certificate_full rows script text old new answer full (inl (memory, same)) = absurd (not_full answer outcomes.Memory memory full (omega arith))
 certificate_full rows script text old new answer full (inr on) = on

@@ -232,7 +232,7 @@ module _ (command : Command) (On : NetRows → List ℕ → Answer → Type 0) (
   abbrev Valid : Answer → Type 0
   Valid answer = answer ≡ judged_answer judged
 
-  -- want of memory, or the line that says this
+  -- out of memory, or the line that says this
   check_of : (answer : Answer) → OfNet (file_at check 0) (λ rows. OfFile MAX_CERT_BYTES kinds.Certificate (file_at check 1) (λ text. Ends (On rows text))) run.old run.new answer → Memories answer ⊎ Valid answer
   check_of answer of = by (of_rows again (file_at check 0) rows (λ rows. OfFile MAX_CERT_BYTES kinds.Certificate (file_at check 1) (λ text. Ends (On rows text))) run.old run.new answer run.tells run.calm.shelf file of)
     where

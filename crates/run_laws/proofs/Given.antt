@@ -32,7 +32,7 @@ not_full answer outcome e full above =
     let is : answer.status ≡ status_of outcome = ap (λ (a : Answer). a.status) e in
     omega arith
 
--- ---- where files are accepted and nothing failed: want of memory, or what follows
+-- ---- where files are accepted and nothing failed: out of memory, or what follows
 
 abbrev pub Memories : Answer → Type 0
 Memories answer = answer ≡ answer_of Memory
@@ -93,7 +93,7 @@ rows_of_file files name OfRows old new answer tells full of =
         let r = read_rows OfRows (with_file old name) new answer (rows_of text) full on in
         (r.0, record { text = text; given = is; read = r.1 }, r.2)
 
--- the answer is such a one, and not want of memory
+-- the answer is such a one, and the run is not out of memory
 pub ends_full : (Of : Answer → Type 0) (old new : ShelfView) (answer : Answer) → answer.status ≤ 1 → Ends Of old new answer → Of answer
 ends_full Of old new answer full (same, inl memory) = absurd (not_full answer Memory memory full (omega arith))
 ends_full Of old new answer full (same, inr of) = of

@@ -47,7 +47,7 @@ module _ {A : Type 0} (more : NetRows → ScaledNet → Option NetRefusal) (rest
   abbrev AreRead : NetRows → List ℕ → ScaledNet → A → Type 0
   AreRead rows text net value = AreStages rows own (more rows) (rest rows (lines_of text)) (head (lines_of text)) net value
 
-  -- where both files are accepted, the answer is want of memory, or has status 0 or 1
+  -- where both files are accepted, the run is out of memory, or has status 0 or 1
   pub kind_low : ((rows : NetRows) (net : ScaledNet) (value : A) (judged : Judged) → Says rows net value judged → (answer_of (outcomes.Judged judged)).status ≤ 1)
       → (files : Holding) (first cert : List ℕ) (rows : NetRows) (net : ScaledNet) (value : A) (text : List ℕ) (old new : ShelfView) (answer : Answer) → old.holds ≡ Some files → ¬ (Rose old.faults.count new.faults.count)
       → IsNetFile files first rows → IsText MAX_CERT_BYTES (Some files) cert text → AreRead rows text net value → OfNet first (OfText cert) old new answer

@@ -21,7 +21,7 @@ use Rattle.run_texts.specs.Heads.{run_head}
 use Rattle.run_texts.specs.PartRead.{part_in}
 use Rattle.run_parts.specs.Check.{SaysPart, SaysRest, part_on, rest_of, IsPartJudgement}
 
--- what is said of every value that was found
+-- if P implies Q, and P holds of the value, should there be one, so does Q
 pub if_ok : {A E : Type 0} (P Q : A → Type 0) → ((x : A) → P x → Q x) → (r : Result A E) → IfOk r P → IfOk r Q
 if_ok P Q f (Ok x) p = f x p
 if_ok P Q f (Err e) p = tt
