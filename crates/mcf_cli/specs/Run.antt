@@ -6,24 +6,24 @@ use Rattle.mcf_words.specs.declared.request.Command.{Command}
 use Rattle.mcf_words.specs.declared.request.Command.TheVariants.{Solve, Check, WhatIf, Upgrade, Tighten, Batch, Sweep, SweepSolve, CheckHops, CheckThroughput, Hops, Throughput, Print, Gen, Trial}
 use Rattle.mcf_words.specs.declared.request.Request.{Request}
 use Rattle.mcf_words.specs.Request.{request_of}
-use Rattle.run_base.specs.declared.ended.Ended.{Ended}
-use Rattle.run_base.specs.declared.outcome.Outcome.TheVariants.{Usage}
-use Rattle.run_base.specs.Answer.{Answer, IsTold, answer_of}
-use Rattle.run_base.specs.Files.{Ends, OrMemory}
-use Rattle.run_solves.specs.Print.{OfPrint}
-use Rattle.run_solves.specs.Solve.{OfSolve}
-use Rattle.run_solves.specs.Drawn.{gen_answer, OfTrial}
-use Rattle.run_certs.specs.Check.{OfCheck}
-use Rattle.run_certs.specs.Tighten.{OfTighten}
-use Rattle.run_batches.specs.Batch.{OfBatch}
-use Rattle.run_certs.specs.Upgrade.{OfUpgrade}
-use Rattle.run_certs.specs.WhatIf.{OfWhatIf}
-use Rattle.run_hops.specs.Check.{OfCheckHops}
-use Rattle.run_hops.specs.Hops.{OfHops}
-use Rattle.run_parts.specs.Check.{OfCheckThroughput}
-use Rattle.run_parts.specs.Parts.{OfThroughput}
-use Rattle.run_sweeps.specs.Sweep.{OfSweep}
-use Rattle.run_sweeps.specs.SweepSolve.{OfSweepSolve}
+use Rattle.base_cmd.specs.declared.ended.Ended.{Ended}
+use Rattle.base_cmd.specs.declared.outcome.Outcome.TheVariants.{Usage}
+use Rattle.base_cmd.specs.Answer.{Answer, IsTold, answer_of}
+use Rattle.base_cmd.specs.Files.{Ends, OrMemory}
+use Rattle.solve_cmd.specs.Print.{OfPrint}
+use Rattle.solve_cmd.specs.Solve.{OfSolve}
+use Rattle.solve_cmd.specs.Drawn.{gen_answer, OfTrial}
+use Rattle.cert_cmd.specs.Check.{OfCheck}
+use Rattle.cert_cmd.specs.Tighten.{OfTighten}
+use Rattle.batch_cmd.specs.Batch.{OfBatch}
+use Rattle.cert_cmd.specs.Upgrade.{OfUpgrade}
+use Rattle.cert_cmd.specs.WhatIf.{OfWhatIf}
+use Rattle.hops_cmd.specs.Check.{OfCheckHops}
+use Rattle.hops_cmd.specs.Hops.{OfHops}
+use Rattle.throughput_cmd.specs.Check.{OfCheckThroughput}
+use Rattle.throughput_cmd.specs.Parts.{OfThroughput}
+use Rattle.sweep_cmd.specs.Sweep.{OfSweep}
+use Rattle.sweep_cmd.specs.SweepSolve.{OfSweepSolve}
 
 -- the file of that place among the words
 abbrev pub file_at : Request → ℕ → List ℕ

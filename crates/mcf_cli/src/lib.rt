@@ -3,5 +3,5 @@
 
 mod run_words;
 
-pub use run_base::{Ended, Found};
+pub use base_cmd::{Ended, Found};
 pub use run_words::run;

@@ -2,20 +2,20 @@
 
 ghost use Rattle.std.specs.Prelude.{◌≡◌, length, map, string_bytes};
 ghost use Rattle.mcf_words.specs.Request.{IsFileCount, least_files, IsWithinLimits, AreDrawn};
-ghost use Rattle.run_base.specs.Answer.{IsTold};
+ghost use Rattle.base_cmd.specs.Answer.{IsTold};
 ghost use Rattle.mcf_cli.specs.Run.{OfCommand, RunEnds, file_at};
 
+use base_cmd::{Ended, Outcome, tell};
+use batch_cmd::{BatchFiles, batch};
+use cert_cmd::{check, tighten, upgrade, whatif_files};
+use hops_cmd::{checkhops, hops};
 use mcf_base::{Gate, Shelf, Sink};
 use mcf_words::{Command, Request, WordsEnd, read_words};
-use run_base::{Ended, Outcome, tell};
-use run_batches::{BatchFiles, batch};
-use run_certs::{check, tighten, upgrade, whatif_files};
-use run_hops::{checkhops, hops};
-use run_parts::{checkthroughput, throughput_of};
-use run_solves::{gen_net, print, solve_file, trial};
-use run_sweeps::{sweep, sweepsolve};
+use solve_cmd::{gen_net, print, solve_file, trial};
 use std::alloc::Global;
 use std::thread::Threads;
+use sweep_cmd::{sweep, sweepsolve};
+use throughput_cmd::{checkthroughput, throughput_of};
 
 // The name of the file of that place among the words, and no byte where they name none.
 fn file(request: &Request, place: usize) -> &str

@@ -10,7 +10,7 @@ use dijkstra_paths::{Graph, Scratch};
 use fixed_exp::{LengthTable, Powers};
 use flow_model::{Net, Setting};
 use mcf_limits::{MAX_CELLS, MAX_LENGTH, MAX_NODES};
-use solve_cases::{Words, loads, ring_network};
+use solve_tests::{Words, loads, ring_network};
 use std::alloc::Global;
 use std::env;
 use std::rt::Clock;

@@ -1,11 +1,11 @@
-use Rattle.run_certs.specs.Check.{OfCheck}
-use Rattle.run_certs.specs.Tighten.{OfTighten}
-use Rattle.run_batches.specs.Batch.{OfBatch}
-use Rattle.run_certs.specs.Upgrade.{OfUpgrade}
-use Rattle.run_certs.specs.WhatIf.{OfWhatIf}
-use Rattle.run_sweeps.specs.Sweep.{OfSweep}
-use Rattle.run_hops.specs.Check.{OfCheckHops}
-use Rattle.run_parts.specs.Check.{OfCheckThroughput}
+use Rattle.cert_cmd.specs.Check.{OfCheck}
+use Rattle.cert_cmd.specs.Tighten.{OfTighten}
+use Rattle.batch_cmd.specs.Batch.{OfBatch}
+use Rattle.cert_cmd.specs.Upgrade.{OfUpgrade}
+use Rattle.cert_cmd.specs.WhatIf.{OfWhatIf}
+use Rattle.sweep_cmd.specs.Sweep.{OfSweep}
+use Rattle.hops_cmd.specs.Check.{OfCheckHops}
+use Rattle.throughput_cmd.specs.Check.{OfCheckThroughput}
 use Rattle.mcf_cli.specs.Run.{file_at, file_if}
 use Rattle.mcf_cli.proofs.run_words.run_command.Goals as goal
 

@@ -1,0 +1,4 @@
+use Rattle.base_cmd.proofs.tell_judged.tell_text_refusal.Goals as goal
+
+pub returns : goal.returns
+returns g c = rw (c.cert_kind_word.ensures, c.bytes.ensures, c.number-line.ensures) at c.say.ensures

@@ -1,0 +1,11 @@
+use Rattle.std.proofs.Common.{map}
+use Rattle.cert_lines.specs.Spelling.{length_words}
+use Rattle.kind_texts.specs.PartText.{from_potentials}
+use Rattle.cert_writer.proofs.TextPuts.{part_then, part_stops}
+use Rattle.kind_texts.proofs.part_writer.put_from_lengths.Goals as goal
+
+pub returns-in-Err : goal.returns-in-Err
+returns-in-Err g c = part_stops _ _ _ _ c.in-Err.fault (map (length_words c.args.names.now) c.args.proof.now.bound.dual.lengths) (from_potentials c.args.names.now c.args.proof.now) c.in-Err.ensures
+
+pub returns : goal.returns
+returns g c = part_then _ _ _ _ _ _ c.put_from_potentials.result (map (length_words c.args.names.now) c.args.proof.now.bound.dual.lengths) (from_potentials c.args.names.now c.args.proof.now) c.in-Ok.ensures c.put_from_potentials.ensures

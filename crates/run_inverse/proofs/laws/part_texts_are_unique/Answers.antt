@@ -1,5 +1,0 @@
-use Rattle.run_inverse.proofs.Exactly.{parts_one}
-use Rattle.run_inverse.proofs.laws.part_texts_are_unique.Goals as goal
-
-pub returns : goal.returns
-returns c = parts_one

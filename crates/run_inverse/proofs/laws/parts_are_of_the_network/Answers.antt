@@ -1,5 +1,0 @@
-use Rattle.run_inverse.proofs.Fitting.{parts_fit}
-use Rattle.run_inverse.proofs.laws.parts_are_of_the_network.Goals as goal
-
-pub returns : goal.returns
-returns c = parts_fit

@@ -1,5 +1,0 @@
-use Rattle.run_laws.proofs.LineKinds.{layer_fault, threshold_fault}
-use Rattle.run_laws.proofs.kinds.layers_and_thresholds_say_why.Goals as goal
-
-pub returns : goal.returns
-returns c = record { layers = layer_fault; thresholds = threshold_fault }

@@ -1,5 +1,0 @@
-use Rattle.run_laws.proofs.Asked.{answered}
-use Rattle.run_laws.proofs.laws.accepted_runs_are_whole.Goals as goal
-
-pub returns : goal.returns
-returns c = λ files words old new before after ended tells runs accepted calm. answered files words old new before after ended tells runs accepted calm

@@ -1,5 +1,0 @@
-use Rattle.run_laws.proofs.KindChecks.{parts_check}
-use Rattle.run_laws.proofs.laws.throughput_runs_check.Goals as goal
-
-pub returns : goal.returns
-returns c = parts_check c.solved_parts_check.ensures

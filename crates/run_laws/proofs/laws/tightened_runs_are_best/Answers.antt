@@ -1,5 +1,0 @@
-use Rattle.run_laws.proofs.Tightening.{are_best}
-use Rattle.run_laws.proofs.laws.tightened_runs_are_best.Goals as goal
-
-pub returns : goal.returns
-returns c = are_best

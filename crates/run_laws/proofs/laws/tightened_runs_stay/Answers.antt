@@ -1,5 +1,0 @@
-use Rattle.run_laws.proofs.Tightening.{best_stays}
-use Rattle.run_laws.proofs.laws.tightened_runs_stay.Goals as goal
-
-pub returns : goal.returns
-returns c = best_stays

@@ -1,5 +1,0 @@
-use Rattle.run_laws.proofs.Heads.{head_stops}
-use Rattle.run_laws.proofs.papers.heads_stop_there.Goals as goal
-
-pub returns : goal.returns
-returns c = head_stops

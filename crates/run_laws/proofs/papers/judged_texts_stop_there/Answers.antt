@@ -1,5 +1,0 @@
-use Rattle.run_laws.proofs.Judged.{judged_stops}
-use Rattle.run_laws.proofs.papers.judged_texts_stop_there.Goals as goal
-
-pub returns : goal.returns
-returns c = judged_stops

@@ -1,5 +1,0 @@
-use Rattle.run_laws.proofs.Stops.{stops}
-use Rattle.run_laws.proofs.papers.papers_stop_there.Goals as goal
-
-pub returns : goal.returns
-returns c = stops

@@ -1,5 +1,0 @@
-use Rattle.run_laws.proofs.Seconds.{seconds_refused}
-use Rattle.run_laws.proofs.papers.second_refusals.Goals as goal
-
-pub returns : goal.returns
-returns c = seconds_refused

@@ -1,5 +1,0 @@
-use Rattle.run_laws.proofs.TokenKinds.{kind_of_refusal}
-use Rattle.run_laws.proofs.scripts.script_kinds_say_why.Goals as goal
-
-pub returns : goal.returns
-returns c = kind_of_refusal

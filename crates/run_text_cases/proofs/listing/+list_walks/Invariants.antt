@@ -1,4 +1,0 @@
-use Rattle.run_text_cases.proofs.listing.+list_walks.Given as goal
-
-abbrev pub decreases-list_walks : goal.decreases-list_walks
-decreases-list_walks l = l.left

@@ -1,0 +1,11 @@
+use Rattle.base_cmd.specs.Files.{Ends}
+use Rattle.base_cmd.proofs.Chain.{no_net_told, rows_end}
+use Rattle.throughput_cmd.specs.Parts.{SolvesParts}
+use Rattle.throughput_cmd.proofs.writing.throughput_of.Goals as goal
+
+pub returns : goal.returns
+returns g c = no_net_told c.args.net.now (λ rows. Ends (SolvesParts c.args.request.now rows)) _ _ _ _ _ c.in-Err.outcome c.in-Err.ensures.rows c.tell.ensures
+
+pub returns-in-Ok : goal.returns-in-Ok
+returns-in-Ok g c =
+    rows_end c.args.net.now (SolvesParts c.args.request.now) _ _ _ _ _ c.in-Ok.rows c.in-Ok.ensures.rows.0 c.in-Ok.ensures.rows.1 c.solve_and_tell.ensures
