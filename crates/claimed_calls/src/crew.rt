@@ -12,7 +12,7 @@ use std::alloc::{AllocError, Global};
 const LONGEST_REST: u32 = 64;
 
 /// The threads beside the caller's, as it sees them: those that were taken on; how often it polls for a job before it lets others have its
-/// processor; for how many more calls that are judged the crew rests, and for how many it rested last.
+/// processor; for how many more calls that are judged the crew rests, and for how many it rested last, less the calls without a late job.
 #[derive(Drop)]
 pub struct Crew<'a, J: Job> {
     ends: Vec<End<'a, J>>,
@@ -56,21 +56,20 @@ impl<'a, J: Job> Crew<'a, J> {
     }
 
     /// Judges the last call of `work_beside`, whose jobs have to be such that each ends within the caller's patience if its thread has a
-    /// processor. Where one did not, its thread has none, since the machine is busy with others' work: the crew rests until one call more
-    /// has been judged or, where it was late the last time too, for twice as many calls as then, at most 64. No proof rests on it.
+    /// processor. Where one did not, its thread has none, since the machine is busy with others' work, and the crew rests: until as many
+    /// more calls are judged as it rested last, twice, which is one at least and 64 at most. Each call without a late job takes one off
+    /// that number. No proof rests on it.
     pub fn judge(&mut self) {
         if self.rest > 0 {
             self.rest -= 1;
             return;
         }
-        let before = self.last_rest.min(LONGEST_REST / 2);
-        let late = self.ends.iter().any(|end| end.was_late());
-        self.last_rest = if late {
-            (before * 2).max(1)
+        if self.ends.iter().any(|end| end.was_late()) {
+            self.last_rest = (self.last_rest.min(LONGEST_REST / 2) * 2).max(1);
+            self.rest = self.last_rest;
         } else {
-            before / 2
-        };
-        self.rest = if late { self.last_rest } else { 0 };
+            self.last_rest = self.last_rest.saturating_sub(1);
+        }
     }
 
     /// Whether the crew rests: the caller's thread works on all jobs then. No proof rests on the answer.
