@@ -71,7 +71,7 @@ is_demand rows net h k lt = (All-from_recursion (λ r. r < length rows.demands) 
 pub few : (rows : NetRows) (net : ScaledNet) → IsOf rows net → length net.kept ≤ length rows.demands
 few rows net h = subst (λ kept. length kept ≤ length rows.demands) (kept_is rows net h) (kept_short 0 rows.demands)
 
--- ---- one position and another
+-- ---- a position in a mapped list is that in the list
 
 prefix_same : (p : List ℕ → Bool) (q : ℕ → Bool) (f : ℕ → List ℕ) (ks : List ℕ) → AllByRecursion (λ r. p (f r) ≡ q r) ks → prefix_len (λ x. not (p x)) (map f ks) ≡ prefix_len (λ x. not (q x)) ks
 prefix_same p q f [] h = refl

@@ -12,7 +12,7 @@ use Rattle.cli_laws.specs.Lines.{StopsAt}
 use Rattle.cli_laws.specs.KindTexts.{hops_header, total_header, IsHopsText, IsTotalText, IsHopsRefusedFor, IsTotalRefusedFor}
 use Rattle.cli_laws.specs.KindHeads.{IsHopsHeaded, IsTotalHeaded, IsHopsHeadRefusedFor, IsTotalHeadRefusedFor}
 
--- this holds under the names of the rows and of their network, under the options that the first lines say
+-- `Holds` of the names of the rows and of their network under the options in the first lines
 pub record HoldsInNet (header : List ℕ) (rows : NetRows) (text : List ℕ) (Holds : Sheet → Type 0) : Type 0 where
   pub options : NetOptions
   pub says : run_head header (lines_of text) ≡ Ok options

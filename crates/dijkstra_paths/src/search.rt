@@ -487,7 +487,7 @@ pub fn search(graph: &Graph, lengths: &[u64], from: u16, front: &mut Front)
         keys,
     };
     close_all(graph, lengths, from, &mut slices, count);
-    // the lists are read after the borrow, which tells what it leaves in them
+    // each list is named once its borrow has ended, so that the checker knows what was left in it
     let _ = dist;
     let _ = steps;
     let _ = order;
@@ -529,7 +529,7 @@ pub fn search_on(
         keys,
     };
     close_all(graph, lengths, from, &mut slices, count);
-    // the lists are read after the borrow, which tells what it leaves in them
+    // each list is named once its borrow has ended, so that the checker knows what was left in it
     let _ = dist;
     let _ = steps;
     let _ = order;

@@ -104,7 +104,7 @@ lengths-small cells lengths long far = λ c d l.
       | inr ne ↦ let cap : 1 ≤ cell.cap = omega arith in omega (arith, is, long.high c cell at cap)
     ]
 
--- the weighted distance of distances
+-- the weighted distance is at least 1 where rows are filled with distances
 pub bound-positive : (net : Network) (lengths : List ℕ) (rows : List Row) → IsNetwork net → AreLengths net.cells lengths → sources_of rows ≡ group_sources net → All (IsFilledWith net.nodes (IsDistance net.cells lengths)) rows
     → 1 ≤ weighted_distance net.commodities (distances_in net (dual_of lengths rows))
 bound-positive net lengths rows n long sources filled = go net.commodities refl n.some
@@ -118,7 +118,7 @@ bound-positive net lengths rows n long sources filled = go net.commodities refl 
         let far = distance-positive net lengths (get_or net.commodities 0 k) found.0 long fits found.2 found.3 in
         weighted-positive net.commodities (potentials_of rows) 0 k inside fits.positive (omega (arith, far, distance-by (potentials_of rows) (get_or net.commodities 0 k) found.0 found.1))
 
--- that of the marks of a cut
+-- so it is where they are filled with the marks of a cut
 pub cut-divides : (net : Network) (lengths : List ℕ) (rows : List Row) → IsNetwork net → HasCut net → sources_of rows ≡ group_sources net → All (IsFilledWith net.nodes (IsCutPotential net.cells)) rows
     → 1 ≤ weighted_distance net.commodities (distances_in net (dual_of lengths rows))
 cut-divides net lengths rows n cut sources filled =

@@ -79,7 +79,7 @@ fn three(
     Ok(all)
 }
 
-// What has come of a job.
+// The number in a job, or 0 where the job is lost.
 fn number_of(job: &Option<Doubling<'_>>) -> u64 {
     match job {
         Some(it) => it.number,

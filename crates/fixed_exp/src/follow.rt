@@ -27,8 +27,8 @@ fn falls_too(falls: bool, old: u64, new: u64) -> bool
     falls | (new < old)
 }
 
-// Puts the exponents of the cells at the changed places in their place, as far as they fit, and gives the greatest of
-// all, where the greatest was this one and none fell. It is a function of its own, so that what it goes over stays in registers.
+// Puts the exponent of each cell whose load changed into `kept`, at most `u64::MAX`, and gives the greatest of
+// all, if that was `before` and no exponent fell. It is a function of its own, so that the variables of its loop stay in registers.
 #[inline(never)]
 fn put_exponents(
     rated: &Rated<'_>,
@@ -88,8 +88,8 @@ fn top_of(numbers: &[u64], known: Option<u64>) -> u64
     }
 }
 
-// Puts the exponents of the cells at the changed places in the place of those of before, as far as they fit, and gives
-// the greatest exponent of all cells, which was this one. The other cells are gone over only where an exponent fell.
+// Puts the exponent of each cell whose load changed into `kept`, at most `u64::MAX`, and gives the greatest exponent of all cells, which
+// was `before`. The other cells are read only where an exponent fell.
 fn follow_exponents(
     rated: &Rated<'_>,
     before: u128,

@@ -600,7 +600,7 @@ closes t id v ws xs loads may same f long each =
         by_test true is zero_there = absurd (omega arith)
         by_test false is zero_there = grind (arith, nat_tests)
 
--- what the calls need besides
+-- lemmas for the contracts of `Loads`
 
 abbrev pub shared_bases : List ℕ → ℕ → List ℕ
 shared_bases base workers = if workers == 1 then [] else base

@@ -55,7 +55,7 @@ scaled_one rows o m s = behind rows m (scaled_at (own_rows rows m) o) s
 abbrev pub at_line : ListKind → ℕ → ListRefusal
 at_line kind line = record { line = line; kind = kind }
 
--- the matrices, or the first refusal behind all of them
+-- after all matrices: the line of the first that is too large, else of the first without a demand, else the matrices
 abbrev pub finished : Option ℕ → Option ℕ → List Matrix → Result (List Matrix) ListRefusal
 finished (Some line) empty matrices = Err (at_line TooLarge line)
 finished None (Some line) matrices = Err (at_line NoDemand line)

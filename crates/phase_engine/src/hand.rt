@@ -15,6 +15,6 @@ pub struct Hand {
     pub room: Option<Room>,
     /// The paths that it has routed.
     pub routes: Routes,
-    /// Its pass, and whether memory ran out, while a phase lasts.
+    /// While a phase lasts, its pass and whether it ran out of memory; else none.
     pub turn: Option<Worked>,
 }

@@ -27,7 +27,7 @@ pub struct PhaseInput<'a> {
     ghost graph_is: { graph.now ≡ net.now },
 }
 
-/// What all workers of a phase share: what it is of, the words of the loads, and the gate.
+/// What all workers of a phase share: its input, the words of the loads, and the gate.
 #[derive(Drop)]
 pub struct Shared<'a, G> {
     /// What the phase is of.

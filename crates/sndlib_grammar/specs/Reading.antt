@@ -23,7 +23,7 @@ pub record Draft : Type 0 where
   pub fourth : Word
   pub capacity : Word
 
--- the entries so far, and what was read of the next: its first words, those of its place, and its modules
+-- the entries so far, and what was read of the next: its first words, a node's coordinates, and a link's modules
 pub record Sofar : Type 0 where
   pub draft : Draft
   pub words : List Word

@@ -41,7 +41,7 @@ pub fn extended(start: u64, digits: &[u8]) -> u64
     n
 }
 
-/// The number with `zeros` zeros behind it, in short.
+/// `start` with `zeros` zeros behind it; where that is over the limit, a number over the limit with its last digits.
 pub fn raised(start: u64, zeros: usize) -> u64
     ensures { short result ≡ short (start * 10 ^ zeros) }
 {
