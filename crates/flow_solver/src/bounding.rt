@@ -212,9 +212,9 @@ fn note_with_bound<'a, G: Gate>(
         ensures { OnOk result (HasNoted net.entry.now hands.entry.now history.entry.now history.exit.now) }
     { note_routes_of(alloc, net, hands, history, sought, entries) };
     let (noted, bounded) = bound_with(task, loads, room, crew, split, earlier, &mut note);
-    if !crew.rests() {
-        search.pace = search.pace.after_bound(threads, crew.last_waited_for());
-    }
+    search.pace = search
+        .pace
+        .after_bound(threads, crew.last_waited_for(), crew.rests());
     noted?;
     bounded
 }

@@ -191,6 +191,11 @@ pub(crate) fn further<'a, G: Gate, R: Threads + Sync>(
 {
     let others = reached.search.hands.len() - 1;
     let closed = AtomicBool::new(false);
-    let crew = Crew::new(run.alloc, patience(run.on));
-    with_mates(run, others, crew, &closed, reached)
+    with_mates(
+        run,
+        others,
+        Crew::new(run.alloc, patience(run.on)),
+        &closed,
+        reached,
+    )
 }

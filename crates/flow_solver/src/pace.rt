@@ -77,8 +77,11 @@ impl Pace {
     }
 
     /// After the routing: more commodities are noted beside it, where that left the caller's thread time, and fewer where the others had routed
-    /// all before.
-    pub(crate) fn after_routing(self, had_time: bool) -> Self {
+    /// all before; as many where the crew rests.
+    pub(crate) fn after_routing(self, had_time: bool, rests: bool) -> Self {
+        if rests {
+            return self;
+        }
         let weights = self.weights;
         Pace {
             first: moved(self.first, had_time, PARTS),
@@ -88,8 +91,11 @@ impl Pace {
     }
 
     /// After a bound with `threads` threads: where the caller's thread had to wait for another one, it fills more rows, but never more
-    /// than an even share; and the thread that it waited for last fills fewer.
-    pub(crate) fn after_bound(self, threads: u16, last: Option<usize>) -> Self {
+    /// than an even share; and the thread that it waited for last fills fewer. Where the crew rests, nothing changes.
+    pub(crate) fn after_bound(self, threads: u16, last: Option<usize>, rests: bool) -> Self {
+        if rests {
+            return self;
+        }
         let before = self.weights;
         let weights = shifted(before, threads as usize, last);
         Pace {

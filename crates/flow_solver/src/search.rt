@@ -339,9 +339,7 @@ pub(crate) fn route_with<'a, G: Gate, R: Threads + Sync>(
     search.room.rows = rows;
     let has_waited = crew.last_waited_for().is_some();
     let had_time = has_waited || has_routed(&search.hands);
-    if !crew.rests() {
-        search.pace = search.pace.after_routing(had_time);
-    }
+    search.pace = search.pace.after_routing(had_time, crew.rests());
     crew.judge();
     Ok(())
 }

@@ -10,6 +10,9 @@ is_there-whole-requires-send-J g c κs within = param_send 0 _ (arg_send _ no _ 
 pub is_there-requires-send-J : goal.is_there-requires-send-J
 is_there-requires-send-J g c κs within = param_send 0 _ (arg_send _ no _ (share-send _ _ (param_sync 0 _ c.type_bounds.sync-G)))
 
+pub rests-requires-send-J : goal.rests-requires-send-J
+rests-requires-send-J g c κs within = param_send 0 _ (arg_send _ no _ (share-send _ _ (param_sync 0 _ c.type_bounds.sync-G)))
+
 pub phases-preserved : goal.phases-preserved
 phases-preserved g c = record {
   can = record {

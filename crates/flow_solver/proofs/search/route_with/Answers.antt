@@ -39,6 +39,12 @@ phase_with-begun-requires-clause-fresh g c κs within =
 pub last_waited_for-requires-send-J : goal.last_waited_for-requires-send-J
 last_waited_for-requires-send-J g c κs within = param_send 0 _ (arg_send _ no _ (share-send _ _ (param_sync 0 _ c.type_bounds.sync-G)))
 
+pub rests-requires-send-J : goal.rests-requires-send-J
+rests-requires-send-J g c κs within = param_send 0 _ (arg_send _ no _ (share-send _ _ (param_sync 0 _ c.type_bounds.sync-G)))
+
+pub judge-requires-send-J : goal.judge-requires-send-J
+judge-requires-send-J g c κs within = param_send 0 _ (arg_send _ no _ (share-send _ _ (param_sync 0 _ c.type_bounds.sync-G)))
+
 pub returns-clause-routed : goal.returns-clause-routed
 returns-clause-routed g c =
     let net = c.args.task.now.on.now.net.now in
