@@ -1,4 +1,9 @@
-"""How a network file means its links, where it says so: the one place for the tools that take `--links`."""
+"""How a network file means its links, where it says so: the one place for the tools that take `--links`.
+
+A file says it in a comment behind its first line, as `# links = directed`, which `Network.save` writes, or else in its section META, as
+`links = directed`, which `convert` writes. The program counts sections that it skips, and certificates have their number; comments are
+not counted, so a certificate of a network is that of its file with the comment too.
+"""
 
 from __future__ import annotations
 
@@ -23,7 +28,7 @@ class LinkMode:
 
 
 def link_mode(name: str, data: bytes) -> LinkMode:
-    """How the links of a file are read where no option says it: as its section META does, else undirected.
+    """How the links of a file are read where no option says it: as the file says, else undirected.
 
     A text that is no network file is left to whoever reads it whole.
     """
@@ -37,6 +42,11 @@ def link_mode(name: str, data: bytes) -> LinkMode:
     if word == _USUAL:
         return LinkMode(_USUAL)
     return LinkMode(_USUAL, f"links are read as {_USUAL}; a comment in line {line} of {name} says {word}: --links {word} reads them so")
+
+
+def saying(data: bytes, mode: str) -> bytes:
+    """The text of a network that says by itself how its links are read: as it is where it does, else with a comment behind its first line."""
+    return data if link_mode("", data).mode == mode else native.saying(data, mode)
 
 
 def otherwise(name: str, data: bytes, mode: str, by: str) -> str | None:

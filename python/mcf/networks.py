@@ -17,6 +17,7 @@ from . import asking
 from .answers import Answer, Batch, Certificate, HopCertificate, Routing, Sweep, TotalCertificate, WhatIf
 from .commands import Judgement
 from .given import Number, decimal_word, name_of, number_of, word_of
+from .linkmode import saying
 from .needs import needed
 from .network import Demand, Link, Node, write_network
 from .network import Network as Rows
@@ -173,8 +174,12 @@ class Network:
         return f"<mcf.Network: {len(rows.nodes)} nodes, {len(rows.links)} links, {len(rows.demands)} demands{mode}>"
 
     def save(self, path: Path) -> None:
-        """Writes a network file, whole or not at all, which `mcf check` and all tools read. TextError where it cannot be written."""
-        write(os.fspath(path), self.data)
+        """Writes a network file, whole or not at all, which `mcf check` and all tools read. TextError where it cannot be written.
+
+        A comment behind its first line says how links are read, as `# links = directed`, where the text does not say it already and it is
+        not the usual way; tools and `mcf.read` read them so. Certificates of the network are those of the file, and the other way round.
+        """
+        write(os.fspath(path), saying(self.data, self.mode))
 
     # -- changed
 

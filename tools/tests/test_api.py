@@ -7,6 +7,7 @@ import pickle
 import subprocess
 import sys
 from collections.abc import Iterator
+from dataclasses import replace
 from decimal import Decimal
 from fractions import Fraction
 from pathlib import Path
@@ -18,6 +19,7 @@ import pytest
 
 import mcf
 from mcf import Network, Program
+from mcf.linkmode import link_mode_of_file
 from mcf.report.figures import Figures
 
 LINKS = pandas.DataFrame({"source": ["A", "A", "B"], "target": ["B", "C", "C"], "capacity": [10.0, 6.0, 6.0]})
@@ -252,6 +254,31 @@ def test_a_network_file_is_handed_on_as_it_stands(program: Program, root: Path, 
     assert program.check(tmp_path / "a.net", tmp_path / "a.cert").line.startswith("valid closed ")
     network.save(tmp_path / "b.net")
     assert (tmp_path / "b.net").read_bytes() == text
+
+
+@pytest.mark.parametrize("mode", ["undirected", "directed", "bidirected"])
+def test_a_saved_network_says_how_its_links_are_read(tmp_path: Path, mode: str) -> None:
+    network = Network.from_rows(Network.from_frames(LINKS, DEMANDS).rows, mode)
+    network.save(tmp_path / "a.net")
+    text = (tmp_path / "a.net").read_bytes()
+    assert link_mode_of_file("a.net", str(tmp_path / "a.net")).mode == mode
+    assert [line for line in text.splitlines() if not line.startswith(b"# links = ")] == network.data.splitlines()
+    assert (text == network.data) == (mode == "undirected")
+
+
+@pytest.mark.parametrize("mode", ["undirected", "directed", "bidirected"])
+def test_certificates_of_a_network_are_those_of_its_saved_file(program: Program, tmp_path: Path, mode: str) -> None:
+    network = Network.from_rows(Network.from_frames(LINKS, DEMANDS).rows, mode)
+    before = network.solve()
+    network.save(tmp_path / "a.net")
+    again = mcf.read(tmp_path / "a.net")
+    assert (again, again.mode) == (network, mode) and again.check(before) and network.check(again.solve())
+    assert mcf.check(tmp_path / "a.net", before)
+    again.without(links=["B-C"]).save(tmp_path / "b.net")
+    assert mcf.read(tmp_path / "b.net").mode == mode
+    other = replace(mcf.read(tmp_path / "b.net"), mode="undirected")
+    other.save(tmp_path / "c.net")
+    assert mcf.read(tmp_path / "c.net").mode == "undirected" and mcf.check(tmp_path / "c.net", other.solve())
 
 
 @pytest.mark.parametrize("text, kind, line", [

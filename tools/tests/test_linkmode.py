@@ -9,7 +9,7 @@ import pytest
 
 from desks import desk
 from mcf import Program
-from mcf.linkmode import LinkMode, link_mode
+from mcf.linkmode import LinkMode, link_mode, otherwise, saying
 
 HEAD = "?SNDlib native format; type: network; version: 1.0\n"
 BOTH_WAYS = (
@@ -35,11 +35,44 @@ def meta(word: str) -> str:
     (f"{HEAD}# directed\n{BOTH_WAYS.replace('LINKS', 'META ( links = bidirected ) LINKS')}", "bidirected",
      "links are read as bidirected, as a.net says"),
     (HEAD + BOTH_WAYS.replace("  A\n", "  A#directed\n"), "undirected", None),
+    (f"{HEAD}# links = directed\n{BOTH_WAYS}", "directed", "links are read as directed, as a.net says"),
+    (f"{HEAD}#links=bidirected \r\n{BOTH_WAYS}", "bidirected", "links are read as bidirected, as a.net says"),
+    (f"{HEAD}# links = undirected\n# directed\n{BOTH_WAYS}", "undirected", None),
+    (f"{HEAD}# links = directed\nMETA ( links = bidirected )\n{BOTH_WAYS}", "directed", "links are read as directed, as a.net says"),
+    (f"{HEAD}# so:\n# links = directed\n{BOTH_WAYS}", "undirected",
+     "links are read as undirected; a comment in line 3 of a.net says directed: --links directed reads them so"),
+    (f"{HEAD}# links = directed, some\n{BOTH_WAYS}", "undirected",
+     "links are read as undirected; a comment in line 2 of a.net says directed: --links directed reads them so"),
     ("no network", "undirected", None),
     (HEAD + "META ( links", "undirected", None),
 ])
 def test_what_a_file_says(text: str, mode: str, said: str | None) -> None:
     assert link_mode("a.net", text.encode("ascii")) == LinkMode(mode, said)
+
+
+@pytest.mark.parametrize("text", [HEAD + BOTH_WAYS, meta("bidirected"), meta("directed"), f"{HEAD}# links = directed\n{BOTH_WAYS}"])
+@pytest.mark.parametrize("mode", ["undirected", "directed", "bidirected"])
+def test_a_text_is_made_to_say_how_links_are_read(text: str, mode: str) -> None:
+    """By a comment alone, and only where it does not say it."""
+    data = text.encode("ascii")
+    made = saying(data, mode)
+    assert (link_mode("a.net", made).mode, saying(made, mode)) == (mode, made)
+    assert (made == data) == (link_mode("a.net", data).mode == mode)
+    assert [line for line in made.splitlines() if not line.startswith(b"#")] == [line for line in data.splitlines() if not line.startswith(b"#")]
+    other = "directed" if mode == "undirected" else "undirected"
+    if made != data:
+        assert otherwise("a.net", made, other, "a.cert") == f"links are read as {other}, as a.cert says, and not as {mode}, as a.net says"
+
+
+def test_convert_reads_the_comment_too(root: Path, tmp_path: Path) -> None:
+    (tmp_path / "a.net").write_text(f"{HEAD}# links = directed\n{BOTH_WAYS}", "ascii")
+    done = subprocess.run([root / "tools/convert", "a.net", "b.net"], cwd=tmp_path, capture_output=True, text=True, check=True)
+    assert done.stderr.splitlines()[0] == "links: directed, as a.net says"
+    assert link_mode("b.net", (tmp_path / "b.net").read_bytes()) == LinkMode("directed", "links are read as directed, as b.net says")
+    done = subprocess.run([root / "tools/convert", "a.net", "b.csv"], cwd=tmp_path, capture_output=True, text=True, check=True)
+    assert "that links are directed, which a table does not say: --links directed says it again" in done.stderr
+    done = subprocess.run([root / "tools/convert", "--links", "undirected", "a.net", "b.net"], cwd=tmp_path, capture_output=True, text=True, check=False)
+    assert (done.returncode, done.stderr) == (2, "convert: a.net says that its links are directed, and --links says undirected\n")
 
 
 @pytest.mark.parametrize("words", [("route", "--by", "hops", "--no-best"), ("certify",), ("study", "--store", "STORE")])

@@ -5,7 +5,9 @@ from __future__ import annotations
 import zlib
 from dataclasses import dataclass
 
+from ..certificate import read_any
 from ..errors import TextError
+from ..linkmode import saying
 from ..network import write_network
 from .run import network_of
 from .store import Store
@@ -13,12 +15,12 @@ from .store import Store
 
 @dataclass(frozen=True)
 class Shown:
-    """A certificate, or a routing, the line of its judge, and the text of its network."""
+    """A certificate, or a routing, the line of its judge, and the text of its network, which says how its links are read."""
 
     key: str
     judged: str
     certificate: bytes
-    network: str
+    network: bytes
 
 
 def certificate_of(path: str, front: str, rest: bool) -> Shown:
@@ -36,6 +38,7 @@ def certificate_of(path: str, front: str, rest: bool) -> Shown:
             raise TextError(f"{path}: scenario {keys[0]}: {why}")
         changed = network_of(store, kept.network, kept.matrix, kept.change)
         network = changed.without(kept.row.cut) if rest else changed.network
-        return Shown(keys[0], found.line, zlib.decompress(found.certificate), write_network(network))
+        text = zlib.decompress(found.certificate)
+        return Shown(keys[0], found.line, text, saying(write_network(network).encode("latin-1"), read_any(text.decode("latin-1")).links))
     finally:
         store.close()
