@@ -288,6 +288,19 @@ def test_merge_both_adds_the_two_directions():
     ]
 
 
+@pytest.mark.parametrize("mode", ["directed", "bidirected"])
+@pytest.mark.parametrize("kind", ["net", "list", "demands"])
+def test_merge_both_is_refused_where_directions_share_nothing(tmp_path: Path, mode: str, kind: str) -> None:
+    (tmp_path / "links.csv").write_text("source,target,capacity\nA,B,10\nB,A,4\n")
+    (tmp_path / "demands.csv").write_text("source,target,amount\nA,B,3\nB,A,2\n")
+    words = "--net", tmp_path / "links.csv", tmp_path / "demands.csv", "-", "--to", kind, "--merge-both"
+    assert refusal(*words, "--links", mode) == (
+        f"convert: --merge-both is for undirected links, and these are {mode}: a demand there is none back (--merge merges those of one direction)")
+    text, said = convert(*words)
+    assert "merged: demand B-A of 2, back, into A-B" in said and "5" in text
+    convert(*words[:-1], "--merge", "--links", mode)
+
+
 def test_demands_are_written_in_the_unit_of_the_links(tmp_path: Path):
     (tmp_path / "d.csv").write_text("from,to,traffic\nGdansk,Krakow,7\n")
     assert "d.csv does not say its unit: --from-unit" in refusal(EXAMPLES / "polska.net", tmp_path / "d.csv", "-", "--to", "net")
