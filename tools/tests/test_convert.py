@@ -288,6 +288,24 @@ def test_merge_both_adds_the_two_directions():
     ]
 
 
+@pytest.mark.parametrize(("text", "said"), [
+    ("capacity (Gbit/s),source,target\n10,A,B\n", None), ('"capacity (Gbit/s)","source","target"\n10,A,B\n', None),
+    ("capacity (Gbit/s);source;target\n10;A;B\n", None), ("capacity (Gbit/s)\tsource\ttarget\n10\tA\tB\n", None),
+    ("capacity (of it),source,target\n10,A,B\n", "columns source, target and capacity (links) or amount"),
+    ("# made up, by hand\ncapacity,source,target\n10,A,B\n", "line 2: 3 columns, and the first row has 2, which begins with # and is a row too: take comments out"),
+    ("# made up\ncapacity,source,target\n10,A,B\n", "line 1: a line that begins with # is a row too"),
+    ("capacity (Gbit/s)\n10\n", "no format that is known here"),
+    ("day (\n  d ( A B ) 1 x UNLIMITED\n)\n", "line 2: 'x' is no number"), ("a ( ) ,b ( d,e ( A B ) 1 x UNLIMITED )\n", "line 1: 'x' is no number"),
+    ("# a, b\n\nday ( d ( A B ) 1 x UNLIMITED )\n", "line 3: 'x' is no number"),
+])
+def test_a_table_on_standard_input_is_no_list(text: str, said: str | None) -> None:
+    done = subprocess.run([CONVERT, "-", "-", "--to", "net"], input=text, capture_output=True, text=True, check=False)
+    if said is None:
+        assert rows(done.stdout, "LINKS") == ["A-B ( A B ) 10 0 0 0 ( )"], done.stderr
+    else:
+        assert done.returncode == 2 and said in done.stderr.splitlines()[-1], done.stderr
+
+
 @pytest.mark.parametrize("mode", ["directed", "bidirected"])
 @pytest.mark.parametrize("kind", ["net", "list", "demands"])
 def test_merge_both_is_refused_where_directions_share_nothing(tmp_path: Path, mode: str, kind: str) -> None:
