@@ -256,6 +256,19 @@ def test_a_network_file_is_handed_on_as_it_stands(program: Program, root: Path, 
     assert (tmp_path / "b.net").read_bytes() == text
 
 
+def test_made_ids_give_way_to_those_of_any_row() -> None:
+    rows = {"id": [None, "A-B", None, "A-B_2"], "source": ["A"] * 4, "target": ["B"] * 4}
+    made = ["A-B_3", "A-B", "A-B_4", "A-B_2"]
+    network = Network.from_frames(pandas.DataFrame({**rows, "capacity": [1] * 4}), pandas.DataFrame({**rows, "amount": [1] * 4}))
+    assert [network.links.id.tolist(), network.demands.id.tolist()] == [made, made]
+    graph = networkx.MultiGraph()
+    for name in rows["id"]:
+        graph.add_edge("A", "B", capacity=1, **({} if name is None else {"id": name}))
+    assert Network.from_networkx(graph, {}).links.id.tolist() == made
+    with pytest.raises(ValueError, match="the id 'x' is that of links, row 0 too"):
+        Network.from_frames(pandas.DataFrame({"id": ["x", "x"], "source": ["A"] * 2, "target": ["B"] * 2, "capacity": [1] * 2}), {})
+
+
 @pytest.mark.parametrize("mode", ["undirected", "directed", "bidirected"])
 def test_a_saved_network_says_how_its_links_are_read(tmp_path: Path, mode: str) -> None:
     network = Network.from_rows(Network.from_frames(LINKS, DEMANDS).rows, mode)

@@ -306,6 +306,15 @@ def test_a_table_on_standard_input_is_no_list(text: str, said: str | None) -> No
         assert done.returncode == 2 and said in done.stderr.splitlines()[-1], done.stderr
 
 
+def test_made_names_give_way_to_those_that_are_given(tmp_path: Path) -> None:
+    (tmp_path / "links.csv").write_text("id,source,target,capacity\n,A,B,1\nA-B,A,B,2\n")
+    (tmp_path / "demands.csv").write_text("id,source,target,amount\n,A,B,1\nA-B,A,B,2\n")
+    text, said = convert(tmp_path / "links.csv", tmp_path / "demands.csv", "-", "--to", "net")
+    assert rows(text, "LINKS") == ["A-B_2 ( A B ) 1 0 0 0 ( )", "A-B ( A B ) 2 0 0 0 ( )"]
+    assert rows(text, "DEMANDS") == ["A-B_2 ( A B ) 1 1 UNLIMITED", "A-B ( A B ) 1 2 UNLIMITED"]
+    assert not any(line.startswith("renamed") for line in said)
+
+
 @pytest.mark.parametrize("mode", ["directed", "bidirected"])
 @pytest.mark.parametrize("kind", ["net", "list", "demands"])
 def test_merge_both_is_refused_where_directions_share_nothing(tmp_path: Path, mode: str, kind: str) -> None:
