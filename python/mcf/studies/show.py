@@ -8,19 +8,24 @@ from dataclasses import dataclass
 from ..certificate import read_any
 from ..errors import TextError
 from ..linkmode import saying
-from ..network import write_network
+from ..network import Network, write_network
 from .run import network_of
 from .store import Store
 
 
 @dataclass(frozen=True)
 class Shown:
-    """A certificate, or a routing, the line of its judge, and the text of its network, which says how its links are read."""
+    """A certificate, or a routing, the line of its judge, and the rows of its network."""
 
     key: str
     judged: str
     certificate: bytes
-    network: bytes
+    rows: Network
+
+    @property
+    def network(self) -> bytes:
+        """The text of the network, which says how its links are read."""
+        return saying(write_network(self.rows).encode("latin-1"), read_any(self.certificate.decode("latin-1")).links)
 
 
 def certificate_of(path: str, front: str, rest: bool) -> Shown:
@@ -38,7 +43,6 @@ def certificate_of(path: str, front: str, rest: bool) -> Shown:
             raise TextError(f"{path}: scenario {keys[0]}: {why}")
         changed = network_of(store, kept.network, kept.matrix, kept.change)
         network = changed.without(kept.row.cut) if rest else changed.network
-        text = zlib.decompress(found.certificate)
-        return Shown(keys[0], found.line, text, saying(write_network(network).encode("latin-1"), read_any(text.decode("latin-1")).links))
+        return Shown(keys[0], found.line, zlib.decompress(found.certificate), network)
     finally:
         store.close()
