@@ -15,6 +15,7 @@ from .convert.model import Refused
 from .errors import TextError
 from .output import contents
 
+_OF_ANSWER = re.compile(rb"^links (undirected|directed|bidirected)$", re.MULTILINE)
 _COMMENT = re.compile(rb"^[ \t]*#[^\n]*", re.MULTILINE)
 _USUAL = "undirected"
 
@@ -56,6 +57,15 @@ def otherwise(name: str, data: bytes, mode: str, by: str) -> str | None:
     except Refused:
         return None
     return None if said in (None, mode) else f"links are read as {mode}, as {by} says, and not as {said}, as {name} says"
+
+
+def otherwise_of_files(net: str, net_path: str, answer: str, answer_path: str) -> str | None:
+    """The same of files at paths under their names; what cannot be read, or is no certificate or routing, is left to the program."""
+    try:
+        found = _OF_ANSWER.search(contents(answer_path)[:4096])
+        return otherwise(net, contents(net_path), found[1].decode(), answer) if found else None
+    except TextError:
+        return None
 
 
 def link_mode_of_file(name: str, path: str) -> LinkMode:

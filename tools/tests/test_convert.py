@@ -566,6 +566,9 @@ def test_gravity_makes_demands_up_where_there_are_none(tmp_path: Path):
     text, said = convert(tmp_path / "t.csv", "-", "--to", "net", "--gravity", "19")
     assert rows(text, "DEMANDS") == ["A-B ( A B ) 1 4 UNLIMITED", "A-C ( A C ) 1 3 UNLIMITED", "B-C ( B C ) 1 12 UNLIMITED"]
     assert said[-1] == "made up: 3 demands of 19 in all, by capacities at both ends"
+    for mode in ("directed", "bidirected"):
+        text, _ = convert(tmp_path / "t.csv", "-", "--to", "net", "--gravity", "19", "--links", mode)
+        assert rows(text, "DEMANDS")[:2] == ["A-B ( A B ) 1 2 UNLIMITED", "A-C ( A C ) 1 1.5 UNLIMITED"] and len(rows(text, "DEMANDS")) == 6
     assert "some file has" in refusal(EXAMPLES / "polska.net", "-", "--to", "net", "--gravity", "10")
     text, _ = convert("small.graph", "-", "--to", "net", "--gravity", "100")
     assert len(rows(text, "DEMANDS")) == 6

@@ -9,7 +9,7 @@ import pytest
 
 from desks import desk
 from mcf import Program
-from mcf.linkmode import LinkMode, link_mode, otherwise, saying
+from mcf.linkmode import LinkMode, link_mode, otherwise, otherwise_of_files, saying
 
 HEAD = "?SNDlib native format; type: network; version: 1.0\n"
 BOTH_WAYS = (
@@ -73,6 +73,35 @@ def test_convert_reads_the_comment_too(root: Path, tmp_path: Path) -> None:
     assert "that links are directed, which a table does not say: --links directed says it again" in done.stderr
     done = subprocess.run([root / "tools/convert", "--links", "undirected", "a.net", "b.net"], cwd=tmp_path, capture_output=True, text=True, check=False)
     assert (done.returncode, done.stderr) == (2, "convert: a.net says that its links are directed, and --links says undirected\n")
+
+
+def test_what_convert_writes_says_what_it_has_read(root: Path, tmp_path: Path) -> None:
+    for comment, word in (("undirected", "directed"), ("directed", "undirected"), ("bidirected", "directed")):
+        (tmp_path / "a.net").write_text(meta(word).replace("META", f"# links = {comment}\nMETA"), "ascii")
+        subprocess.run([root / "tools/convert", "a.net", "b.net"], cwd=tmp_path, capture_output=True, check=True)
+        assert [link_mode(name, (tmp_path / name).read_bytes()).mode for name in ("a.net", "b.net")] == [comment, comment]
+
+
+def test_files_whose_links_differ_are_told_apart(tmp_path: Path) -> None:
+    net, cert = str(tmp_path / "a.net"), str(tmp_path / "a.cert")
+    Path(net).write_text(meta("directed"), "ascii")
+    Path(cert).write_text("mcf-routing 2\nlinks undirected\n", "ascii")
+    said = "links are read as undirected, as a.cert says, and not as directed, as a.net says"
+    assert otherwise_of_files("a.net", net, "a.cert", cert) == said
+    Path(cert).write_text("mcf-certificate 2\nverdict closed\nlinks directed\n", "ascii")
+    assert otherwise_of_files("a.net", net, "a.cert", cert) is None
+    assert otherwise_of_files("a.net", net, "a.cert", f"{cert}2") is None and otherwise_of_files("a.net", net, "a.cert", net) is None
+
+
+def test_a_certificate_that_is_begun_from_may_read_links_otherwise(program: Program, root: Path, tmp_path: Path) -> None:
+    net, cert = tmp_path / "a.net", tmp_path / "a.cert"
+    net.write_text(meta("bidirected"), "ascii")
+    for mode, count in (("undirected", 1), ("bidirected", 0)):
+        cert.write_text(program.solve(net, "--links", mode), "ascii")
+        done = subprocess.run([root / "tools/certify", net, "--from", cert, "--mcf", program.path, "--output", tmp_path / "out"], capture_output=True,
+                              text=True, check=False)
+        said = f"certify: links are read as undirected, as {cert} says, and not as bidirected, as {net} says\n"
+        assert done.returncode == 0 and done.stderr.startswith(said * count) and done.stderr.count("links are read") == count
 
 
 @pytest.mark.parametrize("words", [("route", "--by", "hops", "--no-best"), ("certify",), ("study", "--store", "STORE")])

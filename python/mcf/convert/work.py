@@ -82,7 +82,7 @@ def convert(task: Task, notes: Notes) -> Network:
     network = adjusted(network, Changes(task.scale, task.merge, task.merge_both, task.decimals), notes)
     if task.unit:
         network.meta["unit"] = META_UNITS[task.unit]
-    if network.links_mode and network.links_mode != "undirected":
+    if network.links_mode and (network.links_mode != "undirected" or "links" in network.meta):
         network.meta["links"] = network.links_mode
     require_fit(network, kind in ("net", "graphml", "links"), kind in ("net", "list"))
     text = _text(network, kind, notes)
