@@ -183,9 +183,11 @@ def _word(row: Mapping[str, Any], column: str, what: str) -> str:
 
 
 def _place(x: object, y: object, what: str) -> tuple[str, str] | None:
-    """The words of a place."""
-    if x is None or y is None:
+    """The words of a place; ValueError where there is one number alone, or one is none."""
+    if x is None and y is None:
         return None
+    if x is None or y is None:
+        raise ValueError(f"{what}: a place is both x and y, or none")
     words = str(x), str(y)
     try:
         float(words[0]), float(words[1])
@@ -263,8 +265,7 @@ def _place_of(data: Mapping[str, Any], what: str) -> tuple[str, str] | None:
             return _place(x, y, what)
     for across, up in _PLACES:
         if across in data and up in data:
-            x, y = (None if _is_missing(data[name]) else data[name] for name in (across, up))
-            return _place(x, y, what)
+            return None if _is_missing(data[across]) or _is_missing(data[up]) else _place(data[across], data[up], what)
     return None
 
 

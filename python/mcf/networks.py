@@ -22,6 +22,7 @@ from .needs import needed
 from .network import Demand, Link, Node, write_network
 from .network import Network as Rows
 from .output import write
+from .scaled import LINK_MODES
 
 if TYPE_CHECKING:
     import networkx
@@ -65,11 +66,16 @@ class Network:
     _file: bytes | None = field(default=None, compare=False)
     _beside: Beside = field(default=Beside(), compare=False)
 
+    def __post_init__(self) -> None:
+        """ValueError for another mode, which no tool would know."""
+        if self.mode not in LINK_MODES:
+            raise ValueError(f"mode is one of {', '.join(LINK_MODES)}, and not {self.mode!r}")
+
     # -- made
 
     @classmethod
     def from_rows(cls, rows: Rows, mode: str = "undirected") -> Network:
-        """A network of the core's rows, as `mcf.read_network` gives them."""
+        """A network of the core's rows, as `mcf.read_network` gives them. ValueError for another mode."""
         return cls(rows, mode)
 
     @classmethod

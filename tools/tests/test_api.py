@@ -144,7 +144,9 @@ def test_a_name_that_no_network_text_holds_is_refused(name: str, said: str) -> N
     (LINKS.assign(id=["x", "y", "x"]), {}, None, "links, row 2: the id 'x' is that of links, row 0 too"),
     (LINKS.assign(source=["A", None, "B"]), {}, None, "links, row 1: source is missing"),
     (LINKS, {"A": 1}, None, "demands: a frame is wanted, and pandas makes none of this dict"),
-    (LINKS, {}, pandas.DataFrame({"id": ["A", "B", "C"], "x": ["here", 1, 2], "y": [1, 2, 3]}), "nodes, row 0: 'here', 1 are no coordinates")])
+    (LINKS, {}, pandas.DataFrame({"id": ["A", "B", "C"], "x": ["here", 1, 2], "y": [1, 2, 3]}), "nodes, row 0: 'here', 1 are no coordinates"),
+    (LINKS, {}, pandas.DataFrame({"id": ["A", "B", "C"], "x": [1, 1, 1], "y": [1, None, 2]}), "nodes, row 1: a place is both x and y, or none"),
+    (LINKS, {}, pandas.DataFrame({"id": ["A", "B", "C"], "x": [1, 1, 1]}), "nodes, row 0: a place is both x and y, or none")])
 def test_a_fault_of_a_frame_is_named(frame: pandas.DataFrame, demands: object, nodes: object, said: str) -> None:
     with pytest.raises(ValueError, match=said):
         Network.from_frames(frame, demands, nodes)
@@ -254,6 +256,14 @@ def test_a_network_file_is_handed_on_as_it_stands(program: Program, root: Path, 
     assert program.check(tmp_path / "a.net", tmp_path / "a.cert").line.startswith("valid closed ")
     network.save(tmp_path / "b.net")
     assert (tmp_path / "b.net").read_bytes() == text
+
+
+@pytest.mark.parametrize("mode", ["sideways", "", "Directed"])
+def test_another_mode_of_links_is_refused(mode: str) -> None:
+    network = Network.from_frames(LINKS, DEMANDS)
+    for made in (lambda: Network.from_rows(network.rows, mode), lambda: replace(network, mode=mode)):
+        with pytest.raises(ValueError, match=f"^mode is one of undirected, directed, bidirected, and not '{mode}'$"):
+            made()
 
 
 def test_made_ids_give_way_to_those_of_any_row() -> None:
