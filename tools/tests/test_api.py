@@ -266,6 +266,13 @@ def test_another_mode_of_links_is_refused(mode: str) -> None:
             made()
 
 
+def test_links_are_read_as_the_network_says_and_not_its_text(program: Program, tmp_path: Path) -> None:
+    one_way = Network.from_rows(Network.from_frames(LINKS, DEMANDS).rows, "directed")
+    one_way.save(tmp_path / "a.net")
+    network = replace(mcf.read(tmp_path / "a.net"), mode="undirected")
+    assert {answer.rows.links for answer in (network.solve(), network.certify(progress=False), network.route())} == {"undirected"}
+
+
 def test_made_ids_give_way_to_those_of_any_row() -> None:
     rows = {"id": [None, "A-B", None, "A-B_2"], "source": ["A"] * 4, "target": ["B"] * 4}
     made = ["A-B_3", "A-B", "A-B_4", "A-B_2"]
