@@ -64,6 +64,17 @@ def test_a_text_is_made_to_say_how_links_are_read(text: str, mode: str) -> None:
         assert otherwise("a.net", made, other, "a.cert") == f"links are read as {other}, as a.cert says, and not as {mode}, as a.net says"
 
 
+def test_the_comment_changes_nothing_of_what_is_counted(root: Path, tmp_path: Path) -> None:
+    """A certificate that was made before stays valid, which it would not with a section META."""
+    data = (root / "examples/triangle.net").read_bytes()
+    ends = []
+    for text in (data, saying(data, "directed"), data.replace(b"NODES", b"META ( links = directed )\nNODES", 1)):
+        (tmp_path / "a.net").write_bytes(text)
+        words = [root / "tools/check_twice", tmp_path / "a.net", root / "examples/triangle.cert"]
+        ends.append(subprocess.run(words, capture_output=True, text=True, check=False).stdout)
+    assert ends[0] == ends[1] and ends[0].startswith("valid closed undirected ") and ends[2].startswith("refused")
+
+
 def test_convert_reads_the_comment_too(root: Path, tmp_path: Path) -> None:
     (tmp_path / "a.net").write_text(f"{HEAD}# links = directed\n{BOTH_WAYS}", "ascii")
     done = subprocess.run([root / "tools/convert", "a.net", "b.net"], cwd=tmp_path, capture_output=True, text=True, check=True)

@@ -3,7 +3,7 @@
 from __future__ import annotations
 
 from collections import Counter
-from collections.abc import Iterable
+from collections.abc import Iterable, Sequence
 from dataclasses import dataclass, field, replace
 
 from .files import stem
@@ -110,9 +110,10 @@ def _named(source: Source, notes: Notes) -> tuple[list[Node], list[Link], dict[s
     return nodes, links, words
 
 
-def _given(rows: Iterable[Link] | Iterable[Demand]) -> set[str]:
-    """The words of the names that rows have, which are not made for others."""
-    return {word_of(row.name) for row in rows if row.name}
+def _given(rows: Sequence[Link] | Sequence[Demand]) -> set[str]:
+    """The words of the names that rows have, which are not made for others; nothing where all have names."""
+    named = [row.name for row in rows if row.name]
+    return {word_of(name) for name in named} if len(named) < len(rows) else set()
 
 
 def _place(node: Node, notes: Notes) -> tuple[str, ...] | None:

@@ -113,7 +113,7 @@ class Store:
     def _begin(self, create: bool) -> None:
         """Looks what is in the file, which is changed only where it may be; one of form 1 that may only be read is changed in a copy in memory."""
         may = create or _may_change(self.path)
-        if not may and self._marks()[1] < FORM:
+        if not may and self._marks()[:2] == (APPLICATION, 1):
             file, self._base = self._base, sqlite3.connect(":memory:", isolation_level=None)
             with closing(file):
                 file.backup(self._base)
