@@ -294,7 +294,8 @@ def test_merge_both_adds_the_two_directions():
     ("capacity (of it),source,target\n10,A,B\n", "columns source, target and capacity (links) or amount"),
     ("# made up, by hand\ncapacity,source,target\n10,A,B\n", "line 2: 3 columns, and the first row has 2, which begins with # and is a row too: take comments out"),
     ("# made up\ncapacity,source,target\n10,A,B\n", "line 1: a line that begins with # is a row too"),
-    ("capacity (Gbit/s)\n10\n", "no format that is known here"),
+    ("capacity (Gbit/s)\n10\n", "no format that is known here"), ("", "no format that is known here"), (" \n", "no format that is known here"),
+    ("# nothing\n", "no file has links"),
     ("day (\n  d ( A B ) 1 x UNLIMITED\n)\n", "line 2: 'x' is no number"), ("a ( ) ,b ( d,e ( A B ) 1 x UNLIMITED )\n", "line 1: 'x' is no number"),
     ("# a, b\n\nday ( d ( A B ) 1 x UNLIMITED )\n", "line 3: 'x' is no number"),
 ])

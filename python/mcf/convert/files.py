@@ -88,9 +88,9 @@ def kind_of(path: str, data: bytes) -> str:
     if names in (".csv", ".tsv", ".tab"):
         return "csv"
     # (what follows comments tells a list, whose groups have groups or nothing, from a table, whose first row is refused where it is one)
-    front = re.sub(rb"\A(#[^\n]*(\n\s*|\Z))*", b"", front) if front.startswith(b"#") else front
-    first = front.split(b"\n", 1)[0]
-    if names == ".list" or not front or (re.match(rb"[^\s()#,;]+\s*\(", front) and not _FLAT.match(first)):
+    body = re.sub(rb"\A(#[^\n]*(\n\s*|\Z))*", b"", front) if front.startswith(b"#") else front
+    first = body.split(b"\n", 1)[0]
+    if names == ".list" or (front and not body) or (re.match(rb"[^\s()#,;]+\s*\(", body) and not _FLAT.match(first)):
         return "list"
     if any(mark in first for mark in (b",", b";", b"\t")):
         return "csv"
