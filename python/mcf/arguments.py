@@ -16,6 +16,7 @@ class Arguments(argparse.ArgumentParser):
 
     def __init__(self, prog: str, description: str | None, examples: str = ""):
         form = argparse.RawDescriptionHelpFormatter
+        self._behind: dict[str, str] = {}
         super().__init__(prog=prog, description=description, epilog=examples, formatter_class=form, allow_abbrev=False)
         self.register("action", None, _Once)
         self.register("action", "store", _Once)
@@ -25,11 +26,22 @@ class Arguments(argparse.ArgumentParser):
 
     def parse_intermixed_args(self, args: Sequence[str] | None = None, namespace: argparse.Namespace | None = None) -> argparse.Namespace:
         """Options may stand among the words; behind `--`, which Python's way of mixing them does not know, there are none."""
-        words = sys.argv[1:] if args is None else args
-        return self.parse_args(words, namespace) if "--" in words else super().parse_intermixed_args(words, namespace)
+        words = [*(sys.argv[1:] if args is None else args)]
+        at = words.index("--") if "--" in words else len(words)
+        # (each word behind it stands under a name that no option and no word of a command line has)
+        self._behind = {f"\0{place}\0": word for place, word in enumerate(words[at + 1 :])}
+        found = super().parse_intermixed_args([*words[:at], *self._behind], namespace)
+        for name, value in vars(found).items():
+            if isinstance(value, list):
+                setattr(found, name, [self._behind.get(word, word) if isinstance(word, str) else word for word in value])
+            elif isinstance(value, str):
+                setattr(found, name, self._behind.get(value, value))
+        return found
 
     def error(self, message: str) -> NoReturn:
         """Ends with one line."""
+        for name, word in self._behind.items():
+            message = message.replace(name, word)
         raise TextError(f"{message} ({self.prog} --help has the words)").at(kind="usage")
 
 

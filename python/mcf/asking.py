@@ -31,9 +31,8 @@ Options = dict[str, Any]
 
 
 def _options(network: Network, options: Options) -> Options:
-    """The options with the network's own mode of links where none is asked for."""
-    mode = None if network.mode == "undirected" else network.mode
-    return {**options, "links": mode if options.get("links") is None else options["links"]}
+    """The options with the network's own mode of links where none is asked for, since tools else read links as the text says."""
+    return {**options, "links": network.mode if options.get("links") is None else options["links"]}
 
 
 def solved(network: Network, kind: type[_Kind], command: str, options: Options, timeout: float | None) -> _Kind:

@@ -5,13 +5,13 @@ A frame that is handed out is the caller's own: changing it changes no network a
 
 from __future__ import annotations
 
-from collections.abc import Hashable, Iterator, Mapping, Sequence
+from collections.abc import Hashable, Iterable, Iterator, Mapping, Sequence
 from dataclasses import dataclass
 from fractions import Fraction
 from numbers import Real
 from typing import Any
 
-from .given import brief, decimal_word, name_of, number_of, word_of
+from .given import brief, decimal_word, name_of, number_of, spelled, word_of
 from .limits import MAX_WORD_BYTES
 from .needs import needed
 from .network import Demand, Link, Network, Node
@@ -145,7 +145,7 @@ def nodes_of(table: Table) -> list[Node]:
 
 def links_of(table: Table) -> list[Link]:
     """The links of a frame; one without an id is named by its ends."""
-    links, names = [], Names()
+    links, names = [], Names(table.columns.get("id", ()))
     for what, row in table.rows():
         source, target = (_word(row, end, what) for end in ("source", "target"))
         capacity = decimal_word(number_of(row["capacity"], f"{what}, capacity"))
@@ -155,7 +155,7 @@ def links_of(table: Table) -> list[Link]:
 
 def demands_of(table: Table) -> list[Demand]:
     """The demands of a frame; one without an id is named by its ends."""
-    demands, names = [], Names()
+    demands, names = [], Names(table.columns.get("id", ()))
     for what, row in table.rows():
         source, target = (_word(row, end, what) for end in ("source", "target"))
         amount = decimal_word(number_of(row["amount"], f"{what}, amount"))
@@ -183,9 +183,11 @@ def _word(row: Mapping[str, Any], column: str, what: str) -> str:
 
 
 def _place(x: object, y: object, what: str) -> tuple[str, str] | None:
-    """The words of a place."""
-    if x is None or y is None:
+    """The words of a place; ValueError where there is one number alone, or one is none."""
+    if x is None and y is None:
         return None
+    if x is None or y is None:
+        raise ValueError(f"{what}: a place is both x and y, or none")
     words = str(x), str(y)
     try:
         float(words[0]), float(words[1])
@@ -195,10 +197,11 @@ def _place(x: object, y: object, what: str) -> tuple[str, str] | None:
 
 
 class Names:
-    """The words of rows, each once: their own, or made of both ends."""
+    """The words of rows, each once: their own, or made of both ends so that they are those of no row."""
 
-    def __init__(self) -> None:
-        """No word is taken yet."""
+    def __init__(self, given: Iterable[object]) -> None:
+        """No word is taken yet; `given` are the ids of all rows, some of them missing."""
+        self._given = {spelled(name) for name in given if not _is_missing(name)}
         self._taken: dict[str, str] = {}
         self._last: dict[str, int] = {}
 
@@ -214,7 +217,7 @@ class Names:
         """A word of both ends, with the least number behind it that makes it free."""
         stem = first if len(first) <= MAX_WORD_BYTES - 8 else "row"
         word, number = stem, self._last.get(stem, 1)
-        while word in self._taken:
+        while word in self._taken or name_of(word) in self._given:
             number += 1
             word = f"{stem}_{number}"
         self._last[stem] = number
@@ -236,7 +239,7 @@ def nodes_of_graph(graph: networkx.Graph) -> list[Node]:
 
 def links_of_graph(graph: networkx.Graph, capacity: str) -> tuple[list[Link], pandas.DataFrame]:
     """The links of a graph, and what else its edges have, a row for each link."""
-    links, rest, names = [], [], Names()
+    links, rest, names = [], [], Names(data.get("id") for _, _, data in graph.edges(data=True))
     for source, target, data in graph.edges(data=True):
         what = f"edge {source!r}, {target!r}"
         if capacity not in data:
@@ -262,8 +265,7 @@ def _place_of(data: Mapping[str, Any], what: str) -> tuple[str, str] | None:
             return _place(x, y, what)
     for across, up in _PLACES:
         if across in data and up in data:
-            x, y = (None if _is_missing(data[name]) else data[name] for name in (across, up))
-            return _place(x, y, what)
+            return None if _is_missing(data[across]) or _is_missing(data[up]) else _place(data[across], data[up], what)
     return None
 
 

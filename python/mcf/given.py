@@ -84,8 +84,7 @@ def decimal_word(value: Fraction) -> str:
 
 def word_of(name: object, what: str) -> str:
     """The word of a name, one character for each byte; ValueError, which begins with `what`, where no network text can hold the name."""
-    if not isinstance(name, str):
-        name = _spelled(name)
+    name = spelled(name)
     if not name:
         raise ValueError(f"{what}: the name is empty")
     if _UNFIT.search(name):
@@ -100,8 +99,10 @@ def word_of(name: object, what: str) -> str:
     return data.decode("latin-1")
 
 
-def _spelled(name: object) -> str:
+def spelled(name: object) -> str:
     """The str of a name; of a float that is whole that of the int, since pandas makes floats of ints as soon as one is missing."""
+    if isinstance(name, str):
+        return name
     if isinstance(name, Real) and not isinstance(name, Rational) and (value := float(name)).is_integer():
         return str(int(value))
     return str(name)

@@ -17,10 +17,12 @@ from . import asking
 from .answers import Answer, Batch, Certificate, HopCertificate, Routing, Sweep, TotalCertificate, WhatIf
 from .commands import Judgement
 from .given import Number, decimal_word, name_of, number_of, word_of
+from .linkmode import saying
 from .needs import needed
 from .network import Demand, Link, Node, write_network
 from .network import Network as Rows
 from .output import write
+from .scaled import LINK_MODES
 
 if TYPE_CHECKING:
     import networkx
@@ -64,11 +66,16 @@ class Network:
     _file: bytes | None = field(default=None, compare=False)
     _beside: Beside = field(default=Beside(), compare=False)
 
+    def __post_init__(self) -> None:
+        """ValueError for another mode, which no tool would know."""
+        if self.mode not in LINK_MODES:
+            raise ValueError(f"mode is one of {', '.join(LINK_MODES)}, and not {self.mode!r}")
+
     # -- made
 
     @classmethod
     def from_rows(cls, rows: Rows, mode: str = "undirected") -> Network:
-        """A network of the core's rows, as `mcf.read_network` gives them."""
+        """A network of the core's rows, as `mcf.read_network` gives them. ValueError for another mode."""
         return cls(rows, mode)
 
     @classmethod
@@ -173,8 +180,12 @@ class Network:
         return f"<mcf.Network: {len(rows.nodes)} nodes, {len(rows.links)} links, {len(rows.demands)} demands{mode}>"
 
     def save(self, path: Path) -> None:
-        """Writes a network file, whole or not at all, which `mcf check` and all tools read. TextError where it cannot be written."""
-        write(os.fspath(path), self.data)
+        """Writes a network file, whole or not at all, which `mcf check` and all tools read. TextError where it cannot be written.
+
+        A comment behind its first line says how links are read, as `# links = directed`, where the text does not say it already and it is
+        not the usual way; tools and `mcf.read` read them so. Certificates of the network are those of the file, and the other way round.
+        """
+        write(os.fspath(path), saying(self.data, self.mode))
 
     # -- changed
 

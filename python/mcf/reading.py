@@ -8,7 +8,6 @@ from dataclasses import replace
 from typing import Any
 
 from .commands import ask
-from .convert import native
 from .convert.model import Notes, elsewhere
 from .convert.model import Refused as NoNetwork
 from .convert.numbers import UNITS
@@ -16,6 +15,7 @@ from .convert.work import Task, convert
 from .errors import ReadFault, Refused, one_line, place_of
 from .given import brief, number_of
 from .limits import MAX_DECIMALS
+from .linkmode import link_mode
 from .network import read_network
 from .networks import Network
 from .running import in_memory
@@ -78,16 +78,7 @@ def _of_text(data: bytes, path: str, converted: bool = False) -> Network:
         if converted:
             raise
         raise Refused(refused.kind, path, refused.line, refused.sentence, f"{path}: {refused.said}") from None
-    return Network(rows, _mode(path, data), (), data)
-
-
-def _mode(path: str, data: bytes) -> str:
-    """How links are read, as the section META of a text says that the program has read."""
-    try:
-        said = native.read_network(path, data, Notes(io.StringIO())).meta.get("links", "")
-    except NoNetwork:
-        return "undirected"
-    return said if said in ("directed", "bidirected") else "undirected"
+    return Network(rows, link_mode(path, data).mode, (), data)
 
 
 def _by_options(sentence: str) -> str:

@@ -7,6 +7,7 @@ import pickle
 import subprocess
 import sys
 from collections.abc import Iterator
+from dataclasses import replace
 from decimal import Decimal
 from fractions import Fraction
 from pathlib import Path
@@ -18,6 +19,7 @@ import pytest
 
 import mcf
 from mcf import Network, Program
+from mcf.linkmode import link_mode_of_file
 from mcf.report.figures import Figures
 
 LINKS = pandas.DataFrame({"source": ["A", "A", "B"], "target": ["B", "C", "C"], "capacity": [10.0, 6.0, 6.0]})
@@ -142,7 +144,9 @@ def test_a_name_that_no_network_text_holds_is_refused(name: str, said: str) -> N
     (LINKS.assign(id=["x", "y", "x"]), {}, None, "links, row 2: the id 'x' is that of links, row 0 too"),
     (LINKS.assign(source=["A", None, "B"]), {}, None, "links, row 1: source is missing"),
     (LINKS, {"A": 1}, None, "demands: a frame is wanted, and pandas makes none of this dict"),
-    (LINKS, {}, pandas.DataFrame({"id": ["A", "B", "C"], "x": ["here", 1, 2], "y": [1, 2, 3]}), "nodes, row 0: 'here', 1 are no coordinates")])
+    (LINKS, {}, pandas.DataFrame({"id": ["A", "B", "C"], "x": ["here", 1, 2], "y": [1, 2, 3]}), "nodes, row 0: 'here', 1 are no coordinates"),
+    (LINKS, {}, pandas.DataFrame({"id": ["A", "B", "C"], "x": [1, 1, 1], "y": [1, None, 2]}), "nodes, row 1: a place is both x and y, or none"),
+    (LINKS, {}, pandas.DataFrame({"id": ["A", "B", "C"], "x": [1, 1, 1]}), "nodes, row 0: a place is both x and y, or none")])
 def test_a_fault_of_a_frame_is_named(frame: pandas.DataFrame, demands: object, nodes: object, said: str) -> None:
     with pytest.raises(ValueError, match=said):
         Network.from_frames(frame, demands, nodes)
@@ -252,6 +256,59 @@ def test_a_network_file_is_handed_on_as_it_stands(program: Program, root: Path, 
     assert program.check(tmp_path / "a.net", tmp_path / "a.cert").line.startswith("valid closed ")
     network.save(tmp_path / "b.net")
     assert (tmp_path / "b.net").read_bytes() == text
+
+
+@pytest.mark.parametrize("mode", ["sideways", "", "Directed"])
+def test_another_mode_of_links_is_refused(mode: str) -> None:
+    network = Network.from_frames(LINKS, DEMANDS)
+    for made in (lambda: Network.from_rows(network.rows, mode), lambda: replace(network, mode=mode)):
+        with pytest.raises(ValueError, match=f"^mode is one of undirected, directed, bidirected, and not '{mode}'$"):
+            made()
+
+
+def test_links_are_read_as_the_network_says_and_not_its_text(program: Program, tmp_path: Path) -> None:
+    one_way = Network.from_rows(Network.from_frames(LINKS, DEMANDS).rows, "directed")
+    one_way.save(tmp_path / "a.net")
+    network = replace(mcf.read(tmp_path / "a.net"), mode="undirected")
+    assert {answer.rows.links for answer in (network.solve(), network.certify(progress=False), network.route())} == {"undirected"}
+
+
+def test_made_ids_give_way_to_those_of_any_row() -> None:
+    rows = {"id": [None, "A-B", None, "A-B_2"], "source": ["A"] * 4, "target": ["B"] * 4}
+    made = ["A-B_3", "A-B", "A-B_4", "A-B_2"]
+    network = Network.from_frames(pandas.DataFrame({**rows, "capacity": [1] * 4}), pandas.DataFrame({**rows, "amount": [1] * 4}))
+    assert [network.links.id.tolist(), network.demands.id.tolist()] == [made, made]
+    graph = networkx.MultiGraph()
+    for name in rows["id"]:
+        graph.add_edge("A", "B", capacity=1, **({} if name is None else {"id": name}))
+    assert Network.from_networkx(graph, {}).links.id.tolist() == made
+    with pytest.raises(ValueError, match="the id 'x' is that of links, row 0 too"):
+        Network.from_frames(pandas.DataFrame({"id": ["x", "x"], "source": ["A"] * 2, "target": ["B"] * 2, "capacity": [1] * 2}), {})
+
+
+@pytest.mark.parametrize("mode", ["undirected", "directed", "bidirected"])
+def test_a_saved_network_says_how_its_links_are_read(tmp_path: Path, mode: str) -> None:
+    network = Network.from_rows(Network.from_frames(LINKS, DEMANDS).rows, mode)
+    network.save(tmp_path / "a.net")
+    text = (tmp_path / "a.net").read_bytes()
+    assert link_mode_of_file("a.net", str(tmp_path / "a.net")).mode == mode
+    assert [line for line in text.splitlines() if not line.startswith(b"# links = ")] == network.data.splitlines()
+    assert (text == network.data) == (mode == "undirected")
+
+
+@pytest.mark.parametrize("mode", ["undirected", "directed", "bidirected"])
+def test_certificates_of_a_network_are_those_of_its_saved_file(program: Program, tmp_path: Path, mode: str) -> None:
+    network = Network.from_rows(Network.from_frames(LINKS, DEMANDS).rows, mode)
+    before = network.solve()
+    network.save(tmp_path / "a.net")
+    again = mcf.read(tmp_path / "a.net")
+    assert (again, again.mode) == (network, mode) and again.check(before) and network.check(again.solve())
+    assert mcf.check(tmp_path / "a.net", before)
+    again.without(links=["B-C"]).save(tmp_path / "b.net")
+    assert mcf.read(tmp_path / "b.net").mode == mode
+    other = replace(mcf.read(tmp_path / "b.net"), mode="undirected")
+    other.save(tmp_path / "c.net")
+    assert mcf.read(tmp_path / "c.net").mode == "undirected" and mcf.check(tmp_path / "c.net", other.solve())
 
 
 @pytest.mark.parametrize("text, kind, line", [

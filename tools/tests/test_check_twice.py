@@ -358,7 +358,8 @@ def ended(root: Path, *words: str, shell: str = "", given: bytes = b"", **enviro
     (("examples", TRIANGLE[1]), "", "examples: Is a directory"), (("no\nwhere", "x"), "", "no\\nwhere: No such file or directory"),
     (("-", "-"), "", "standard input is one file alone (check_twice --help has the words)"), (("x",), "", "the following arguments are required"),
     ((*TRIANGLE, "z"), "", "unrecognized arguments: z"), (("--quie", *TRIANGLE), "", "unrecognized arguments: --quie"),
-    (TRIANGLE, "> >(exec <&- >&-; exit 0)", ""),
+    (("--", "-x"), "", "the following arguments are required"),
+    (("--", "--quiet", "x"), "", "./--quiet: No such file"), (TRIANGLE, "> >(exec <&- >&-; exit 0)", ""),
 ])
 def test_each_trouble_is_one_line(root: Path, words: tuple[str, ...], shell: str, said: str) -> None:
     status, out, told = ended(root, *words, shell=shell)
@@ -366,6 +367,16 @@ def test_each_trouble_is_one_line(root: Path, words: tuple[str, ...], shell: str
         assert (status, out, told.count(b"\n")) == (2, b"", 1) and told.decode().startswith(f"check_twice: {said}")
     else:
         assert told in (b"", b"check_twice: standard output: Broken pipe\n")
+
+
+def test_files_behind_two_dashes_may_begin_with_a_dash(root: Path, tmp_path: Path) -> None:
+    line = ended(root, *TRIANGLE)[1]
+    for name, file in zip(("-x.net", "--quiet"), TRIANGLE):
+        (tmp_path / name).write_bytes((root / file).read_bytes())
+    for words, said in ((("--", "-x.net", "--quiet"), line), (("--quiet", "--", "-x.net", "--quiet"), b""), ((f"{tmp_path}/-x.net", "--", "--quiet"), line),
+                        ((f"{tmp_path}/-x.net", "--quiet", "--", "--quiet"), b"")):
+        done = subprocess.run([root / "tools/check_twice", *words], cwd=tmp_path, capture_output=True, check=False)
+        assert (done.returncode, done.stdout, done.stderr) == (0, said, b"")
 
 
 def test_standard_input_quiet_and_the_forms(root: Path) -> None:

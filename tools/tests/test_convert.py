@@ -288,6 +288,47 @@ def test_merge_both_adds_the_two_directions():
     ]
 
 
+@pytest.mark.parametrize(("text", "said"), [
+    ("capacity (Gbit/s),source,target\n10,A,B\n", None), ('"capacity (Gbit/s)","source","target"\n10,A,B\n', None),
+    ("capacity (Gbit/s);source;target\n10;A;B\n", None), ("capacity (Gbit/s)\tsource\ttarget\n10\tA\tB\n", None),
+    ("capacity (of it),source,target\n10,A,B\n", "columns source, target and capacity (links) or amount"),
+    ("# made up, by hand\ncapacity,source,target\n10,A,B\n", "line 2: 3 columns, and the first row has 2, which begins with # and is a row too: take comments out"),
+    ("# made up\ncapacity,source,target\n10,A,B\n", "line 1: a line that begins with # is a row too"),
+    ("capacity (Gbit/s)\n10\n", "no format that is known here"), ("", "no format that is known here"), (" \n", "no format that is known here"),
+    ("# nothing\n", "no file has links"),
+    ("day (\n  d ( A B ) 1 x UNLIMITED\n)\n", "line 2: 'x' is no number"), ("a ( ) ,b ( d,e ( A B ) 1 x UNLIMITED )\n", "line 1: 'x' is no number"),
+    ("# a, b\n\nday ( d ( A B ) 1 x UNLIMITED )\n", "line 3: 'x' is no number"),
+])
+def test_a_table_on_standard_input_is_no_list(text: str, said: str | None) -> None:
+    done = subprocess.run([CONVERT, "-", "-", "--to", "net"], input=text, capture_output=True, text=True, check=False)
+    if said is None:
+        assert rows(done.stdout, "LINKS") == ["A-B ( A B ) 10 0 0 0 ( )"], done.stderr
+    else:
+        assert done.returncode == 2 and said in done.stderr.splitlines()[-1], done.stderr
+
+
+def test_made_names_give_way_to_those_that_are_given(tmp_path: Path) -> None:
+    (tmp_path / "links.csv").write_text("id,source,target,capacity\n,A,B,1\nA-B,A,B,2\n")
+    (tmp_path / "demands.csv").write_text("id,source,target,amount\n,A,B,1\nA-B,A,B,2\n")
+    text, said = convert(tmp_path / "links.csv", tmp_path / "demands.csv", "-", "--to", "net")
+    assert rows(text, "LINKS") == ["A-B_2 ( A B ) 1 0 0 0 ( )", "A-B ( A B ) 2 0 0 0 ( )"]
+    assert rows(text, "DEMANDS") == ["A-B_2 ( A B ) 1 1 UNLIMITED", "A-B ( A B ) 1 2 UNLIMITED"]
+    assert not any(line.startswith("renamed") for line in said)
+
+
+@pytest.mark.parametrize("mode", ["directed", "bidirected"])
+@pytest.mark.parametrize("kind", ["net", "list", "demands"])
+def test_merge_both_is_refused_where_directions_share_nothing(tmp_path: Path, mode: str, kind: str) -> None:
+    (tmp_path / "links.csv").write_text("source,target,capacity\nA,B,10\nB,A,4\n")
+    (tmp_path / "demands.csv").write_text("source,target,amount\nA,B,3\nB,A,2\n")
+    words = "--net", tmp_path / "links.csv", tmp_path / "demands.csv", "-", "--to", kind, "--merge-both"
+    assert refusal(*words, "--links", mode) == (
+        f"convert: --merge-both is for undirected links, and these are {mode}: a demand there is none back (--merge merges those of one direction)")
+    text, said = convert(*words)
+    assert "merged: demand B-A of 2, back, into A-B" in said and "5" in text
+    convert(*words[:-1], "--merge", "--links", mode)
+
+
 def test_demands_are_written_in_the_unit_of_the_links(tmp_path: Path):
     (tmp_path / "d.csv").write_text("from,to,traffic\nGdansk,Krakow,7\n")
     assert "d.csv does not say its unit: --from-unit" in refusal(EXAMPLES / "polska.net", tmp_path / "d.csv", "-", "--to", "net")
@@ -526,6 +567,9 @@ def test_gravity_makes_demands_up_where_there_are_none(tmp_path: Path):
     text, said = convert(tmp_path / "t.csv", "-", "--to", "net", "--gravity", "19")
     assert rows(text, "DEMANDS") == ["A-B ( A B ) 1 4 UNLIMITED", "A-C ( A C ) 1 3 UNLIMITED", "B-C ( B C ) 1 12 UNLIMITED"]
     assert said[-1] == "made up: 3 demands of 19 in all, by capacities at both ends"
+    for mode in ("directed", "bidirected"):
+        text, _ = convert(tmp_path / "t.csv", "-", "--to", "net", "--gravity", "19", "--links", mode)
+        assert rows(text, "DEMANDS")[:2] == ["A-B ( A B ) 1 2 UNLIMITED", "A-C ( A C ) 1 1.5 UNLIMITED"] and len(rows(text, "DEMANDS")) == 6
     assert "some file has" in refusal(EXAMPLES / "polska.net", "-", "--to", "net", "--gravity", "10")
     text, _ = convert("small.graph", "-", "--to", "net", "--gravity", "100")
     assert len(rows(text, "DEMANDS")) == 6

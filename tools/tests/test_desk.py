@@ -19,8 +19,10 @@ import pytest
 
 from desks import DESK, EXAMPLES, Running, alive, as_shown, descendants, desk, part, refused, shown, wait
 from mcf import Program, TextError
-from mcf.desk import serve
+from mcf.desk import opening, serve
 from mcf.desk.opening import Request, opened
+from mcf.network import read_network
+from mcf.scaled import scale
 
 NET, CERT = EXAMPLES / "triangle.net", EXAMPLES / "triangle.cert"
 AB, AC, BC = 0, 1, 2
@@ -403,6 +405,24 @@ def test_what_is_no_network_or_certificate_of_it_is_refused_at_the_start(program
     status, out, err = refused(program, *(EXAMPLES / word if "." in word and word[0] not in "-0" else word for word in words))
     assert (status, out, err.count("\n")) == (2, "", 1) and err.startswith("desk: ")
     assert line.rpartition("/")[2] in err.replace(f"{EXAMPLES}/", "") or words == ["polska.net", "triangle.cert"]
+
+
+WITHOUT_DEMANDS = "a.net: no demand is left, since each has amount 0 or ends in its own node, or there is none: a desk solves for demands, and "\
+    "changes capacities alone (tools/convert NET DEMANDS.csv NEW.net gives the network others)"
+
+
+@pytest.mark.parametrize("demands", ["", "  D ( A B ) 1 0 UNLIMITED\n", "  D ( A A ) 1 5 UNLIMITED\n"])
+def test_a_network_without_demands_is_told_apart(demands: str):
+    text = f"?SNDlib native format; type: network; version: 1.0\nNODES (\n  A\n  B\n)\nLINKS (\n  L ( A B ) 1 0 0 0 ( )\n)\nDEMANDS (\n{demands})\n"
+    with pytest.raises(TextError) as why:
+        opening._require_demands("a.net", scale(read_network(text)))
+    assert str(why.value) == WITHOUT_DEMANDS
+    opening._require_demands("a.net", scale(read_network(text.replace("DEMANDS (\n", "DEMANDS (\n  E ( A B ) 1 1 UNLIMITED\n"))))
+
+
+def test_a_network_without_demands_is_refused_before_a_port_is_opened(program: Program, tmp_path: Path):
+    (tmp_path / "a.net").write_text(re.sub(r"DEMANDS \([^$]*", "DEMANDS (\n)\n", NET.read_text()))
+    assert refused(program, tmp_path / "a.net", "--port", "1") == (2, "", f"desk: {tmp_path}/{WITHOUT_DEMANDS}\n")
 
 
 @pytest.fixture(scope="module")

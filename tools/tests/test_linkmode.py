@@ -9,7 +9,7 @@ import pytest
 
 from desks import desk
 from mcf import Program
-from mcf.linkmode import LinkMode, link_mode
+from mcf.linkmode import LinkMode, link_mode, otherwise, otherwise_of_files, saying
 
 HEAD = "?SNDlib native format; type: network; version: 1.0\n"
 BOTH_WAYS = (
@@ -35,11 +35,84 @@ def meta(word: str) -> str:
     (f"{HEAD}# directed\n{BOTH_WAYS.replace('LINKS', 'META ( links = bidirected ) LINKS')}", "bidirected",
      "links are read as bidirected, as a.net says"),
     (HEAD + BOTH_WAYS.replace("  A\n", "  A#directed\n"), "undirected", None),
+    (f"{HEAD}# links = directed\n{BOTH_WAYS}", "directed", "links are read as directed, as a.net says"),
+    (f"{HEAD}#links=bidirected \r\n{BOTH_WAYS}", "bidirected", "links are read as bidirected, as a.net says"),
+    (f"{HEAD}# links = undirected\n# directed\n{BOTH_WAYS}", "undirected", None),
+    (f"{HEAD}# links = directed\nMETA ( links = bidirected )\n{BOTH_WAYS}", "directed", "links are read as directed, as a.net says"),
+    (f"{HEAD}# so:\n# links = directed\n{BOTH_WAYS}", "undirected",
+     "links are read as undirected; a comment in line 3 of a.net says directed: --links directed reads them so"),
+    (f"{HEAD}# links = directed, some\n{BOTH_WAYS}", "undirected",
+     "links are read as undirected; a comment in line 2 of a.net says directed: --links directed reads them so"),
     ("no network", "undirected", None),
     (HEAD + "META ( links", "undirected", None),
 ])
 def test_what_a_file_says(text: str, mode: str, said: str | None) -> None:
     assert link_mode("a.net", text.encode("ascii")) == LinkMode(mode, said)
+
+
+@pytest.mark.parametrize("text", [HEAD + BOTH_WAYS, meta("bidirected"), meta("directed"), f"{HEAD}# links = directed\n{BOTH_WAYS}"])
+@pytest.mark.parametrize("mode", ["undirected", "directed", "bidirected"])
+def test_a_text_is_made_to_say_how_links_are_read(text: str, mode: str) -> None:
+    """By a comment alone, and only where it does not say it."""
+    data = text.encode("ascii")
+    made = saying(data, mode)
+    assert (link_mode("a.net", made).mode, saying(made, mode)) == (mode, made)
+    assert (made == data) == (link_mode("a.net", data).mode == mode)
+    assert [line for line in made.splitlines() if not line.startswith(b"#")] == [line for line in data.splitlines() if not line.startswith(b"#")]
+    other = "directed" if mode == "undirected" else "undirected"
+    if made != data:
+        assert otherwise("a.net", made, other, "a.cert") == f"links are read as {other}, as a.cert says, and not as {mode}, as a.net says"
+
+
+def test_the_comment_changes_nothing_of_what_is_counted(root: Path, tmp_path: Path) -> None:
+    """A certificate that was made before stays valid, which it would not with a section META."""
+    data = (root / "examples/triangle.net").read_bytes()
+    ends = []
+    for text in (data, saying(data, "directed"), data.replace(b"NODES", b"META ( links = directed )\nNODES", 1)):
+        (tmp_path / "a.net").write_bytes(text)
+        words = [root / "tools/check_twice", tmp_path / "a.net", root / "examples/triangle.cert"]
+        ends.append(subprocess.run(words, capture_output=True, text=True, check=False).stdout)
+    assert ends[0] == ends[1] and ends[0].startswith("valid closed undirected ") and ends[2].startswith("refused")
+
+
+def test_convert_reads_the_comment_too(root: Path, tmp_path: Path) -> None:
+    (tmp_path / "a.net").write_text(f"{HEAD}# links = directed\n{BOTH_WAYS}", "ascii")
+    done = subprocess.run([root / "tools/convert", "a.net", "b.net"], cwd=tmp_path, capture_output=True, text=True, check=True)
+    assert done.stderr.splitlines()[0] == "links: directed, as a.net says"
+    assert link_mode("b.net", (tmp_path / "b.net").read_bytes()) == LinkMode("directed", "links are read as directed, as b.net says")
+    done = subprocess.run([root / "tools/convert", "a.net", "b.csv"], cwd=tmp_path, capture_output=True, text=True, check=True)
+    assert "that links are directed, which a table does not say: --links directed says it again" in done.stderr
+    done = subprocess.run([root / "tools/convert", "--links", "undirected", "a.net", "b.net"], cwd=tmp_path, capture_output=True, text=True, check=False)
+    assert (done.returncode, done.stderr) == (2, "convert: a.net says that its links are directed, and --links says undirected\n")
+
+
+def test_what_convert_writes_says_what_it_has_read(root: Path, tmp_path: Path) -> None:
+    for comment, word in (("undirected", "directed"), ("directed", "undirected"), ("bidirected", "directed")):
+        (tmp_path / "a.net").write_text(meta(word).replace("META", f"# links = {comment}\nMETA"), "ascii")
+        subprocess.run([root / "tools/convert", "a.net", "b.net"], cwd=tmp_path, capture_output=True, check=True)
+        assert [link_mode(name, (tmp_path / name).read_bytes()).mode for name in ("a.net", "b.net")] == [comment, comment]
+
+
+def test_files_whose_links_differ_are_told_apart(tmp_path: Path) -> None:
+    net, cert = str(tmp_path / "a.net"), str(tmp_path / "a.cert")
+    Path(net).write_text(meta("directed"), "ascii")
+    Path(cert).write_text("mcf-routing 2\nlinks undirected\n", "ascii")
+    said = "links are read as undirected, as a.cert says, and not as directed, as a.net says"
+    assert otherwise_of_files("a.net", net, "a.cert", cert) == said
+    Path(cert).write_text("mcf-certificate 2\nverdict closed\nlinks directed\n", "ascii")
+    assert otherwise_of_files("a.net", net, "a.cert", cert) is None
+    assert otherwise_of_files("a.net", net, "a.cert", f"{cert}2") is None and otherwise_of_files("a.net", net, "a.cert", net) is None
+
+
+def test_a_certificate_that_is_begun_from_may_read_links_otherwise(program: Program, root: Path, tmp_path: Path) -> None:
+    net, cert = tmp_path / "a.net", tmp_path / "a.cert"
+    net.write_text(meta("bidirected"), "ascii")
+    for mode, count in (("undirected", 1), ("bidirected", 0)):
+        cert.write_text(program.solve(net, "--links", mode), "ascii")
+        done = subprocess.run([root / "tools/certify", net, "--from", cert, "--mcf", program.path, "--output", tmp_path / "out"], capture_output=True,
+                              text=True, check=False)
+        said = f"certify: links are read as undirected, as {cert} says, and not as bidirected, as {net} says\n"
+        assert done.returncode == 0 and done.stderr.startswith(said * count) and done.stderr.count("links are read") == count
 
 
 @pytest.mark.parametrize("words", [("route", "--by", "hops", "--no-best"), ("certify",), ("study", "--store", "STORE")])

@@ -251,6 +251,14 @@ print(parser.parse_intermixed_args(WORDS))
 return 0"""
 
 
+@pytest.mark.parametrize(("words", "files"), [
+    (["a", "--unit", "b", "c"], "['a', 'c']"), (["--", "--unit", "-c"], "['--unit', '-c']"), (["a", "--unit", "b", "--", "--", "-c"], "['a', '--', '-c']"),
+])
+def test_behind_two_dashes_there_are_no_options(words: list[str], files: str) -> None:
+    done = tool(ARGUMENTS.replace("WORDS", repr(words)))
+    assert done.returncode == 0 and f"files={files}" in done.stdout.decode(), done.stderr
+
+
 @pytest.mark.parametrize(
     ("words", "line"),
     [

@@ -229,3 +229,19 @@ def test_release_of_the_program_works_where_it_is_unpacked(program: Program, roo
     said = subprocess.run(words, env=env, cwd=tmp_path, capture_output=True, text=True)
     assert (said.returncode, said.stdout) == (1, "invalid C3\n")
     assert "the greatest scale that fits is 10 15" in said.stderr
+
+
+@pytest.mark.parametrize(("place", "why"), [("file", "Not a directory"), ("file/dist", "Not a directory"), ("lost", "No such file or directory"),
+                                            ("/proc/dist", None)])
+def test_a_folder_that_cannot_be_written_is_told_before_the_work(root: Path, tmp_path: Path, place: str, why: str | None) -> None:
+    (tmp_path / "file").touch()
+    (tmp_path / "lost").symlink_to("nowhere")
+    # (a program that is none would be told otherwise)
+    done = subprocess.run([root / "tools/release", "--to", tmp_path / place, "--mcf", "/no/where"], capture_output=True, text=True, check=False)
+    assert (done.returncode, done.stdout) == (2, "") and done.stderr.startswith(f"tools/release: {tmp_path / place}: {why or ''}"), done.stderr
+    assert sorted(file.name for file in tmp_path.iterdir()) == ["file", "lost"]
+
+
+def test_a_folder_that_is_not_there_yet_is_no_trouble(root: Path, tmp_path: Path) -> None:
+    done = subprocess.run([root / "tools/release", "--to", tmp_path / "a/b", "--mcf", "/no/where"], capture_output=True, text=True, check=False)
+    assert done.stderr == "tools/release: /no/where is no program for Linux on x86-64\n" and not [*tmp_path.iterdir()]

@@ -31,6 +31,7 @@ from mcf.ranges import Range  # noqa: E402
 from mcf.report import drawing, layout, page, sentences, shown, tables  # noqa: E402
 from mcf.report.figures import Figures  # noqa: E402
 from mcf.report.summary import Summary, batch_sentence  # noqa: E402
+from mcf.report.work import other_modes  # noqa: E402
 
 ROOT = Path(__file__).resolve().parents[2]
 REPORT, EXAMPLES = ROOT / "tools/report", ROOT / "examples"
@@ -59,6 +60,18 @@ def routing(weights: str) -> Figures:
 
 BEFORE = routing("path AC 4 =AB =BC\npath BD 3 =AB =DA\n")
 AFTER = routing("path AC 2 =AB =BC\npath AC 2 =DA =CD\npath BD 1 =AB =DA\npath BD 2 =BC =CD\n")
+
+
+def test_answers_that_are_read_in_other_ways_are_told_apart() -> None:
+    """Modules alone are no difference where no link has any."""
+    text = "mcf-routing 2\nlinks directed\nmodules none\nphases 1\nscale 1 9\npath AC 4 +AB +BC\npath BD 3 +BC +CD\nend\n"
+    directed, none = figures(SQUARE, text), figures(SQUARE, text.replace("links directed", "links undirected").replace("+", "="))
+    assert other_modes([BEFORE]) is other_modes([BEFORE, AFTER]) is other_modes([BEFORE, none]) is None
+    assert other_modes([BEFORE, directed]) == "before is with links undirected, and after with links directed, so what differs may be that alone"
+    net = SQUARE.replace("2 0 0 0 ( )", "2 0 0 0 ( 1 1 )")
+    one, other = (figures(net, text.replace("none", modules)) for modules in ("sum", "none"))
+    assert other_modes([one, other]) == \
+        "before is with links directed and modules sum, and after with links directed and modules none, so what differs may be that alone"
 
 
 # -- maps

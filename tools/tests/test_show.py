@@ -17,7 +17,10 @@ from jsoned import require_valid
 from mcf import Program, load_text
 from mcf.errors import TextError
 from mcf.show.lines import cases_of, kind_of_text
-from mcf.show.text import lines_of
+from mcf.network import read_network
+from mcf.report.work import Source
+from mcf.show.text import lines_of, sentences
+from mcf.show.work import Found
 
 pytest.importorskip("jsonschema", reason="python3-jsonschema is missing: tools/setup --tests")
 
@@ -185,3 +188,12 @@ def test_kinds_of_texts() -> None:
     assert [case.name for case in cases_of("sweep a\x0bb lower 0/1 0.0 upper 1/1 1.0\n", "sweep")] == ["a\x0bb"]
     with pytest.raises(TextError, match="line 1: no line of mcf sweep"):
         cases_of("sweep a lower 0/0 0.0 upper 1/1 1.0\n", "sweep")
+
+
+@pytest.mark.parametrize(("front", "said"), [("", ""), ("# links = directed\n", "; links are directed, as it says"), ("# directed\n", ""),
+                                             ("META ( links = bidirected )\n", "; links are bidirected, as it says")])
+def test_a_network_alone_is_shown_with_how_its_links_are_read(root: Path, front: str, said: str) -> None:
+    text = (root / "examples/triangle.net").read_text("ascii")
+    text = re.sub(r"^(#.*)?\n", "", text, flags=re.MULTILINE)
+    found = Found("network", Source("a.net", text.replace("NODES", f"{front}NODES", 1)), read_network(text))
+    assert sentences(found) == [f"a.net: 3 nodes, 3 links, 2 demands, 12 in all{said}"]

@@ -4,14 +4,18 @@ from __future__ import annotations
 
 import gzip
 import io
+import os
 import random
 import shutil
 import signal
 import sqlite3
 import subprocess
 import tarfile
+import tempfile
 import time
 import zlib
+from collections.abc import Iterator
+from contextlib import closing
 from dataclasses import replace
 from fractions import Fraction
 from pathlib import Path
@@ -20,6 +24,7 @@ import pytest
 
 import mcf
 from mcf import Program, TextError, read_network, write_network
+from mcf.linkmode import link_mode
 from mcf.network import Demand, Network
 from mcf.ranges import Answer, Range
 from mcf.report.shown import percent_down
@@ -27,8 +32,9 @@ from mcf.studies import answers, run, work
 from mcf.studies.bands import band
 from mcf.studies.changes import Fibres, all_changes, failures, read_changes, read_groups
 from mcf.studies.engine import Pace
-from mcf.studies.matrices import How, Told, _stamp, in_numbers, read_matrices
+from mcf.studies.matrices import How, Told, _stamp, in_numbers, own, read_matrices
 from mcf.studies.scenarios import INTACT, Asked, Change, Ground, Matrix, Plan, changed, demand_rows, demands_of, digest_of
+from mcf.studies.show import Shown
 from mcf.studies.store import Store, Wanted
 from mcf.studies.work import Found, Row
 from mcf.convert.numbers import Unit
@@ -567,6 +573,72 @@ def test_a_store_without_notes_is_gone_on_with(tmp_path: Path) -> None:
     store.add([(one, Row(one.key, Found("feasible", "line", "1/3", "", CERT, "rounded"), None, (), (), 0.1, "", ""), False)], "net", Asked())
     assert [case.note for case in answers.cases(plan, store)] == [None, "rounded", answers.NOT_KEPT]
     store.close()
+
+
+def only_read(room: Path, *words: str | Path) -> tuple[int, str, str]:
+    """The end of `study show` of a user who may write neither the files of a room nor the room."""
+    for file in room.iterdir():
+        file.chmod(0o444)
+    room.chmod(0o555)
+    try:
+        done = subprocess.run([STUDY, "show", *words], cwd="/", capture_output=True, text=True, check=False,
+                              **({"user": "nobody", "group": "nogroup", "extra_groups": []} if os.geteuid() == 0 else {}))
+    finally:
+        room.chmod(0o755)
+    return done.returncode, done.stdout, done.stderr
+
+
+@pytest.fixture
+def open_room() -> Iterator[Path]:
+    """A folder that everybody may read."""
+    with tempfile.TemporaryDirectory() as room:
+        Path(room).chmod(0o755)
+        yield Path(room)
+
+
+@pytest.mark.parametrize("what", ["done", "at work", "empty log", "form 1"])
+def test_a_store_that_may_only_be_read_is_shown(root: Path, open_room: Path, what: str) -> None:
+    text, path = (root / "examples/triangle.cert").read_text("ascii"), open_room / "s.db"
+    net = read_network(TRIANGLE)
+    matrix, rows_of_it = own(net)
+    plan = Plan(Ground.of(net), [matrix], [INTACT], ("best",), Asked())
+    one = next(iter(plan))
+    if what == "form 1":
+        of_form_1(path, plan)
+        with closing(sqlite3.connect(path)) as base:
+            base.execute("UPDATE rows SET certificate = ?, network = ?, matrix = ?", (zlib.compress(text.encode()), plan.ground.digest, matrix.digest))
+            for digest, kept in ((plan.ground.digest, plan.ground.text), (matrix.digest, rows_of_it)):
+                base.execute("INSERT INTO texts VALUES (?, ?)", (digest, zlib.compress(kept.encode())))
+            base.commit()
+    else:
+        store = Store(str(path))
+        store.keep_texts([(plan.ground.digest, plan.ground.text), (matrix.digest, rows_of_it)])
+        found = Found("closed", "line", "1/2", "2/3", zlib.compress(text.encode()))
+        store.add([(one, Row(one.key, found, None, (), (), 0.1, "here", "1"), False)], plan.ground.digest, plan.asked)
+    if what in ("done", "empty log"):
+        store.close()
+    if what == "empty log":
+        (open_room / "s.db-wal").touch()
+    before = {file.name: file.read_bytes() for file in open_room.iterdir()}
+    assert only_read(open_room, one.key[:9], "--store", path) == (0, text, "")
+    assert {file.name: file.read_bytes() for file in open_room.iterdir()} == before or what == "at work"
+    assert only_read(open_room, "none", "--store", path) == (2, "", f"study: {path}: no key begins with 'none'\n")
+    if what == "at work":
+        store.close()
+
+
+@pytest.mark.parametrize("mode", ["undirected", "directed"])
+def test_the_network_of_a_certificate_says_how_its_links_are_read(root: Path, mode: str) -> None:
+    text = (root / "examples/triangle.cert").read_bytes().replace(b"links undirected", b"links " + mode.encode())
+    made = Shown("key", "line", text, read_network(TRIANGLE)).network
+    assert link_mode("a.net", made).mode == mode and (b"# links = directed\n" in made) == (mode == "directed")
+
+
+def test_a_log_that_cannot_be_read_is_one_line(open_room: Path) -> None:
+    Store(str(open_room / "s.db")).close()
+    (open_room / "s.db-wal").write_bytes(b"x" * 40)
+    status, out, said = only_read(open_room, "none", "--store", open_room / "s.db")
+    assert (status, out) == (2, "") and said.startswith(f"study: {open_room}/s.db: cannot be opened: its folder ") and said.count("\n") == 1
 
 
 def test_a_store_is_never_between_two_forms(tmp_path: Path) -> None:

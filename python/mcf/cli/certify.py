@@ -39,7 +39,7 @@ from mcf import LINK_MODES, MODULES, Program, TextError, find_program, jsons, tr
 from mcf.arguments import Arguments
 from mcf.asked import millionths, seconds
 from mcf.inputs import STANDARD_INPUT, as_files
-from mcf.linkmode import link_mode_of_file
+from mcf.linkmode import link_mode_of_file, otherwise_of_files
 from mcf.needs import needed
 from mcf.output import main_of, require_output, write, writing
 
@@ -79,10 +79,12 @@ def certified() -> int:
     if given.form == "trees" and (given.start or given.kind != "solve"):
         raise TextError("--form trees is for --kind solve alone, and begins from no paths")
     program = find_program(given.mcf)
-    name = STANDARD_INPUT if given.net == "-" else given.net
+    name, begun = (STANDARD_INPUT if path == "-" else path for path in (given.net, given.start))
     with as_files(given.net, *filter(None, [given.start])) as files:
         given.net, given.start = files[0], files[1] if given.start else None
-        if not given.links and not given.start:
+        if given.start:
+            _tell_otherwise(name, given.net, begun, given.start)
+        elif not given.links:
             given.links = _links(name, given.net)
         result = _result(program, given, output)
     jsons.put(kind=given.kind, output=output, judged=result.line, closed=result.closed, bounds=result.judged.range,
@@ -97,6 +99,13 @@ def _links(name: str, net: str) -> str:
     if read.said:
         jsons.note(read.said, "certify")
     return read.mode
+
+
+def _tell_otherwise(name: str, net: str, begun: str, start: str) -> None:
+    """Says that what is begun from reads links otherwise than the file says, since the new certificate reads them so too."""
+    said = otherwise_of_files(name, net, begun, start)
+    if said:
+        jsons.note(said, "certify")
 
 
 def _result(program: Program, given: argparse.Namespace, output: str) -> Result:

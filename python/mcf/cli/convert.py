@@ -103,7 +103,7 @@ def _add_changes(parser: Arguments) -> None:
                         help="what changes a directed link changes its one arc back too")  # fmt: skip
     parser.add_argument("--merge", action="store_true", help="demands from the same source to the same target become one")
     parser.add_argument("--merge-both", action="store_true",
-                        help="and so do those of both directions (the same for undirected links)")  # fmt: skip
+                        help="and so do those of both directions (the same for undirected links; refused for others)")  # fmt: skip
 
 
 def run() -> int:

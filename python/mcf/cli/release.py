@@ -8,6 +8,8 @@
 from __future__ import annotations
 
 import hashlib
+import os
+import tempfile
 from pathlib import Path
 from typing import NoReturn
 
@@ -68,6 +70,16 @@ def release_of(program: Path | None, wide: Path | None) -> Release:
     return release
 
 
+def require_folder(folder: Path) -> None:
+    """Refuses, before any work, a folder in which no file can be made, or that cannot be made itself."""
+    there = next(place for place in (folder.absolute(), *folder.absolute().parents) if os.path.lexists(place))
+    try:
+        with tempfile.TemporaryFile(dir=there):
+            pass
+    except OSError as why:
+        raise TextError(f"{folder}: {why.strerror}").at(str(folder), kind="file") from None
+
+
 def keep(folder: Path, name: str, data: bytes) -> Path:
     """Writes a file and its checksum."""
     folder.mkdir(parents=True, exist_ok=True)
@@ -83,6 +95,7 @@ def released() -> int:
     others = [kind for kind in words.kinds if kind not in KINDS]
     if others:
         parser.error(f"{others[0]} is not made: the kinds are {', '.join(KINDS)}")
+    require_folder(words.to)
     release = release_of(words.mcf, words.wide)
     makers = {"archive": archive, "wheel": wheel, "deb": deb}
     made: list[dict[str, object]] = []

@@ -185,7 +185,7 @@ def shown() -> int:
     from mcf.studies.show import certificate_of
     found = certificate_of(words.store, words.key, words.rest)
     if words.network:
-        write(words.network, found.network.encode("latin-1"))
+        write(words.network, found.network)
     write(words.output, found.certificate)
     jsons.put(key=found.key, judged=found.judged, outputs=[*filter(None, outputs)])
     return 0

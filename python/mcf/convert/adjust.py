@@ -70,7 +70,8 @@ def merged(demands: list[Demand], both: bool, notes: Notes) -> list[Demand]:
         groups.setdefault((ends[0], ends[1], demand.longest), []).append(demand)
     for first, *others in groups.values():
         for other in others:
-            notes.say("merged", f"demand {other.name} of {brief(other.amount)} into {first.name}")
+            back = ", back," if other.source != first.source else ""
+            notes.say("merged", f"demand {other.name} of {brief(other.amount)}{back} into {first.name}")
     return [_demand_of(g[0], sum((d.amount for d in g), Fraction(0))) if len(g) > 1 else g[0] for g in groups.values()]
 
 

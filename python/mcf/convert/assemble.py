@@ -3,7 +3,7 @@
 from __future__ import annotations
 
 from collections import Counter
-from collections.abc import Iterable
+from collections.abc import Iterable, Sequence
 from dataclasses import dataclass, field, replace
 
 from .files import stem
@@ -103,11 +103,17 @@ def _named(source: Source, notes: Notes) -> tuple[list[Node], list[Link], dict[s
     double, times = Counter(node.key for node in source.nodes).most_common(1)[0] if source.nodes else ("", 0)
     if times > 1:
         raise Refused(f"{source.path}: node {told(double)} stands twice").at(source.path)
-    node_words, link_words = Words("node", notes, source.native), Words("link", notes, source.native)
+    node_words, link_words = Words("node", notes, source.native), Words("link", notes, source.native, _given(source.links))
     words = {node.key: node_words.word(node.name, node.key) for node in source.nodes}
     nodes = [replace(n, name=words[n.key], key=words[n.key], place=_place(n, notes)) for n in source.nodes]
     links = [_link(source, link, words, link_words) for link in source.links]
     return nodes, links, words
+
+
+def _given(rows: Sequence[Link] | Sequence[Demand]) -> set[str]:
+    """The words of the names that rows have, which are not made for others; nothing where all have names."""
+    named = [row.name for row in rows if row.name]
+    return {word_of(name) for name in named} if len(named) < len(rows) else set()
 
 
 def _place(node: Node, notes: Notes) -> tuple[str, ...] | None:
@@ -153,7 +159,7 @@ def _one(matrices: list[tuple[Source, Matrix]], notes: Notes) -> list[tuple[Sour
 
 def _demands(source: Source, matrix: Matrix, ends: Ends | dict[str, str], notes: Notes) -> list[Demand]:
     """The demands of a matrix under their words; where no file has nodes, these have words by what demands name."""
-    words = Words("demand", notes, source.native)
+    words = Words("demand", notes, source.native, _given(matrix.demands))
     done = []
     for demand in matrix.demands:
         what = f"demand {told(demand.name)}" if demand.name else "a demand"

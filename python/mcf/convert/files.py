@@ -56,6 +56,10 @@ def without_mark(path: str, data: bytes, notes: Notes) -> bytes:
     return data
 
 
+# a group of words alone in the first line, as in the head `capacity (Gbit/s),source,target`; those of lists have groups, or nothing
+_FLAT = re.compile(rb"[^()#]*\(\s*[^()#\s][^()#]*\)")
+
+
 def text_of(path: str, data: bytes, notes: Notes) -> str:
     """The text of bytes in UTF-8, or else in Windows-1252, which is said."""
     try:
@@ -83,8 +87,10 @@ def kind_of(path: str, data: bytes) -> str:
     names = Path(path.removesuffix(".gz")).suffix.lower()
     if names in (".csv", ".tsv", ".tab"):
         return "csv"
-    first = front.split(b"\n", 1)[0]
-    if names == ".list" or re.match(rb"(#|[^\s()#,;]+\s*\()", front):
+    # (what follows comments tells a list, whose groups have groups or nothing, from a table, whose first row is refused where it is one)
+    body = re.sub(rb"\A(#[^\n]*(\n\s*|\Z))*", b"", front) if front.startswith(b"#") else front
+    first = body.split(b"\n", 1)[0]
+    if names == ".list" or (front and not body) or (re.match(rb"[^\s()#,;]+\s*\(", body) and not _FLAT.match(first)):
         return "list"
     if any(mark in first for mark in (b",", b";", b"\t")):
         return "csv"

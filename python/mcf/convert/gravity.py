@@ -15,7 +15,7 @@ from .words import Words
 def with_gravity(network: Network, total: Fraction, notes: Notes) -> Network:
     """The network with demands between all nodes, in proportion to the capacities at both ends, and of that total.
 
-    Where links are one way each two nodes have a demand in each way, else one for both. Amounts are rounded to millionths.
+    Where both ways between two nodes share a capacity there is one demand for both, else one in each way. Amounts are rounded to millionths.
     """
     if any(matrix.demands for matrix in network.matrices):
         raise Refused("--gravity makes demands up where no file has any, and some file has")
@@ -25,7 +25,8 @@ def with_gravity(network: Network, total: Fraction, notes: Notes) -> Network:
         for end in {link.source, link.target}:
             weights[end] += size
     ends = [name for name, weight in weights.items() if weight]
-    pairs = list(permutations(ends, 2) if network.one_way else combinations(ends, 2))
+    shared = network.links_mode in (None, "undirected")
+    pairs = list(combinations(ends, 2) if shared else permutations(ends, 2))
     if len(pairs) > WIDE.demands:
         raise Refused(f"--gravity makes {len(pairs):,} demands between {len(ends):,} nodes: at most {WIDE.demands:,} are taken")
     if not pairs:

@@ -20,6 +20,8 @@ from .numbers import plain
 from .words import told, word_of
 
 MODE = re.compile(rb"\b(?:un|bi)?directed\b", re.IGNORECASE)
+# the comment behind the head that says how links are meant: unlike META it changes nothing of what the program counts
+SAID = re.compile(rb"(?<=\n)#[ \t]*links[ \t]*=[ \t]*(undirected|directed|bidirected)[ \t\r]*(?:\n|\Z)")
 HEADER = "?SNDlib native format; type: network; version: 1.0"
 SECTIONS = ("NODES", "LINKS", "DEMANDS")
 
@@ -103,14 +105,15 @@ def read_network(path: str, data: bytes, notes: Notes) -> Source:
     next(rows, None)
     unit = unit_of(source.meta.get("unit", ""))
     source.bits = Fraction(unit.bits) if unit and not unit.is_of_bytes else None
-    source.links_mode = _links_said(source)
+    source.links_mode = _links_said(source, data)
     source.mentioned = text.comments[0] if text.comments else None
     source.matrices = [Matrix("", demands)] if demands else []
     return source
 
 
 def links_of(path: str, data: bytes) -> str | None:
-    """How links are meant, as the section META says; what stands behind the first section of rows is read only where META may stand there."""
+    """How links are meant, as the comment behind the head says, or else the section META; what stands behind the first section of rows is
+    read only where META may stand there."""
     if not data.startswith(NATIVE):
         raise refused(Spot(path, 1), f"{NATIVE.decode()} is due")
     source = Source(path, "native", native=True)
@@ -120,13 +123,21 @@ def links_of(path: str, data: bytes) -> str | None:
         if not behind:
             break
         _skipped(text)
-    return _links_said(source)
+    return _links_said(source, data)
 
 
-def _links_said(source: Source) -> str | None:
-    """How links are meant, where META has a word for it that is known."""
-    said = source.meta.get("links")
+def _links_said(source: Source, data: bytes) -> str | None:
+    """How links are meant, where the comment behind the head says it, or META has a word for it that is known."""
+    comment = SAID.match(data, data.find(b"\n") + 1)
+    said = comment[1].decode() if comment else source.meta.get("links")
     return said if said in LINK_MODES else None
+
+
+def saying(data: bytes, mode: str) -> bytes:
+    """The text of a network with the comment behind its head that says how links are meant, in place of one that is there."""
+    head, _, rest = data.partition(b"\n")
+    comment = SAID.match(data, len(head) + 1)
+    return b"%s\n# links = %s\n%s" % (head, mode.encode(), data[comment.end() :] if comment else rest)
 
 
 def _sections(text: Tokens, source: Source, notes: Notes) -> Iterator[str]:

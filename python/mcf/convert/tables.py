@@ -116,6 +116,8 @@ def _counted(words: list[str]) -> str:
 
 def _why(rows: list[tuple[int, list[str]]], row: list[str]) -> str:
     """What mostly makes a row of another length."""
+    if rows[0][1][0].startswith("#"):
+        return ", which begins with # and is a row too: take comments out"
     if row[0].startswith("#"):
         return " (a line that begins with # is a row too: take comments out)"
     if len(row) == 1 + len(rows[0][1]) and re.fullmatch("[0-9]{3}", row[-1]):

@@ -37,27 +37,28 @@ def told(name: str) -> str:
 
 @dataclass
 class Words:
-    """The words of one section: each of them once."""
+    """The words of one section: each of them once. Those that are made give way to those of the names that are given."""
 
     what: str
     notes: Notes
     keep: bool = False
+    given: set[str] = field(default_factory=set)
     taken: set[str] = field(default_factory=set)
     counts: dict[str, int] = field(default_factory=dict)
 
     def word(self, name: str, spare: str = "") -> str:
         """A word for a name, which nobody else of the section has; spare is for a name of nothing."""
-        first = name if self.keep else word_of(name) or word_of(spare) or self.what
-        word = first if self.keep else self._free(first)
+        own = name if self.keep else word_of(name)
+        word = own if self.keep else self._free(own or word_of(spare) or self.what, set() if own else self.given)
         self.taken.add(word)
         if word != name and name:
             self.notes.say("renamed", f"{self.what} {told(name)} is {word}")
         return word
 
-    def _free(self, first: str) -> str:
-        """The word, or the word with the least number behind it that is free."""
+    def _free(self, first: str, others: set[str]) -> str:
+        """The word, or the word with the least number behind it that is free, and none of the others."""
         word = first
-        while word in self.taken:
+        while word in self.taken or word in others:
             self.counts[first] = self.counts.get(first, 1) + 1
             word = f"{first}_{self.counts[first]}"
         return word

@@ -75,13 +75,14 @@ def convert(task: Task, notes: Notes) -> Network:
     base, sources = sources[: len(task.base)], sources[len(task.base) :]
     many = kind == "list" or (kind == "demands" and all(not s.links for s in sources))
     network = assemble.together(sources, base, notes, many)
+    _require_shared(task, network)
     if task.gravity:
         network = with_gravity(network, task.gravity, notes)
     network = edited(network, task.edits, task.fibres, notes)
     network = adjusted(network, Changes(task.scale, task.merge, task.merge_both, task.decimals), notes)
     if task.unit:
         network.meta["unit"] = META_UNITS[task.unit]
-    if network.links_mode and network.links_mode != "undirected":
+    if network.links_mode and (network.links_mode != "undirected" or "links" in network.meta):
         network.meta["links"] = network.links_mode
     require_fit(network, kind in ("net", "graphml", "links"), kind in ("net", "list"))
     text = _text(network, kind, notes)
@@ -133,6 +134,13 @@ def _require_use(task: Task, kind: str) -> None:
         raise Refused("--scale changes demands, and what is written has none")
     if task.fibres and not any(edit.option != TIMES_DEMAND for edit in task.edits):
         raise Refused("--fibres says how links change, and no change of a link is asked for")
+
+
+def _require_shared(task: Task, network: Network) -> None:
+    """Refuses to make one demand of those of both directions where these do not share the capacity of links."""
+    if task.merge_both and network.links_mode not in (None, "undirected"):
+        raise Refused(f"--merge-both is for undirected links, and these are {network.links_mode}: a demand there is none back (--merge merges "
+                      "those of one direction)")
 
 
 def _as_meant(source: Source, mode: str | None) -> Source:

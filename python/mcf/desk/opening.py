@@ -16,7 +16,7 @@ from ..linkmode import LinkMode, link_mode, otherwise
 from ..network import read_network
 from ..output import contents, require_output
 from ..report.shown import name
-from ..scaled import scale
+from ..scaled import ScaledNetwork, scale
 from .child import Held, Work
 from .edits import History, read_script
 from .ground import Ground
@@ -65,6 +65,8 @@ def opened(request: Request) -> tuple[Desk, Works]:
         scaled = scale(read_network(printed.decode("latin-1")), links, modules)
     except TextError as why:
         raise why.led(f"{request.net}: ") from None
+    if cert is None:
+        _require_demands(request.net, scaled)
     stem = request.title or name(Path(os.fsencode(request.net).decode("latin-1")).stem)
     ground = Ground(program, request.net if is_word(request.net) else None, stem, Held(net), Held(printed), scaled)
     desk = Desk(ground, _history(request, ground), request.save)
@@ -76,6 +78,13 @@ def opened(request: Request) -> tuple[Desk, Works]:
         if said := otherwise(request.net, net, links, made):
             jsons.note(said, "desk")
     return desk, works
+
+
+def _require_demands(net: str, scaled: ScaledNetwork) -> None:
+    """TextError where there is nothing to solve, since a desk changes capacities alone."""
+    if not scaled.commodities:
+        raise TextError(f"{net}: no demand is left, since each has amount 0 or ends in its own node, or there is none: a desk solves for "
+                        "demands, and changes capacities alone (tools/convert NET DEMANDS.csv NEW.net gives the network others)").at(net)
 
 
 def _shown(file: str) -> str:

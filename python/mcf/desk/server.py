@@ -11,6 +11,7 @@ from flask import Flask, Response, request
 from werkzeug.exceptions import HTTPException
 
 from ..errors import McfError, TextError
+from ..linkmode import saying
 from ..output import one_line
 from .pages import Page, Pages, number_of
 from .state import Certificate, Desk
@@ -165,7 +166,7 @@ class Server:
         """The edited network."""
         with self.desk.lock:
             network = self.works.edited(tuple(self.desk.history.done)).network
-        return _file(network.data)
+        return self._network(network.data)
 
     def certificate(self) -> Response:
         """The certificate that counts."""
@@ -173,7 +174,11 @@ class Server:
 
     def network(self) -> Response:
         """Its network."""
-        return _file(self._counting().network.data)
+        return self._network(self._counting().network.data)
+
+    def _network(self, data: bytes) -> Response:
+        """The file of a network, which says how links are read here."""
+        return _file(saying(data, self.desk.ground.scaled.links))
 
     def read(self) -> Response:
         """The network as it was read."""

@@ -128,6 +128,8 @@ def write_report(program: Program, words: argparse.Namespace, title: str, say: C
     both = [reader.shown(*answered(pair, listed, words.matrix)) for pair in pairs]
     for (one, answer), found in zip(pairs, both):
         tell_links(one, answer, found.figures, "report", words.quiet)
+    if said := None if words.quiet else other_modes([found.figures for found in both]):
+        jsons.note(said, "report")
     _write_sides(_beside(both), words, title, say)
 
 
@@ -136,6 +138,13 @@ def tell_links(net: Source, answer: Source, figures: Figures, tool: str, quiet: 
     said = otherwise(net.name, net.text.encode("latin-1"), figures.text.links, answer.name)
     if said and not quiet:
         jsons.note(said, tool)
+
+
+def other_modes(sides: list[Figures]) -> str | None:
+    """That two answers read links, or modules where there are any, in different ways; none where they do not."""
+    have = any(link.modules for side in sides for link in side.scaled.network.links)
+    modes = [f"links {side.text.links}{f' and modules {side.text.modules}' if have else ''}" for side in sides]
+    return f"before is with {modes[0]}, and after with {modes[1]}, so what differs may be that alone" if len(set(modes)) > 1 else None
 
 
 def require_batch(answer: Source, words: argparse.Namespace) -> None:

@@ -5,6 +5,7 @@ from __future__ import annotations
 from collections.abc import Iterator, Sequence
 from fractions import Fraction
 
+from ..linkmode import link_mode
 from ..network import Network
 from ..numbers import decimal_of, rounded_down, rounded_up
 from ..output import one_line
@@ -25,7 +26,8 @@ def sentences(found: Found) -> list[str]:
     """What the files are, a sentence each."""
     said = [_about(found)]
     if found.kind == "network" or found.file is None:
-        return said
+        mode = link_mode(found.net.name, found.net.text.encode("latin-1")).mode
+        return said if mode == "undirected" else [f"{said[0]}; links are {mode}, as it says"]
     front = found.file.name
     if found.condition is not None:
         return [*said, f"{front}: {KINDS[found.kind]}, and not valid: {(found.why or '').removeprefix(f'{front} on {found.net.name}: ')}"]

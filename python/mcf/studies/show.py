@@ -5,20 +5,27 @@ from __future__ import annotations
 import zlib
 from dataclasses import dataclass
 
+from ..certificate import read_any
 from ..errors import TextError
-from ..network import write_network
+from ..linkmode import saying
+from ..network import Network, write_network
 from .run import network_of
 from .store import Store
 
 
 @dataclass(frozen=True)
 class Shown:
-    """A certificate, or a routing, the line of its judge, and the text of its network."""
+    """A certificate, or a routing, the line of its judge, and the rows of its network."""
 
     key: str
     judged: str
     certificate: bytes
-    network: str
+    rows: Network
+
+    @property
+    def network(self) -> bytes:
+        """The text of the network, which says how its links are read."""
+        return saying(write_network(self.rows).encode("latin-1"), read_any(self.certificate.decode("latin-1")).links)
 
 
 def certificate_of(path: str, front: str, rest: bool) -> Shown:
@@ -36,6 +43,6 @@ def certificate_of(path: str, front: str, rest: bool) -> Shown:
             raise TextError(f"{path}: scenario {keys[0]}: {why}")
         changed = network_of(store, kept.network, kept.matrix, kept.change)
         network = changed.without(kept.row.cut) if rest else changed.network
-        return Shown(keys[0], found.line, zlib.decompress(found.certificate), write_network(network))
+        return Shown(keys[0], found.line, zlib.decompress(found.certificate), network)
     finally:
         store.close()

@@ -11,10 +11,11 @@ import os
 import sqlite3
 import zlib
 from collections.abc import Iterable, Iterator, Sequence
-from contextlib import contextmanager
+from contextlib import closing, contextmanager
 from dataclasses import dataclass, replace
 from fractions import Fraction
 from pathlib import Path
+from urllib.parse import quote
 
 from ..errors import TextError
 from ..ranges import Range
@@ -102,22 +103,37 @@ class Store:
             raise TextError(f"{path}: there is no such file")
         with self._told():
             _require_database(path)
-            # (a name as :memory: or file:x stands for something else where it is no whole path)
-            self._base = sqlite3.connect(os.path.abspath(path), timeout=_WAIT, isolation_level=None)
+            self._base = _changed(path) if create or _may_change(path) else _only_read(path)
             try:
-                self._require_own(create)
-                self._base.execute("PRAGMA journal_mode = WAL")
-                self._base.execute("PRAGMA synchronous = FULL")
+                self._begin(create)
             except BaseException:
                 self._base.close()
                 raise
 
-    def _require_own(self, create: bool) -> None:
+    def _begin(self, create: bool) -> None:
+        """Looks what is in the file, which is changed only where it may be; one of form 1 that may only be read is changed in a copy in memory."""
+        may = create or _may_change(self.path)
+        if not may and self._marks()[:2] == (APPLICATION, 1):
+            file, self._base = self._base, sqlite3.connect(":memory:", isolation_level=None)
+            with closing(file):
+                file.backup(self._base)
+            may = True
+        self._require_own(create, "BEGIN IMMEDIATE" if may else "BEGIN")
+        if may:
+            self._base.execute("PRAGMA journal_mode = WAL")
+            self._base.execute("PRAGMA synchronous = FULL")
+
+    def _marks(self) -> tuple[int, int, int]:
+        """What the file says it is: its application, its form, and how often its tables were changed."""
+        application, form, tables = (self._base.execute(f"PRAGMA {name}").fetchone()[0] for name in ("application_id", "user_version",
+                                                                                                   "schema_version"))
+        return application, form, tables
+
+    def _require_own(self, create: bool, begin: str) -> None:
         """Makes the tables in a file that has nothing, and columns of notes in one of form 1; TextError where it has something else."""
-        self._base.execute("BEGIN IMMEDIATE")
+        self._base.execute(begin)
         try:
-            application, form, tables = (self._base.execute(f"PRAGMA {name}").fetchone()[0] for name in ("application_id", "user_version",
-                                                                                                       "schema_version"))
+            application, form, tables = self._marks()
             if not tables and not application and create:
                 self._change(_TABLES, f"PRAGMA application_id = {APPLICATION}")
             elif (application, form) == (APPLICATION, 1):
@@ -142,7 +158,9 @@ class Store:
         try:
             yield
         except (sqlite3.Error, UnicodeError, OSError) as fault:
-            known = {"database or disk is full": "the disk is full", "file is not a database": "is no file of a study"}
+            known = {"database or disk is full": "the disk is full", "file is not a database": "is no file of a study",
+                     "attempt to write a readonly database": "may only be read",
+                     "unable to open database file": "cannot be opened: its folder is not there or may only be read, or a study is at work on it"}
             raise TextError(f"{self.path}: {known.get(str(fault), getattr(fault, 'strerror', None) or str(fault))}") from None
 
     @contextmanager
@@ -236,6 +254,27 @@ class Store:
             return []
         with self._told():
             return [key for key, in self._base.execute("SELECT key FROM rows WHERE substr(key, 1, ?) = ? LIMIT 2", (len(front), front))]
+
+
+def _may_change(path: str) -> bool:
+    """Whether a file and its folder, where the database keeps its log, may be written."""
+    place = os.path.realpath(path)
+    return os.access(place, os.W_OK) and os.access(os.path.dirname(place), os.W_OK)
+
+
+def _changed(path: str) -> sqlite3.Connection:
+    """The database of a file, for reading and writing."""
+    # (a name as :memory: or file:x stands for something else where it is no whole path)
+    return sqlite3.connect(os.path.abspath(path), timeout=_WAIT, isolation_level=None)
+
+
+def _only_read(path: str) -> sqlite3.Connection:
+    """The database of a file that may only be read, and in whose folder no log can be made; where there is one, it is read too."""
+    place = os.path.realpath(path)
+    log = f"{place}-wal"
+    has_log = os.path.exists(log) and (os.path.getsize(log) > 0 or os.path.exists(f"{place}-shm"))
+    mode = "mode=ro" if has_log else "mode=ro&immutable=1"
+    return sqlite3.connect(f"file:{quote(os.fsencode(place))}?{mode}", timeout=_WAIT, isolation_level=None, uri=True)
 
 
 def _require_database(path: str) -> None:
