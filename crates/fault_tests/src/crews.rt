@@ -207,6 +207,27 @@ fn lead_often<'a>(
     worked
 }
 
+// Whether a thread at this post and the caller's, which has no patience, have worked on three jobs a hundred times.
+fn work_often<'a, 'c, R: Threads + Sync>(
+    rt: &R,
+    alloc: Global,
+    post: &'c Post<Doubling<'a>>,
+    seats: Seats<Doubling<'a>>,
+    begun: &'a AtomicU64,
+    closed: &AtomicBool,
+) -> Result<bool, AllocError>
+    requires { AreAt post.now.table.shared.table_id seats.end.table_id seats.mate.table_id }
+{
+    let mut crew = Crew::new(alloc, 0);
+    let first = crew.take_on(post, seats)?;
+    let ((), worked) = thread::join(
+        rt,
+        || first.stay(closed),
+        || lead_often(alloc, &mut crew, begun, closed),
+    );
+    Ok(worked)
+}
+
 // With no patience each job that is under way when the caller's thread polls is late, so that the crew rests ever again.
 #[test]
 fn a_crew_that_rests_works_on_all_jobs(rt: HostRuntime) -> Result<(), Fail> {
@@ -214,13 +235,7 @@ fn a_crew_that_rests_works_on_all_jobs(rt: HostRuntime) -> Result<(), Fail> {
     let begun = AtomicU64::new(0);
     let closed = AtomicBool::new(false);
     let (one, at_one) = Post::new(alloc)?;
-    let mut crew = Crew::new(alloc, 0);
-    let first = crew.take_on(&one, at_one)?;
-    let ((), worked) = thread::join(
-        &rt,
-        || first.stay(&closed),
-        || lead_often(alloc, &mut crew, &begun, &closed),
-    );
+    let worked = work_often(&rt, alloc, &one, at_one, &begun, &closed)?;
     assert!(rt; worked);
     Ok(())
 }
