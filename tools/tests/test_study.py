@@ -484,10 +484,12 @@ def test_what_is_kept_is_judged_again_without_a_solve(tmp_path: Path, program: P
     rows(tmp_path, *words, "--recheck", program=counted.program)
     # (of one scenario the rest is judged too)
     assert (counted.runs("solve"), counted.runs("check")) == (solves, checks + 4)
+    # (whoever says in the file that it was judged, each run judges it)
     rows(tmp_path, *words, "--recheck", program=counted.program)
-    assert counted.runs("check") == checks + 4
+    assert (counted.runs("solve"), counted.runs("check")) == (solves, checks + 8)
     with sqlite3.connect(tmp_path / "study.db") as base:
-        base.execute("UPDATE rows SET rechecked = 0, lower = '1/1000' WHERE lower <> '0'")
+        assert base.execute("SELECT min(rechecked) FROM rows").fetchone() == (1,)
+        base.execute("UPDATE rows SET lower = '1/1000' WHERE lower <> '0'")
     _, why = ran(tmp_path, *words, "--recheck", program=program, status=2)
     assert ", bounds 1/1000 and " in why and ", and the check here 'valid closed undirected largest lower " in why
 

@@ -94,9 +94,10 @@ def run(plan: Plan, store: Store, wanted: Wanted, place: Place, say: Callable[[s
 
 
 def _judge_kept(plan: Plan, store: Store, wanted: Wanted, place: Place) -> None:
-    """Judges here what is kept and lacks nothing else, so that nothing of it is solved again."""
+    """Judges here what is kept and lacks nothing else, so that nothing of it is solved again; whatever the file says was judged before."""
     tasks = Left(plan, store, wanted, place.program)
     for part in parts(plan.once()):
+        store.forget_judged(part)
         for scenario in store.unchecked(part, wanted):
             tasks.sent[scenario.key] = scenario
             _take([store.rows([scenario.key], certificates=True)[scenario.key].row], tasks, place)

@@ -227,6 +227,12 @@ class Store:
         keep = wanted.keep or wanted.recheck
         return [Due(scenario, keep or has, wanted.without_cut or rest) for scenario, done, has, rest in found if not done]
 
+    def forget_judged(self, scenarios: Sequence[Scenario]) -> None:
+        """Takes from the rows of scenarios the marks that they were judged again, which anybody may have set: this run judges them anew."""
+        for part in _parts([scenario.key for scenario in scenarios]):
+            with self._transaction():
+                self._base.execute(f"UPDATE rows SET rechecked = 0 WHERE rechecked AND key IN ({', '.join('?' * len(part))})", part)
+
     def unchecked(self, scenarios: Sequence[Scenario], wanted: Wanted) -> list[Scenario]:
         """The scenarios that lack nothing but that their certificates, which are kept, be judged again."""
         due = f"{_is_done(replace(wanted, keep=True, recheck=False))} AND verdict <> '{REFUSED}' AND NOT rechecked"
