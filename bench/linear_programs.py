@@ -1,6 +1,6 @@
 #!/usr/bin/python3 -B
-"""The linear programs that are usually solved for large networks, each in a process of its own, which is ended once it has had so many
-seconds of a processor, so that a busy machine or a pause takes nothing from it.
+"""The linear programs that are usually solved for large networks, each in a process of its own, which is ended at a limit of seconds
+of a processor, so that a busy machine or a pause takes nothing from it.
 
 Two forms: a flow of each source on each arc; and a flow of each pair on each of four short paths. Two solvers: the interior point method
 of HiGHS, and CLP as it chooses itself.
@@ -168,7 +168,7 @@ def _solve(theirs: Connection, problem: Problem, form: str, solver: str) -> None
 
 
 def within(problem: Problem, form: str, solver: str, limit: float) -> Measured:
-    """What a program takes, in a process of its own that is ended after so many seconds of a processor; making the program is in them."""
+    """What a program takes, in a process of its own that is ended at a limit of seconds of a processor; making the program is in them."""
     ours, theirs = multiprocessing.Pipe(duplex=False)
     process = multiprocessing.Process(target=_solve, args=(theirs, problem, form, solver))
     begun = time.monotonic()
